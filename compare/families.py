@@ -24,7 +24,7 @@ def references(count):
 
 
 def any_of(count):
-    """Items that are told apart by ten branches of `anyOf`."""
+    """Items that are distinguished by ten branches of `anyOf`."""
     branches = [{"properties": {"kind": {"const": f"k{i}"}, "value": {"type": "integer"}}, "required": ["kind"]}
                 for i in range(10)]
     return {"items": {"anyOf": branches}}, [{"kind": f"k{i % 10}", "value": i} for i in range(count)]

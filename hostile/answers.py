@@ -97,8 +97,8 @@ def of_pointers():
     yield in_turn("pointer", "further", "/a~1b", "c d", answer="/a~1b/c d")
     yield in_turn("pointer", "push", "/a~1b/0/1/2", "c d",
                   answer="Ok(()) /a~1b/0/1/2/c d", refused="Err(Memory) /a~1b/0/1/2")
-    for token, *told in TOKENS:
-        for call, answer in zip(("push_token", "push_fragment_token", "push_string"), told):
+    for token, *texts in TOKENS:
+        for call, answer in zip(("push_token", "push_fragment_token", "push_string"), texts):
             yield in_turn("token", call, token, answer=answer)
 
 
@@ -170,7 +170,7 @@ def of_result(row):
 
 
 def of_tree(node, words):
-    """The calls on a tree and on its rows. The words tell how it is made."""
+    """The calls on a tree and on its rows. The words say how it is made."""
     whole = text(forms.tree(node))
     pruned, condensed = text(forms.tree(forms.pruned(node))), text(forms.tree(forms.condensed(node)))
     noted = lines(it.keyword for it in forms.units(node))
@@ -236,7 +236,7 @@ def run_table(what, documents, entry, given, answer, written):
     def asked(fails_read=0, how="", step=1, fails_write=0):
         return *words, str(fails_read), how, str(step), str(fails_write)
 
-    def told(made, calls, more, calls_then, failed, text):
+    def reported(made, calls, more, calls_then, failed, text):
         return f"{made}, {calls[0]}, {calls[1]}; {more}, {calls_then}, {failed}; {text}"
 
     done, end = (reads, writes), "Ok([])"
@@ -244,22 +244,22 @@ def run_table(what, documents, entry, given, answer, written):
     # (the end is read once more)
     then = reads + 1
     table = [
-        quiet(*asked(), answer=told(answer, done, f"{end}, Ok(())", (then, writes + 1), "(false, false)", written)),
+        quiet(*asked(), answer=reported(answer, done, f"{end}, Ok(())", (then, writes + 1), "(false, false)", written)),
         # the flush fails by itself
         Question(asked(fails_write=writes + 1),
-                 told(answer, done, f"{end}, {no_write}", (then, writes + 1), "(false, true)", written)),
+                 reported(answer, done, f"{end}, {no_write}", (then, writes + 1), "(false, true)", written)),
         # a writer that takes nothing is called once
         Question(asked(step=0),
-                 told("failed: Write", (reads, 1), f"{end}, {no_write}", (then, 1), "(false, true)", ""))]
+                 reported("failed: Write", (reads, 1), f"{end}, {no_write}", (then, 1), "(false, true)", ""))]
     for how in ("", "interrupted"):
         for k in range(1, reads + 1):
             table.append(Question(asked(k, how),
-                                  told("failed: Read", (k, 0), f"{no_read}, Ok(())", (k, 1), "(true, false)", "")))
+                                  reported("failed: Read", (k, 0), f"{no_read}, Ok(())", (k, 1), "(true, false)", "")))
     for k in range(1, writes + 1):
         begun = written.encode()[:k - 1].decode()
         table.append(Question(
             asked(fails_write=k),
-            told("failed: Write", (reads, k), f"{end}, {no_write}", (then, k), "(false, true)", begun)))
+            reported("failed: Write", (reads, k), f"{end}, {no_write}", (then, k), "(false, true)", begun)))
     return Table(f"a run of {what}: {reads} reads and {writes} writes, each failed in turn", table, documents)
 
 

@@ -3,7 +3,7 @@
 There are worked examples, and each place of a wide bundle and of a deep one, for which the reference answers.
 """
 import cases
-from assertions import FORMS, compiled, error
+from assertions import SHAPES, compiled, error
 from bundle import ALONE, LISTS, OBJECTS, TEXTS, Bundle
 from json_text import pointer_text, text
 from questions import Question, Table, in_turn, quiet
@@ -230,7 +230,7 @@ def word(keyword):
     if keyword in STANDARD:
         name = keyword.removeprefix("$")
         return name[0].upper() + name[1:]
-    return ("Assertion" if keyword in FORMS else "Other") + ("BehindIf" if keyword > "if" else "UpToIf")
+    return ("Assertion" if keyword in SHAPES else "Other") + ("BehindIf" if keyword > "if" else "UpToIf")
 
 
 def step_asked(keyword, step):
@@ -240,7 +240,7 @@ def step_asked(keyword, step):
 
 def said(keyword, schema, value):
     """What an assertion says of a value."""
-    if keyword not in schema or keyword not in FORMS:
+    if keyword not in schema or keyword not in SHAPES:
         return "no assertion"
     return error(keyword, schema[keyword], schema, value, 1) or "holds"
 

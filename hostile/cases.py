@@ -91,8 +91,8 @@ def nested(n, inmost=""):
 
 def head(absolute, keyword, instance="", annotation="", has_children=True):
     """A passing node's text, up to its children."""
-    told = f'"annotation":{annotation},' if annotation else ""
-    return f'{{"absoluteKeywordLocation":"{U}#{absolute}",{told}' + '"annotations":[' * has_children, \
+    note = f'"annotation":{annotation},' if annotation else ""
+    return f'{{"absoluteKeywordLocation":"{U}#{absolute}",{note}' + '"annotations":[' * has_children, \
         "]," * has_children + f'"instanceLocation":"{instance}","keywordLocation":"{keyword}","valid":true}}'
 
 
@@ -104,9 +104,9 @@ def pieces(node):
         if isinstance(it, str):
             yield it.encode()
             continue
-        *told, below = it
+        *arguments, below = it
         children = list(below())
-        begin, end = head(*told, has_children=bool(children))
+        begin, end = head(*arguments, has_children=bool(children))
         yield begin.encode()
         left.append(end)
         for i, child in reversed(list(enumerate(children))):
@@ -272,6 +272,9 @@ def large():
     yield check("a keyword of 1,000,000 bytes", compact({name: 1}), "0", "verbose", out=None)
     members = compact({f"m{i}": 0 for i in range(1_000_000)})
     yield valid("an object of 1,000,000 members", '{"type":"object","minProperties":1000000}', members)
+    descending = compact({f"m{i:03}": 0 for i in reversed(range(256))})
+    objects = "[" + ",".join([descending] * 6_000) + "]"
+    yield valid("6,000 objects of 256 members, in descending order", '{"minItems":6000}', objects, most_seconds=4)
     keywords = compact({f"k{i}": 0 for i in range(999_999)})
     yield valid("a schema of 999,999 keywords", keywords, "0")
     yield from too_large("a schema of 1,000,000 keywords", compact({f"k{i}": 0 for i in range(1_000_000)}))
@@ -296,8 +299,8 @@ def siblings():
     schema = '{"additionalProperties":{"title":"a"}}'
     for pairs in (14, 17):
         names = named_alike(pairs)
-        yield check(f"merging {len(names):,} members whose names have one sum", schema, compact({it: 0 for it in names}),
-                    "merged", out=lambda names=names: titled_text(names))
+        yield check(f"merging {len(names):,} members whose names have one sum", schema,
+                    compact({it: 0 for it in names}), "merged", out=lambda names=names: titled_text(names))
 
 
 def bundles():

@@ -27,7 +27,7 @@ def key_hash(key):
 
 
 def colliding(count):
-    """As many names. The second block begins with the hash of the first; the rest of it is what tells them apart."""
+    """As many names. The second block begins with the hash of the first; the rest of it is what distinguishes them."""
     chosen = random.Random(1)
     while True:
         first = BEFORE + bytes(chosen.choices(PRINTABLE, k=16 - len(BEFORE)))

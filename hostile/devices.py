@@ -49,11 +49,11 @@ def files(room):
     for (first, second, instance), opened, status in OPENED:
         words = ["check", "flag", instance, cases.U, cases.U, first, "https://a.example/t", second]
         wanted = (b"", NO_READ, 4) if status else (cases.VALID, b"", 0)
-        got, told = preloaded(room, room.program, words, TELL_OPENED=1)
+        got, reported = preloaded(room, room.program, words, REPORT_OPENED=1)
         name = f"files {first}, {second}, {instance}"
         room.judge(name, wanted, got)
-        told = told.decode().split()
-        room.tell(name, told != opened and f"wanted {opened} to be opened, got {told}")
+        reported = reported.decode().split()
+        room.record(name, reported != opened and f"wanted {opened} to be opened, got {reported}")
     room.judge("a standard input that can't be read, and files", (cases.VALID, b"", 0),
                shell(room, f'"$1" check flag instance {cases.U} {cases.U} a <.'))
 
@@ -71,7 +71,7 @@ def slow(room):
             reads = device.reads("a byte a call, read", ONE_BYTE=1)
             writes = device.writes("a byte a call, write", ONE_BYTE=1)
             print(f"{case.name}: {reads} reads and {writes} writes of a byte, each failed in turn", flush=True)
-            room.tell(f"{case.name}, writes of a byte", writes != len(device.own[0]) and
+            room.record(f"{case.name}, writes of a byte", writes != len(device.own[0]) and
                       f"{writes} writes of a byte, and the text has {len(device.own[0])}")
     for case in room.chosen([cases.refused_pair()]):
         refused_pair(Device(room, case))
@@ -86,7 +86,7 @@ def refused_pair(device):
     for what, how in (("read", {}), ("interrupted read", {"INTERRUPTED": 1})):
         reads = device.reads(what, ONE_BYTE=1, **how)
         # One for each byte, and one that meets the end.
-        device.room.tell(f"{device.case.name}, {what}s of a byte", reads != len(given) + 1 and
+        device.room.record(f"{device.case.name}, {what}s of a byte", reads != len(given) + 1 and
                          f"{reads} {what}s of a byte, and the text has {len(given)}")
 
 
@@ -102,17 +102,17 @@ class Device:
     def reads(self, what, **how):
         """Fails each read in turn: nothing is out then. Answers how many there are."""
         return in_turn(self.room, f"{self.case.name}, {what}", lambda number: self.run(FAIL_READ=number, **how),
-                       lambda got, told: self.judge((b"", NO_READ, 4), got, told))
+                       lambda got, reported: self.judge((b"", NO_READ, 4), got, reported))
 
     def writes(self, what, **how):
         """Fails each write in turn: what is out is a beginning of the text. Answers how many there are."""
         return in_turn(self.room, f"{self.case.name}, {what}",
                        lambda number: self.run(FAIL_WRITE=number, WRITE_ON=1, **how),
-                       lambda got, told: self.judge((self.own[0][:len(got[0])], NO_WRITE, 4), got, told))
+                       lambda got, reported: self.judge((self.own[0][:len(got[0])], NO_WRITE, 4), got, reported))
 
-    def judge(self, failed, got, told):
+    def judge(self, failed, got, reported):
         """Judges the answer of a run that failed at one call, or at none. A device that failed is called no more."""
-        if told not in (b"", b"x"):
+        if reported not in (b"", b"x"):
             return "a device that failed was called again"
-        wanted = failed if told else self.own
+        wanted = failed if reported else self.own
         return None if got == wanted else f"wanted {short(wanted)}, got {short(got)}"

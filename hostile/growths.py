@@ -16,14 +16,14 @@ def growth(room):
         own = case.wanted()
         got = []
 
-        def judge_alone(answer, told):
+        def judge_alone(answer, reported):
             got.append(answer)
-            return judge(answer, told, own, OUT_OF_MEMORY)
+            return judge(answer, reported, own, OUT_OF_MEMORY)
 
         count = in_turn(room, f"{case.name}, allocation", refusing(room, case), judge_alone)
-        room.tell(f"{case.name}, allocations before the command", judge_silent(got, len(case.words), before_command))
+        room.record(f"{case.name}, allocations before the command", judge_silent(got, len(case.words), before_command))
         in_turn(room, f"{case.name}, allocation and all later", refusing(room, case, REFUSE_ALL=1),
-                lambda answer, told: judge(answer, told, own, SILENT))
+                lambda answer, reported: judge(answer, reported, own, SILENT))
         print(f"{case.name}: {count} allocations, each refused in turn", flush=True)
 
 
@@ -32,12 +32,12 @@ def refusing(room, case, **how):
     return lambda number: preloaded(room, room.program, case.words, case.given, REFUSE_NTH=number, **how)
 
 
-def judge(got, told, own, without_memory):
+def judge(got, reported, own, without_memory):
     """Judges a run that was refused an allocation. `own` is its answer with ample memory; `without_memory` may come in
     its place, with or without the line."""
     if got == own:
         return None
-    if not told:
+    if not reported:
         return f"nothing was refused; wanted {short(own)}, got {short(got)}"
     if got in (without_memory, SILENT):
         return None
@@ -73,8 +73,8 @@ def arguments(room):
     room.judge("an argument that isn't UTF-8, and standard error fails", (b"", b"", 2), answer)
 
 
-def judge_misused(got, told):
+def judge_misused(got, reported):
     """Judges such a run that was refused an allocation. Before the arguments are read, that leaves no line."""
-    if got == MISUSED or told and got == SILENT:
+    if got == MISUSED or reported and got == SILENT:
         return None
-    return f"wanted {short(MISUSED)}{' or out of memory' * bool(told)}, got {short(got)}"
+    return f"wanted {short(MISUSED)}{' or out of memory' * bool(reported)}, got {short(got)}"

@@ -6,7 +6,7 @@
    FAIL_READ=N       read N fails; with INTERRUPTED because it is interrupted
    FAIL_WRITE=N      write N on descriptor WRITE_ON fails; with TAKE_NONE it succeeds and takes nothing
    ONE_BYTE          each read and write transfers at most one byte
-   TELL_OPENED       write the path of each file that is opened to descriptor 3, with a line feed, and nothing else
+   REPORT_OPENED       write the path of each file that is opened to descriptor 3, with a line feed, and nothing else
 
    Otherwise descriptor 3 gets a byte 'x' for each allocation, read or write that fails, and a byte 'y' for each later
    read or write of the descriptor that failed. */
@@ -22,7 +22,7 @@ extern int *__errno_location(void);
 enum { INTERRUPTED = 4, FAILED = 5 };
 
 static unsigned long asked, nth, reads, fail_read, writes, fail_write, write_on;
-static int all, counts, marked, interrupted, take_none, one_byte, tell_opened;
+static int all, counts, marked, interrupted, take_none, one_byte, report_opened;
 static int failed = -1;
 
 static unsigned long number(const char *name) {
@@ -42,18 +42,18 @@ __attribute__((constructor)) static void begin(void) {
     interrupted = getenv("INTERRUPTED") != 0;
     take_none = getenv("TAKE_NONE") != 0;
     one_byte = getenv("ONE_BYTE") != 0;
-    tell_opened = getenv("TELL_OPENED") != 0;
+    report_opened = getenv("REPORT_OPENED") != 0;
     counts = !marked;
     asked = 0;
 }
 
-static void tell(const char *what) { __write(3, what, 1); }
+static void report(const char *what) { __write(3, what, 1); }
 
 static int refused(void) {
     if (!counts) return 0;
     asked++;
     if (!nth || (all ? asked < nth : asked != nth)) return 0;
-    tell("x");
+    report("x");
     return 1;
 }
 
@@ -61,14 +61,14 @@ void *malloc(size_t size) { return refused() ? 0 : __libc_malloc(size); }
 void *realloc(void *old, size_t size) { return refused() ? 0 : __libc_realloc(old, size); }
 
 static long fails(int descriptor, int error) {
-    tell("x");
+    report("x");
     failed = descriptor;
     *__errno_location() = error;
     return -1;
 }
 
 long read(int descriptor, void *into, size_t size) {
-    if (descriptor == failed) tell("y");
+    if (descriptor == failed) report("y");
     if (++reads == fail_read) return fails(descriptor, interrupted ? INTERRUPTED : FAILED);
     return __read(descriptor, into, one_byte && size ? 1 : size);
 }
@@ -76,7 +76,7 @@ long read(int descriptor, void *into, size_t size) {
 long write(int descriptor, const void *from, size_t size) {
     const char *bytes = from;
     if (marked && descriptor == 2 && size == 1) counts = *bytes == '<' ? 1 : *bytes == '>' ? 0 : counts;
-    if (descriptor == failed) tell("y");
+    if (descriptor == failed) report("y");
     if (fail_write && (unsigned long)descriptor == write_on && ++writes == fail_write) {
         if (!take_none) return fails(descriptor, FAILED);
         fails(descriptor, 0);
@@ -87,7 +87,7 @@ long write(int descriptor, const void *from, size_t size) {
 
 /* Files are only read: none is made, so there is no mode to hand on. */
 int open(const char *path, int flags, ...) {
-    if (tell_opened) {
+    if (report_opened) {
         size_t length = 0;
         while (path[length]) length++;
         __write(3, path, length);

@@ -58,7 +58,7 @@ class Room:
                 self.put(case.files)
                 yield case
 
-    def tell(self, name, why):
+    def record(self, name, why):
         """Counts a run as passed where nothing is wrong with it."""
         self.count["failed" if why else "passed"] += 1
         if why:
@@ -66,7 +66,7 @@ class Room:
 
     def judge(self, name, wanted, got):
         wrong = [what for what, w, g in zip(("output", "errors", "status"), wanted, got) if w != g]
-        self.tell(name, wrong and f"{', '.join(wrong)}; wanted {short(wanted)}, got {short(got)}")
+        self.record(name, wrong and f"{', '.join(wrong)}; wanted {short(wanted)}, got {short(got)}")
 
     def run_case(self, case, stack=None):
         """Runs a case and judges it. Its output, which may be large, goes to a file."""
@@ -88,7 +88,7 @@ class Room:
             print(f"{float(alone):8.2f} s {peak:>6} MB {os.path.getsize('out'):12,} bytes"
                   f"  {case.name}", flush=True)
         if case.most_seconds and took > case.most_seconds:
-            self.tell(case.name, f"took {took:.1f} s; at most {case.most_seconds} s")
+            self.record(case.name, f"took {took:.1f} s; at most {case.most_seconds} s")
         elif callable(case.out):
             self.judge(case.name, (True, case.errors, case.status), (is_made_of("out", case.out()), errors, status))
         else:
@@ -123,14 +123,14 @@ def preloaded(room, program, words, given=b"", executable=None, **env):
         subprocess.run([f"{kit()}/toolchain/bin/clang", "-O1", "-fPIC", "-shared", "-nostdlib", "-o", "preload.so",
                         os.path.join(HERE, "preload.c")], check=True)
     # The library reports on descriptor 3.
-    told = os.open("told", os.O_WRONLY | os.O_CREAT | os.O_TRUNC)
-    if told != 3:
-        os.dup2(told, 3)
-        os.close(told)
+    reported = os.open("reported", os.O_WRONLY | os.O_CREAT | os.O_TRUNC)
+    if reported != 3:
+        os.dup2(reported, 3)
+        os.close(reported)
     env = {"LD_PRELOAD": os.path.join(room.folder, "preload.so"), "PATH": os.environ["PATH"],
            **{name: str(value) for name, value in env.items()}}
     got = answer_of([program, *words], room.seconds, given, executable=executable, env=env, pass_fds=(3,))
-    return got, read("told")
+    return got, read("reported")
 
 
 def in_turn(room, name, run, judge):
@@ -138,13 +138,13 @@ def in_turn(room, name, run, judge):
     number = 0
     while True:
         number += 1
-        got, told = run(number)
-        room.tell(f"{name}, {number} refused", judge(got, told))
-        if not told:
+        got, reported = run(number)
+        room.record(f"{name}, {number} refused", judge(got, reported))
+        if not reported:
             break
         if number == MOST_CALLS:
-            room.tell(name, f"no end after {number} runs")
+            room.record(name, f"no end after {number} runs")
             break
     if number == 1:
-        room.tell(name, "nothing was refused")
+        room.record(name, "nothing was refused")
     return number - 1

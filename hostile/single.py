@@ -26,19 +26,20 @@ def single(room):
         if table.marked != "none":
             refused = "Memory" + questions.RECORD + questions.answers(table.questions)
             refusals.append(refuse_in_turn(room, table, table.questions, refused))
-        told = f"; {sum(refusals)} allocations of {len(refusals)} calls, each refused in turn" * bool(refusals)
-        print(f"{table.name}: {len(table.questions)} questions, {len(quiet)} of them without memory{told}", flush=True)
+        in_turn = f"; {sum(refusals)} allocations of {len(refusals)} calls, each refused in turn" * bool(refusals)
+        print(f"{table.name}: {len(table.questions)} questions, {len(quiet)} of them without memory{in_turn}",
+              flush=True)
 
 
 def ask(room, name, table, asked_now, **refusals):
     """Asks questions of a table at once. None may be refused an allocation."""
-    got, told = one_run(room, table, asked_now, **refusals)
-    wrong = judge_answer(questions.answers(asked_now), None, got, told)
+    got, reported = one_run(room, table, asked_now, **refusals)
+    wrong = judge_answer(questions.answers(asked_now), None, got, reported)
     if wrong and not got[2]:
         pairs = zip(asked_now, got[0].split(questions.RECORD))
         wrong = next((f"{short(it.words)}: wanted {short(it.answer)}, got {short(answer)}"
                       for it, answer in pairs if it.answer != answer), wrong)
-    room.tell(name, wrong or told and "it asked for memory")
+    room.record(name, wrong or reported and "it asked for memory")
 
 
 def refuse_in_turn(room, table, asked_now, refused):
@@ -46,18 +47,19 @@ def refuse_in_turn(room, table, asked_now, refused):
     name = f"{table.name}, {short(asked_now[0].words)}"
     own = questions.answers(asked_now)
     return in_turn(room, name, lambda number: one_run(room, table, asked_now, REFUSE_NTH=number, REFUSE_MARKED=1),
-                   lambda got, told: judge_answer(own, refused, got, told))
+                   lambda got, reported: judge_answer(own, refused, got, reported))
 
 
 def one_run(room, table, asked_now, **env):
     """What the test answers, without the line with which each test ends that passes."""
-    (out, marks, status), told = preloaded(room, room.tests, [ONE_CALL, table.marked], table.given(asked_now), **env)
-    return (out.removesuffix(PASSED).decode(), marks, status if out.endswith(PASSED) else status or 1), told
+    words = [ONE_CALL, table.marked]
+    (out, marks, status), reported = preloaded(room, room.tests, words, table.given(asked_now), **env)
+    return (out.removesuffix(PASSED).decode(), marks, status if out.endswith(PASSED) else status or 1), reported
 
 
-def judge_answer(own, refused, got, told):
+def judge_answer(own, refused, got, reported):
     """Why an answer is wrong: it must be this one, or where an allocation was refused, the refused one."""
     out, marks, status = got
-    if status or marks.strip(b"<>") or out != own and (not told or out != refused):
-        return f"wanted {short(own)}{f' or {short(refused)}' * bool(told)}, got {short(got)}"
+    if status or marks.strip(b"<>") or out != own and (not reported or out != refused):
+        return f"wanted {short(own)}{f' or {short(refused)}' * bool(reported)}, got {short(got)}"
     return None

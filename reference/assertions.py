@@ -1,4 +1,4 @@
-"""The twenty keywords that judge a value by themselves (Validation, section 6), their arguments and their error texts."""
+"""The twenty keywords that judge a value by themselves (Validation, section 6), their arguments and error texts."""
 import re
 
 from json_text import is_equal, text
@@ -15,7 +15,9 @@ def is_texts(value):
 
 
 def is_types(value):
-    return value in TYPES if isinstance(value, str) else is_texts(value) and value != [] and all(it in TYPES for it in value)
+    if isinstance(value, str):
+        return value in TYPES
+    return is_texts(value) and value != [] and all(it in TYPES for it in value)
 
 
 def anything(_):
@@ -26,7 +28,7 @@ def from_zero(value):
     return is_number(value) and value >= 0
 
 
-FORMS = {
+SHAPES = {
     "type": is_types, "enum": lambda it: isinstance(it, list), "const": anything,
     "multipleOf": lambda it: is_number(it) and it > 0,
     "maximum": is_number, "exclusiveMaximum": is_number, "minimum": is_number, "exclusiveMinimum": is_number,
@@ -70,7 +72,7 @@ def least_equal_pair(items):
 
 
 def error(keyword, argument, siblings, value, matching):
-    """The error text of an assertion on a value, or none where it holds. `matching` counts what holds under `contains`."""
+    """The error text of an assertion on a value, or none where it holds. `matching`: the matches of `contains`."""
     n = argument
     if keyword == "type":
         wanted = {n} if isinstance(n, str) else set(n)

@@ -3,7 +3,7 @@
 import functools
 
 import url
-from assertions import FORMS, compiled
+from assertions import SHAPES, compiled
 from json_text import NotJson, NotWhole, decoded, fragment, pointer_of, read
 
 MOST_DOCUMENTS, MOST_PLACES, LONGEST_URI = 1_000, 100_000, 65_536
@@ -58,9 +58,9 @@ def is_anchor(text):
     return text[:1] in LETTERS and text != "" and set(text) <= LETTERS | set("0123456789-.")
 
 
-def has_form(keyword, argument):
-    if keyword in FORMS:
-        return FORMS[keyword](argument)
+def has_shape(keyword, argument):
+    if keyword in SHAPES:
+        return SHAPES[keyword](argument)
     if keyword in TEXTS:
         return isinstance(argument, str)
     if keyword in LISTS:
@@ -132,15 +132,17 @@ class Bundle:
                     raise refuse("DuplicateUri")
                 self.known[uri.text()] = place
             self.check_keywords(place)
-            below = [(keyword, step, Place(number, place.pointer + (keyword,) + (() if step is None else (str(step),)), it, place))
-                     for keyword, step, it in steps_below(place.schema)]
+            below = []
+            for keyword, step, it in steps_below(place.schema):
+                tokens = (keyword,) if step is None else (keyword, str(step))
+                below.append((keyword, step, Place(number, place.pointer + tokens, it, place)))
             place.below = {(keyword, step): it for keyword, step, it in below}
             stack += [it for _, _, it in reversed(below)]
 
     def check_keywords(self, place):
         for keyword, argument in place.schema.items() if isinstance(place.schema, dict) else ():
             refuse = lambda kind, *names: Refused(place.document, (*place.pointer, keyword, *names), kind)
-            if not has_form(keyword, argument):
+            if not has_shape(keyword, argument):
                 raise refuse("BadKeyword")
             if keyword == "$schema" and argument not in (DIALECT, DIALECT + "#"):
                 raise refuse("UnknownDialect")

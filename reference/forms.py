@@ -32,14 +32,16 @@ def alike(one, other):
 
 
 def unkeyed(node):
-    return text([node.valid, node.absolute, node.instance, [] if node.note is None else list(node.note)]), tuple(map(unkeyed, node.children))
+    note = [] if node.note is None else list(node.note)
+    return text([node.valid, node.absolute, node.instance, note]), tuple(map(unkeyed, node.children))
 
 
 def merged(node):
-    """The tree in which each run of three rules ends, by taking steps, from below, as long as there is one: by the third a
-    node goes, with all below it, where an earlier sibling is alike."""
+    """The tree in which each run of three rules ends, by taking steps, from below, as long as there is one: by the
+    third a node goes, with all below it, where an earlier sibling is alike."""
     node = condensed(node.over([merged(it) for it in node.children]))
-    children = [it for at, it in enumerate(node.children) if not any(alike(other, it) for other in node.children[:at])]
+    children = [it for at, it in enumerate(node.children)
+                if not any(alike(other, it) for other in node.children[:at])]
     return node if len(children) == len(node.children) else merged(node.over(children))
 
 

@@ -1,7 +1,7 @@
-"""The standard's result: one node for each application of a schema and one for each keyword (Core, sections 7 and 12)."""
+"""The standard's result: a node for each application of a schema and one for each keyword (Core, sections 7, 12)."""
 from dataclasses import dataclass, field
 
-from assertions import FORMS, compiled, error
+from assertions import SHAPES, compiled, error
 from json_text import pointer_text
 
 DEEPEST, MOST_NODES = 512, 1_000_000
@@ -64,7 +64,8 @@ class Walk:
         names = [it for it in sorted(place.schema, key=order) if it not in WITHOUT_NODE]
         for name in sorted(names, key=lambda it: it.startswith("unevaluated")):
             seen = union([gives[it] for it in gives if not it.startswith("unevaluated")])
-            made[name], gives[name] = self.keyword(path, name, keyword + pointer_text((name,)), instance, value, made, seen)
+            location = keyword + pointer_text((name,))
+            made[name], gives[name] = self.keyword(path, name, location, instance, value, made, seen)
         node.children = [made[it] for it in names]
         node.valid = all(it.valid for it in node.children)
         return node, union(gives.values()) if node.valid else NONE
@@ -76,7 +77,8 @@ class Walk:
         below = []
         asked = self.asked(path, name, value, made, seen)
         for target, steps, instance_steps, part in asked:
-            below.append(self.schema((*path, target), keyword + pointer_text(steps), instance + pointer_text(instance_steps), part))
+            there = keyword + pointer_text(steps), instance + pointer_text(instance_steps)
+            below.append(self.schema((*path, target), *there, part))
         node.children = [it for it, _ in below]
         passing = [i for i, it in enumerate(node.children) if it.valid]
         self.judge(node, place.schema, name, value, passing, asked, made)
@@ -148,7 +150,7 @@ class Walk:
     def judge(node, schema, name, value, passing, asked, made):
         """Gives the node of a keyword its verdict and its note."""
         count = len(passing)
-        if name in FORMS:
+        if name in SHAPES:
             matching = sum(it.valid for it in made["contains"].children) if "contains" in made else 0
             why = error(name, schema[name], schema, value, matching)
             node.valid, node.note = why is None, None if why is None else ("error", why)
@@ -164,14 +166,18 @@ class Walk:
         elif name == "contains":
             if isinstance(value, list):
                 node.valid = count > 0 or schema.get("minContains") == 0
-                node.note = ("annotation", every_item_or(passing, passing, value)) if node.valid else ("error", "no matching item")
+                if node.valid:
+                    node.note = ("annotation", every_item_or(passing, passing, value))
+                else:
+                    node.note = ("error", "no matching item")
         elif name in IN_PLACE | ON_ARRAYS | ON_OBJECTS:
             node.valid = name == "if" or count == len(node.children)
             if node.valid and name in MEMBERS and isinstance(value, dict):
                 node.note = ("annotation", sorted({it[2][0] for it in asked}))
             elif node.valid and name in ITEMS and asked:
                 applied = [int(it[2][0]) for it in asked]
-                node.note = ("annotation", every_item_or(max(applied), applied, value) if name == "prefixItems" else True)
+                every = every_item_or(max(applied), applied, value) if name == "prefixItems" else True
+                node.note = ("annotation", every)
         else:
             node.note = ("annotation", schema[name])
 

@@ -54,7 +54,7 @@ def of_library(room):
         yield Check(f"tools/build-library, {name}", ["tools/build-library"], says, home, env, has_count=False, status=4)
 
 
-# A fake rt for two functions: `check` tells of each by what is written in it, and `must-fail` refuses nothing.
+# A fake rt for two functions: `check` answers by what is written in each, and `must-fail` refuses nothing.
 FAKE_RT = r"""[ "$1" = must-fail ] && for edit in "crates/$2/must-fail"/*; do
     echo "rt: must-fail $2/${edit##*/}: NOT REFUSED: the crate is still proved"
 done

@@ -2,7 +2,7 @@
 
 A check costs more than what it has to prove anew: reading the crate, and loading what is kept. So as many edits as
 don't touch each other's functions are made in one copy, and one `rt check` goes over the modules that they are in. A
-contract binds one function, so the prover tells of each function by itself whether its body meets it.
+contract binds one function, so the prover says of each function by itself whether its body meets it.
 """
 import os
 import re
@@ -54,7 +54,7 @@ class Place:
                     and found[1].rpartition("/")[2] in (self.name, f"+{self.cycle}"))
 
     def has_goal(self, line):
-        """Whether a line tells of a goal of this function that isn't proved."""
+        """Whether a line names a goal of this function that isn't proved."""
         found = NOTE.match(line)
         return bool(found and found[1] == self.module.replace("::", "/") and int(found[2]) in self.lines)
 
@@ -112,8 +112,8 @@ def changes(file):
 
 
 def changed(texts, folder, path, old, new):
-    """Makes a change in a file's text among `texts`, which begin as the files are. Returns the text before it, and where
-    the old text stood; or None, with nothing changed, where that doesn't stand there exactly once."""
+    """Makes a change in a file's text among `texts`, which begin as the files are. Returns the text before it, and
+    where the old text stood; or None, with nothing changed, where that doesn't stand there exactly once."""
     if path not in texts and (folder / path).is_file():
         texts[path] = (folder / path).read_text()
     text = texts.get(path, "")
@@ -189,10 +189,10 @@ class Quick:
 
     def base(self, edits):
         """The functions that are proved without edits, or None where one isn't."""
-        told = self.check([], {place.module for it in edits for place in it.places})
-        if told is None or any(answer != "proved" for answer in told.values()):
+        verdicts = self.check([], {place.module for it in edits for place in it.places})
+        if verdicts is None or any(answer != "proved" for answer in verdicts.values()):
             return None
-        return set(told)
+        return set(verdicts)
 
     def refused(self, edits, proved):
         """Of these edits, each that the prover refuses for a contract, and why, as soon as it is known."""
@@ -206,13 +206,13 @@ class Quick:
 
     def together(self, edits, proved):
         """The same of edits that don't touch each other. If they don't compile together, halves of them are tried."""
-        told = self.check(edits, {place.module for it in edits for place in it.places})
-        if told is None:
+        verdicts = self.check(edits, {place.module for it in edits for place in it.places})
+        if verdicts is None:
             half = len(edits) // 2
             return self.together(edits[:half], proved) | self.together(edits[half:], proved) if half else {}
         found = {}
         for edit in edits:
-            answers = [(place, told[it]) for place in edit.places for it in sorted(told)
+            answers = [(place, verdicts[it]) for place in edit.places for it in sorted(verdicts)
                        if it in proved and place.is_named(it, self.crate)]
             why = next(filter(None, (reason(*it, self.printed) for it in answers)), None)
             if why:

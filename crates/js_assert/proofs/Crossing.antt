@@ -5,7 +5,8 @@ use denote.Struct.Field.{Field}
 use denote.Struct.Declared as structs
 use denote.Enum.Declared as enums
 use denote.Param.Send.{IsSend, IsSync}
-use denote.Param.SendFields.{FieldsHave, VariantsHave, declared_send, declared_sync, variants_send, variants_sync, as_row_send, as_row_sync}
+use denote.Param.SendFields.{FieldsHave, VariantsHave, declared_send, declared_sync}
+use denote.Param.SendFields.{variants_send, variants_sync, as_row_send, as_row_sync}
 use Rattle.std.proofs.Crossing.{Box-send, Box-sync, Vec-send, Vec-sync}
 use Rattle.std.specs.contracts.alloc.Global as Global
 use Rattle.std.specs.contracts.boxed.Box as Box
@@ -22,7 +23,21 @@ pub record Law : Type 2 where
   pub variants : (N : enums.Record) → VariantsHave Holds N.parts → Holds (enums.row (enums.declared N))
 
 abbrev pub sending : Law
-sending = record { Holds = IsSend; box = Box-send; vec = Vec-send; field = as_row_send; fields = declared_send; variants = variants_send }
+sending = record {
+  Holds = IsSend;
+  box = Box-send;
+  vec = Vec-send;
+  field = as_row_send;
+  fields = declared_send;
+  variants = variants_send;
+}
 
 abbrev pub sharing : Law
-sharing = record { Holds = IsSync; box = Box-sync; vec = Vec-sync; field = as_row_sync; fields = declared_sync; variants = variants_sync }
+sharing = record {
+  Holds = IsSync;
+  box = Box-sync;
+  vec = Vec-sync;
+  field = as_row_sync;
+  fields = declared_sync;
+  variants = variants_sync;
+}

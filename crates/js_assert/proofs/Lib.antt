@@ -1,13 +1,13 @@
-pub mod Named
+pub mod KeywordNames
 pub mod Names
 pub mod Repeated
 pub mod Sorted
-pub mod TypeForms
+pub mod TypeShapes
 pub mod EqualPairs
 pub mod Compiled
 pub mod Dependent
-pub mod Listed
+pub mod ListedValues
 pub mod Halves
 pub mod Counting
-pub mod Telling
+pub mod ErrorTexts
 pub mod Crossing

@@ -1,6 +1,7 @@
 -- What an assertion says of a value (JSON Schema Validation, section 6): one line a keyword, in the standard's order,
 -- each with its subsection. This is the standard's, but that numbers are whole here, so each is an integer.
-use Rattle.std.specs.Prelude.{ℕ, ◌==◌, ◌%◌, ℤ, pos, List, [], ◌∷◌, Bool, true, not, ◌&&◌, ◌||◌, Option, Some, None, option_map, length, codes, chars, int_le, int_lt, unsigned_abs, refl}
+use Rattle.std.specs.Prelude.{ℕ, ◌==◌, ◌%◌, ℤ, pos, List, [], ◌∷◌, Bool, true, not, ◌&&◌, ◌||◌, Option, Some, None}
+use Rattle.std.specs.Prelude.{option_map, length, codes, chars, int_le, int_lt, unsigned_abs, refl}
 use Rattle.std.specs.List.{list_any, list_all}
 use Rattle.std.specs.Str.{bytes_eq}
 use Rattle.std.specs.Coded.{Coded, code_by, coded×, coded_bool}
@@ -13,7 +14,11 @@ use Rattle.js_assert.specs.Argument.{boolean, number, string, strings, on_number
 use Rattle.js_assert.specs.Keyword.{keyword_named}
 use Rattle.js_assert.specs.Pattern.{matches}
 use Rattle.js_assert.specs.declared.keyword.Keyword.{Keyword}
-use Rattle.js_assert.specs.declared.keyword.Keyword.TheVariants.{«Type», Enum, Const, MultipleOf, Maximum, ExclusiveMaximum, Minimum, ExclusiveMinimum, MaxLength, MinLength, Pattern, MaxItems, MinItems, UniqueItems, MaxContains, MinContains, MaxProperties, MinProperties, Required, DependentRequired}
+use Rattle.js_assert.specs.declared.keyword.Keyword.TheVariants.{«Type», Enum, Const, MultipleOf, Maximum}
+use Rattle.js_assert.specs.declared.keyword.Keyword.TheVariants.{ExclusiveMaximum, Minimum, ExclusiveMinimum, MaxLength}
+use Rattle.js_assert.specs.declared.keyword.Keyword.TheVariants.{MinLength, Pattern, MaxItems, MinItems, UniqueItems}
+use Rattle.js_assert.specs.declared.keyword.Keyword.TheVariants.{MaxContains, MinContains, MaxProperties, MinProperties}
+use Rattle.js_assert.specs.declared.keyword.Keyword.TheVariants.{Required, DependentRequired}
 
 -- a keyword, its argument, and whether `contains` stands beside it
 pub record Asserted : Type 0 where
@@ -24,12 +29,16 @@ pub record Asserted : Type 0 where
 -- it is stored as its parts
 abbrev pub asserted_code : Coded Keyword → Coded Asserted
 asserted_code keyword_code =
-    code_by (Keyword × (Value × Bool)) (coded× keyword_code (coded× value_code coded_bool)) (λ a. (a.keyword, (a.argument, a.beside_contains))) (λ p. record { keyword = p.0; argument = p.1.0; beside_contains = p.1.1 }) (λ _. refl)
+    code_by (Keyword × (Value × Bool)) (coded× keyword_code (coded× value_code coded_bool))
+    (λ a. (a.keyword, (a.argument, a.beside_contains)))
+    (λ p. record { keyword = p.0; argument = p.1.0; beside_contains = p.1.1 }) (λ _. refl)
 
 -- the assertion of a keyword among its siblings; none, where its name is none of the twenty
 abbrev pub asserted : List ℕ → Value → Named → Option Asserted
 asserted name argument siblings =
-    option_map (λ k. record { keyword = k; argument = argument; beside_contains = has_name (codes "contains") siblings }) (keyword_named name)
+    option_map (λ k. record
+    { keyword = k; argument = argument; beside_contains = has_name (codes "contains") siblings })
+    (keyword_named name)
 
 -- ---- words of the table
 
@@ -62,7 +71,7 @@ abbrev pub implies : Bool → Bool → Bool
 implies a b = not a || b
 
 -- ---- the table: the keyword has this argument, `contains` stands beside it or not, the value v is judged,
--- ---- and so many of its items match the adjacent `contains`
+-- ---- and the number of its items that match the adjacent `contains`
 
 module _ (argument : Value) (beside_contains : Bool) (v : Value) (matching : ℕ) where
   abbrev pub says_by : Keyword → Bool
@@ -90,9 +99,10 @@ module _ (argument : Value) (beside_contains : Bool) (v : Value) (matching : ℕ
   says_by MaxProperties = on_object v (λ ms. int_le (pos (length ms)) (number argument))  -- 6.5.1
   says_by MinProperties = on_object v (λ ms. int_le (number argument) (pos (length ms)))  -- 6.5.2
   says_by Required = on_object v (has_each (strings argument))  -- 6.5.3
-  says_by DependentRequired = on_object v (λ ms. list_all (λ d. implies (has_name d.0 ms) (has_each (strings d.1) ms)) (members_of argument))  -- 6.5.4
+  says_by DependentRequired =  -- 6.5.4
+      on_object v (λ ms. list_all (λ d. implies (has_name d.0 ms) (has_each (strings d.1) ms)) (members_of argument))
 
--- what the assertion says of v, of which so many items match the adjacent `contains`
+-- what the assertion says of v; `matching` of its items match the adjacent `contains`
 abbrev pub says : Asserted → Value → ℕ → Bool
 says a v matching = says_by a.argument a.beside_contains v matching a.keyword
 

@@ -1,5 +1,6 @@
 -- The texts of the errors. The standard leaves them open: all of this file is this project's own choice.
-use Rattle.std.specs.Prelude.{ℕ, ◌+◌, ℤ, List, [], ◌∷◌, ◌++◌, not, Option, Some, None, map, filter, length, codes, decimal, if◌then◌else◌}
+use Rattle.std.specs.Prelude.{ℕ, ◌+◌, ℤ, List, [], ◌∷◌, ◌++◌, not, Option, Some, None, map}
+use Rattle.std.specs.Prelude.{filter, length, codes, decimal, if◌then◌else◌}
 use Rattle.std.specs.Fmt.{signed_decimal}
 use Rattle.std.specs.List.{flat_map}
 use Rattle.std.specs.BTreeSet.{insert_key}
@@ -11,7 +12,11 @@ use Rattle.js_doc.specs.Parts.{items_of, members_of}
 use Rattle.js_assert.specs.Argument.{number, string, strings}
 use Rattle.js_assert.specs.Assertion.{Asserted, says, characters}
 use Rattle.js_assert.specs.declared.keyword.Keyword.{Keyword}
-use Rattle.js_assert.specs.declared.keyword.Keyword.TheVariants.{«Type», Enum, Const, MultipleOf, Maximum, ExclusiveMaximum, Minimum, ExclusiveMinimum, MaxLength, MinLength, Pattern, MaxItems, MinItems, UniqueItems, MaxContains, MinContains, MaxProperties, MinProperties, Required, DependentRequired}
+use Rattle.js_assert.specs.declared.keyword.Keyword.TheVariants.{«Type», Enum, Const, MultipleOf, Maximum}
+use Rattle.js_assert.specs.declared.keyword.Keyword.TheVariants.{ExclusiveMaximum, Minimum, ExclusiveMinimum, MaxLength}
+use Rattle.js_assert.specs.declared.keyword.Keyword.TheVariants.{MinLength, Pattern, MaxItems, MinItems, UniqueItems}
+use Rattle.js_assert.specs.declared.keyword.Keyword.TheVariants.{MaxContains, MinContains, MaxProperties, MinProperties}
+use Rattle.js_assert.specs.declared.keyword.Keyword.TheVariants.{Required, DependentRequired}
 
 -- ---- parts of the texts
 
@@ -89,10 +94,11 @@ module _ (argument : Value) (v : Value) (matching : ℕ) where
   text_by MaxProperties = counted (length (members_of v)) (codes " members, at most ") (number argument)
   text_by MinProperties = counted (length (members_of v)) (codes " members, at least ") (number argument)
   text_by Required = missing (map text (without (members_of v) (strings argument)))
-  text_by DependentRequired = missing (map text (sorted_with [] (without (members_of v) (names_needed (members_of v) (members_of argument)))))
+  text_by DependentRequired =
+      missing (map text (sorted_with [] (without (members_of v) (names_needed (members_of v) (members_of argument)))))
 
--- the text of the error that v makes, where the assertion doesn't hold, if so many of its items match the adjacent
--- `contains`
+-- the text of the error that v makes, where the assertion doesn't hold; `matching` of its items match the
+-- adjacent `contains`
 abbrev pub error_text : Asserted → Value → ℕ → List ℕ
 error_text a v matching = text_by a.argument v matching a.keyword
 

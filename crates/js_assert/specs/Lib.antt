@@ -2,7 +2,7 @@ pub mod Keyword
 pub mod Argument
 pub mod Pattern
 pub mod Assertion
-pub mod Form
+pub mod Shape
 pub mod ErrorText
 pub mod Names
 pub mod Types

@@ -7,7 +7,7 @@ use Rattle.js_assert.specs.declared.keyword.Keyword.{Keyword}
 use Rattle.js_assert.specs.declared.keyword.Keyword.TheVariants as keyword
 use Rattle.js_assert.specs.declared.assertion.Test.{Test}
 use Rattle.js_assert.specs.declared.assertion.Test.TheVariants as test
-use Rattle.js_assert.specs.Form.{takes, IsPatternIfAny}
+use Rattle.js_assert.specs.Shape.{takes, IsPatternIfAny}
 use Rattle.js_assert.specs.Dependences.{dependence_of}
 use Rattle.js_assert.specs.Names.{names_value}
 use Rattle.js_assert.specs.Types.{types_value}
@@ -60,5 +60,5 @@ argument_tested (test.DependentRequired dependences) = object (members (map depe
 pub record IsTestOf (keyword : Keyword) (argument : Value) (t : Test) : Type 0 where
   pub same_keyword : keyword_tested t ≡ keyword
   pub same_argument : argument_tested t ≡ argument
-  pub form : takes argument keyword ≡ true
+  pub shape : takes argument keyword ≡ true
   pub pattern : IsPatternIfAny keyword argument

@@ -5,7 +5,8 @@ use Rattle.js_assert.specs.Names.{names_value}
 use Rattle.js_assert.specs.declared.instance_type.InstanceType.{InstanceType}
 use Rattle.js_assert.specs.declared.instance_type.Types.{Types}
 use Rattle.js_assert.specs.declared.instance_type.Types.TheVariants.{One, Several}
-use Rattle.js_assert.specs.declared.instance_type.InstanceType.TheVariants.{Null, Boolean, Object, Array, Number, Text, Integer}
+use Rattle.js_assert.specs.declared.instance_type.InstanceType.TheVariants.{Null, Boolean, Object, Array, Number}
+use Rattle.js_assert.specs.declared.instance_type.InstanceType.TheVariants.{Text, Integer}
 
 abbrev pub type_name : InstanceType → List ℕ
 type_name Null = codes "null"

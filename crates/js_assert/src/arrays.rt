@@ -11,7 +11,7 @@ use crate::unique::least_equal_pair;
 use js_doc::{Doc, Memory};
 use std::alloc::Global;
 
-#[tactic(auto, using(crate::proofs::Listed::array_rules))]
+#[tactic(auto, using(crate::proofs::ListedValues::array_rules))]
 pub(crate) fn max_items(limit: u64, value: &Doc) -> bool
     ensures { result ≡ says_by (whole (pos limit)) false (value_of value.now) 0 Keyword.MaxItems }
 {
@@ -21,7 +21,7 @@ pub(crate) fn max_items(limit: u64, value: &Doc) -> bool
     }
 }
 
-#[tactic(auto, using(crate::proofs::Listed::array_rules))]
+#[tactic(auto, using(crate::proofs::ListedValues::array_rules))]
 pub(crate) fn min_items(limit: u64, value: &Doc) -> bool
     ensures { result ≡ says_by (whole (pos limit)) false (value_of value.now) 0 Keyword.MinItems }
 {
@@ -65,7 +65,7 @@ fn has_right_count(value: &Doc, beside_contains: bool, is_right: bool) -> bool
 }
 
 /// How many items the value has, if it is an array.
-#[tactic(auto, using(crate::proofs::Listed::array_rules))]
+#[tactic(auto, using(crate::proofs::ListedValues::array_rules))]
 pub(crate) fn array_length(value: &Doc) -> u64
     ensures { result ≡ length (items_of (value_of value.now)) }
 {

@@ -82,7 +82,7 @@ impl Assertion {
     ghost use Rattle.js_assert.specs.Argument.{on_string, string};
     ghost use Rattle.js_assert.specs.Assertion.{asserted, pattern_asked, says};
     ghost use Rattle.js_assert.specs.ErrorText.{error, error_text};
-    ghost use Rattle.js_assert.specs.Form.{has_form, IsKeywordFault};
+    ghost use Rattle.js_assert.specs.Shape.{has_shape, IsKeywordFault};
     ghost use Rattle.js_assert.specs.Keyword.{name_of};
     ghost use Rattle.js_assert.specs.Pattern.{is_pattern, matches};
 
@@ -90,7 +90,7 @@ impl Assertion {
     /// None where the name is none of the twenty keywords'.
     ///
     /// # Errors
-    /// `Memory`; `BadKeyword` exactly where the argument hasn't the form that the keyword asks for; `NotAPattern`
+    /// `Memory`; `BadKeyword` exactly where the argument doesn't have the shape of the keyword; `NotAPattern`
     /// and `PatternTooLarge` of a `pattern`, as `Pattern::new` answers them.
     pub fn read(
         alloc: Global,
@@ -100,7 +100,7 @@ impl Assertion {
     ) -> Result<Option<Assertion>, KeywordFault>
         ensures built { IfOk result (λ a.
             a ≡ asserted keyword.now (value_of argument.now) siblings.now) }
-        ensures form { IfOk result (λ _. has_form keyword.now (value_of argument.now) ≡ true) }
+        ensures shape { IfOk result (λ _. has_shape keyword.now (value_of argument.now) ≡ true) }
         ensures pattern { IfOk result (λ _.
             keyword.now ≡ codes "pattern" → is_pattern (string (value_of argument.now)) ≡ true) }
         ensures refused { IfErr result (IsKeywordFault keyword.now (value_of argument.now)) }

@@ -1,8 +1,8 @@
 //! The values that `enum` lists (JSON Schema Validation, section 6.1.2), kept for a binary search.
 ghost use Rattle.std.specs.Prelude.{◌≡◌, IfOk, map};
+ghost use Rattle.js_assert.specs.code.Choices.{is_among, value_in, IsIndex};
 ghost use Rattle.js_doc.specs.Order.{order};
 ghost use Rattle.js_doc.specs.Seen.{value_of};
-ghost use Rattle.js_assert.specs.code.Choices.{is_among, value_in, IsIndex};
 
 use js_doc::{Doc, Memory};
 use std::alloc::Global;

@@ -1,4 +1,5 @@
 ghost use Rattle.std.specs.Prelude.{◌≡◌};
+ghost use Rattle.js_assert.specs.declared.fault.KeywordFault.TheVariants.{Memory};
 
 use js_doc::Memory;
 use std::alloc::{AllocError, AllocFailed};
@@ -8,7 +9,7 @@ use std::alloc::{AllocError, AllocFailed};
 pub enum KeywordFault {
     /// 1: there was no memory.
     Memory,
-    /// 2: the argument hasn't the form that the keyword asks for.
+    /// 2: the argument doesn't have the shape that the keyword asks for.
     BadKeyword,
     /// 3: the argument of `pattern` is a string that `regex` reads no pattern in, or one that nests too deep.
     NotAPattern,
@@ -17,8 +18,6 @@ pub enum KeywordFault {
 }
 
 impl From<AllocError> for KeywordFault {
-    ghost use Rattle.js_assert.specs.declared.fault.KeywordFault.TheVariants.{Memory};
-
     ghost from_gives = { λ _ e. e ≡ Memory };
 
     fn from(_refused: AllocError) -> KeywordFault {
@@ -27,8 +26,6 @@ impl From<AllocError> for KeywordFault {
 }
 
 impl<T: Drop> From<AllocFailed<T>> for KeywordFault {
-    ghost use Rattle.js_assert.specs.declared.fault.KeywordFault.TheVariants.{Memory};
-
     ghost from_gives = { λ _ e. e ≡ Memory };
 
     fn from(_refused: AllocFailed<T>) -> KeywordFault {
@@ -37,8 +34,6 @@ impl<T: Drop> From<AllocFailed<T>> for KeywordFault {
 }
 
 impl From<Memory> for KeywordFault {
-    ghost use Rattle.js_assert.specs.declared.fault.KeywordFault.TheVariants.{Memory};
-
     ghost from_gives = { λ _ e. e ≡ Memory };
 
     fn from(_refused: Memory) -> KeywordFault {

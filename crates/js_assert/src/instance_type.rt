@@ -1,6 +1,6 @@
 //! The types that `type` can name (JSON Schema Validation, section 6.1.1).
 ghost use Rattle.std.specs.Prelude.{◌≡◌, IfSome, is_some};
-ghost use Rattle.js_assert.specs.Form.{is_type_name};
+ghost use Rattle.js_assert.specs.Shape.{is_type_name};
 ghost use Rattle.std.specs.List.{list_any};
 ghost use Rattle.js_assert.specs.Argument.{strings};
 ghost use Rattle.js_doc.specs.Seen.{value_of};

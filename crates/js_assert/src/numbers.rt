@@ -41,7 +41,7 @@ pub(crate) fn minimum(limit: Whole, value: &Doc) -> bool
     ensures { result ≡ says_by (whole limit) false (value_of value.now) 0 Keyword.Minimum }
 {
     match value {
-        Doc::Whole(number) => limit.value() <= number.value(),
+        Doc::Whole(number) => number.value() >= limit.value(),
         _ => true,
     }
 }
@@ -50,7 +50,7 @@ pub(crate) fn exclusive_minimum(limit: Whole, value: &Doc) -> bool
     ensures { result ≡ says_by (whole limit) false (value_of value.now) 0 Keyword.ExclusiveMinimum }
 {
     match value {
-        Doc::Whole(number) => limit.value() < number.value(),
+        Doc::Whole(number) => number.value() > limit.value(),
         _ => true,
     }
 }

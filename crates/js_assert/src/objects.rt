@@ -1,4 +1,6 @@
 //! The assertions on objects (JSON Schema Validation, section 6.5). A value of another type passes.
+#![tactic(auto, using(crate::proofs::ListedValues::object_rules))]
+
 ghost use Rattle.std.specs.Prelude.{◌≡◌, false, pos, map, length};
 ghost use Rattle.js_doc.specs.Seen.{value_of};
 ghost use Rattle.std.specs.List.{list_all};
@@ -19,7 +21,6 @@ pub(crate) struct Dependence {
     pub(crate) needs: Vec<Text>,
 }
 
-#[tactic(auto, using(crate::proofs::Listed::object_rules))]
 pub(crate) fn max_properties(limit: u64, value: &Doc) -> bool
     ensures { result ≡ says_by (whole (pos limit)) false (value_of value.now) 0 Keyword.MaxProperties }
 {
@@ -29,7 +30,6 @@ pub(crate) fn max_properties(limit: u64, value: &Doc) -> bool
     }
 }
 
-#[tactic(auto, using(crate::proofs::Listed::object_rules))]
 pub(crate) fn min_properties(limit: u64, value: &Doc) -> bool
     ensures { result ≡ says_by (whole (pos limit)) false (value_of value.now) 0 Keyword.MinProperties }
 {
@@ -39,7 +39,6 @@ pub(crate) fn min_properties(limit: u64, value: &Doc) -> bool
     }
 }
 
-#[tactic(auto, using(crate::proofs::Listed::object_rules))]
 pub(crate) fn required(names: &[Text], value: &Doc) -> bool
     ensures { result ≡ says_by (names_value names.now) false (value_of value.now) 0 Keyword.Required }
 {
@@ -88,7 +87,6 @@ fn has_member(members: &Members, name: &Text) -> bool
 }
 
 /// Whether the value is an object with a member of this name.
-#[tactic(auto, using(crate::proofs::Listed::object_rules))]
 pub(crate) fn is_member(value: &Doc, name: &Text) -> bool
     ensures { result ≡ has_name name.now (members_of (value_of value.now)) }
 {
@@ -99,7 +97,6 @@ pub(crate) fn is_member(value: &Doc, name: &Text) -> bool
 }
 
 /// How many members the value has, if it is an object.
-#[tactic(auto, using(crate::proofs::Listed::object_rules))]
 pub(crate) fn member_count(value: &Doc) -> u64
     ensures { result ≡ length (members_of (value_of value.now)) }
 {

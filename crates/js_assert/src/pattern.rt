@@ -38,11 +38,12 @@ impl Drop for Pattern {
 impl Model for Pattern {
     ghost use Rattle.std.specs.Prelude.{ℕ, List};
     ghost use Rattle.regex.specs.Strings.{regex_source};
-    ghost use Rattle.js_assert.specs.Pattern.{IsCompiled};
 
     ghost Value = { List ℕ };
 
     ghost view = { λ p. regex_source p.regex.value };
+
+    ghost use Rattle.js_assert.specs.Pattern.{IsCompiled};
 
     ghost invariant = { λ p. IsCompiled p.regex.value };
 }

@@ -8,8 +8,8 @@ pub mod RankOfName
 pub mod StepsFit
 pub mod EachFound
 pub mod DynamicTargets
-pub mod KeptOfPlaces
-pub mod KeptUnderNumber
+pub mod CheckedPlaces
+pub mod ListedUnderNumber
 pub mod LocationsLent
 pub mod PatternsFound
 pub mod SchemaAtPlace

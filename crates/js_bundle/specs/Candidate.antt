@@ -5,8 +5,8 @@ use Rattle.js_bundle.specs.declared.check.fault.CheckFault.{CheckFault}
 use Rattle.js_bundle.specs.declared.check.fault.CheckFault.TheVariants.{Memory, Refused}
 
 -- A refusal that may come. It is decided if it has to come where none comes before it, and given if it may come or not.
--- Documents that have a given one are accepted only where it is allowed: so they may be where a pattern is too large for
--- `regex`, since no definition says when it is, and they never are where a pattern nests too deep for it.
+-- Documents that have a given one are accepted only where it is allowed: so they may be where a pattern is too large
+-- for `regex`, since no definition says when it is, and they never are where a pattern nests too deep for it.
 pub record Candidate : Type 0 where
   pub refusal : Refusal
   pub decided : Bool

@@ -11,7 +11,7 @@ pub use Rattle.js_places.specs.Target
 pub use Rattle.js_places.specs.Seen
 pub use Rattle.js_places.specs.ResourceNumber
 pub use Rattle.js_places.specs.ResourceTable
-pub mod Form
+pub mod Shape
 pub mod Candidate
 pub mod Refusals
 pub mod Depth

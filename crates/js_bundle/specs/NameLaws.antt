@@ -1,4 +1,5 @@
--- In documents that are accepted a URI names one resource at most, and one place at most (JSON Schema Core, section 8.2).
+-- In documents that are accepted a URI names one resource at most, and one place at most (JSON Schema Core, section
+-- 8.2).
 use Rattle.std.specs.Prelude.{◌≡◌, ℕ, true, Some}
 use Rattle.url.specs.Parts.{Parts}
 use Rattle.js_bundle.specs.Candidate.{IsClear}
@@ -18,7 +19,8 @@ AreOne documents Is =
 -- one root of a resource has a URI
 abbrev pub NamesOneResource : Type 0
 NamesOneResource =
-    (documents : Documents) → IsClear (candidates documents) → (uri : Text) → AreOne documents (λ place. is_known_as uri place ≡ true)
+    (documents : Documents) → IsClear (candidates documents) → (uri : Text)
+    → AreOne documents (λ place. is_known_as uri place ≡ true)
 
 -- one place has a URI, whether by a pointer or by an anchor
 abbrev pub NamesOnePlace : Type 0

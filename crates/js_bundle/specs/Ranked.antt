@@ -44,8 +44,8 @@ applies_at name.Properties = is_name
 applies_at name.PatternProperties = is_name
 applies_at _ = is_none
 
--- this is the argument's schema at the step: the only one, the item of a list with the index, or the member of an object
--- with the name and this rank among all
+-- this is the argument's schema at the step: the only one, the item of a list with the index, or the member of an
+-- object with the name and this rank among all
 abbrev pub IsAtRank : Step → ℕ → Value → Value → Type 0
 IsAtRank Alone r l u = (l ≡ u) × (r ≡ 0)
 IsAtRank (Index i) r l u = (slice_get (items_in l) i ≡ Some u) × (r ≡ i)
@@ -53,4 +53,5 @@ IsAtRank (Name n) r l u = slice_get (members_of l) r ≡ Some (n, u)
 
 -- the keyword of this schema holds a schema at the step
 abbrev pub HoldsAtRank : Value → Text → Step → ℕ → Value → Type 0
-HoldsAtRank schema k step r u = (applies_at (keyword_name k) step ≡ true) × ((l : Value) × (argument k schema ≡ Some l) × IsAtRank step r l u)
+HoldsAtRank schema k step r u = (applies_at (keyword_name k) step ≡ true)
+    × ((l : Value) × (argument k schema ≡ Some l) × IsAtRank step r l u)

@@ -1,17 +1,21 @@
 -- What is refused, in order (JSON Schema Core, sections 4.3, 8 and 9.1): first each place with its keywords, then each
 -- reference. Each rule is a line.
-use Rattle.std.specs.Prelude.{◌≡◌, ℕ, List, [], ◌∷◌, ◌++◌, length, Bool, true, false, not, ◌&&◌, ◌||◌, Option, Some, None, is_none, Ok, Err, nat_lt, nat_le, codes, bytes_eq, flat_map, ◌⊎◌, if◌then◌else◌}
+use Rattle.std.specs.Prelude.{◌≡◌, ℕ, List, [], ◌∷◌, ◌++◌, length, Bool, true, false, not, ◌&&◌, ◌||◌, Option, Some}
+use Rattle.std.specs.Prelude.{None, is_none, Ok, Err, nat_lt, nat_le, codes, bytes_eq, flat_map, ◌⊎◌, if◌then◌else◌}
 use Rattle.std.specs.List.{list_any}
 use Rattle.url.specs.Parts.{Parts}
 use Rattle.url.specs.Parser.{Parsed, parse_url}
 use Rattle.js_doc.specs.Pointer.{Tokens}
 use Rattle.js_doc.specs.Value.{Value, text}
 use Rattle.js_doc.specs.Parts.{members_of}
-use Rattle.js_assert.specs.Form as assertion
+use Rattle.js_assert.specs.Shape as assertion
 use Rattle.js_assert.specs.Pattern.{is_in_grammar, nests_too_deep}
 use Rattle.js_bundle.specs.declared.refusal.Refusal.{Refusal}
 use Rattle.js_bundle.specs.declared.refusal.RefusalKind.{RefusalKind}
-use Rattle.js_bundle.specs.declared.refusal.RefusalKind.TheVariants.{Memory, UriTooLong, NotASchema, BadKeyword, BadPattern, PatternTooLarge, BadId, BadAnchor, UnknownDialect, DuplicateUri, DuplicateAnchor, TooManyPlaces, BadReference, Unresolved}
+use Rattle.js_bundle.specs.declared.refusal.RefusalKind.TheVariants.{Memory, UriTooLong, NotASchema, BadKeyword}
+use Rattle.js_bundle.specs.declared.refusal.RefusalKind.TheVariants.{BadPattern, PatternTooLarge, BadId, BadAnchor}
+use Rattle.js_bundle.specs.declared.refusal.RefusalKind.TheVariants.{UnknownDialect, DuplicateUri, DuplicateAnchor}
+use Rattle.js_bundle.specs.declared.refusal.RefusalKind.TheVariants.{TooManyPlaces, BadReference, Unresolved}
 use Rattle.js_bundle.specs.declared.check.fault.CheckFault.{CheckFault}
 use Rattle.js_bundle.specs.declared.check.fault.CheckFault.TheVariants as fault
 use Rattle.js_bundle.specs.Candidate.{Candidate, IsFirst, decided_in}
@@ -20,7 +24,7 @@ use Rattle.js_places.specs.Keyword.{Text, text_argument}
 use Rattle.js_places.specs.Url.{is_empty, longest_uri, without_fragment, printed, raw_fragment, decoded_fragment}
 use Rattle.js_places.specs.Resource.{Site, sites}
 use Rattle.js_places.specs.Names.{is_root, is_known_as, belongs_to, makes, is_read, named, is_anchor_name}
-use Rattle.js_bundle.specs.Form.{is_schema, is_formed}
+use Rattle.js_bundle.specs.Shape.{is_schema, is_shaped}
 
 -- ---- a line of the list
 
@@ -32,7 +36,8 @@ abbrev pub decided : Site → Tokens → RefusalKind → List Candidate
 decided place further kind = record { refusal = refusal_at place further kind; decided = true; allowed = false } ∷ []
 
 abbrev pub given : Bool → Site → Tokens → RefusalKind → List Candidate
-given allowed place further kind = record { refusal = refusal_at place further kind; decided = false; allowed = allowed } ∷ []
+given allowed place further kind =
+    record { refusal = refusal_at place further kind; decided = false; allowed = allowed } ∷ []
 
 abbrev pub when : Bool → List Candidate → List Candidate
 when condition candidates = if condition then candidates else []
@@ -52,7 +57,8 @@ is_taken before uri = list_any (is_known_as (printed uri)) before
 -- a place before, in the same resource, has this name, by whichever keyword
 abbrev pub is_made : List Site → Site → Text → Bool
 is_made before place name =
-    list_any (λ t. belongs_to place.document place.own.resource t && (makes (codes "$anchor") name t || makes (codes "$dynamicAnchor") name t)) before
+    list_any (λ t. belongs_to place.document place.own.resource t
+    && (makes (codes "$anchor") name t || makes (codes "$dynamicAnchor") name t)) before
 
 -- of a place itself
 abbrev pub at_place : List Site → Site → List Candidate
@@ -65,7 +71,8 @@ at_place before place =
 abbrev pub at_joined_id : List Site → Site → Tokens → Parsed Parts → List Candidate
 at_joined_id before place further (Err fault) = decided place further BadId
 at_joined_id before place further (Ok uri) =
-    if is_empty (raw_fragment uri) then when (is_taken before (without_fragment uri)) (decided place further DuplicateUri) else decided place further BadId
+    if is_empty (raw_fragment uri) then when (is_taken before (without_fragment uri))
+    (decided place further DuplicateUri) else decided place further BadId
 
 abbrev pub at_id : List Site → Site → Tokens → Text → List Candidate
 at_id before place further t =
@@ -75,11 +82,13 @@ at_id before place further t =
 -- of an anchor of either kind (section 8.2.2)
 abbrev pub at_anchor : List Site → Site → Tokens → Text → List Candidate
 at_anchor before place further name =
-    if is_anchor_name name then when (is_made before place name) (decided place further DuplicateAnchor) else decided place further BadAnchor
+    if is_anchor_name name then when (is_made before place name) (decided place further DuplicateAnchor) else decided
+    place further BadAnchor
 
 -- of `$schema` (section 8.1.1): one dialect is served
 abbrev pub is_dialect : Text → Bool
-is_dialect t = bytes_eq t (codes "https://json-schema.org/draft/2020-12/schema") || bytes_eq t (codes "https://json-schema.org/draft/2020-12/schema#")
+is_dialect t = bytes_eq t (codes "https://json-schema.org/draft/2020-12/schema")
+    || bytes_eq t (codes "https://json-schema.org/draft/2020-12/schema#")
 
 abbrev pub at_dialect : Site → Tokens → Text → List Candidate
 at_dialect place further t = when (not (is_dialect t)) (decided place further UnknownDialect)
@@ -88,17 +97,18 @@ abbrev pub on_text : (Text → List Candidate) → Value → List Candidate
 on_text rule (text t) = rule t
 on_text rule _ = []
 
--- Of a pattern: one that the grammar of `regex` doesn't read is refused. So is one that nests too deep, then or later, and
--- one that is too large may be.
+-- Of a pattern: one that the grammar of `regex` doesn't read is refused. So is one that nests too deep, then or later,
+-- and one that is too large may be.
 abbrev pub at_pattern : Site → Tokens → Text → List Candidate
 at_pattern place further t =
-    if is_in_grammar t then (if nests_too_deep t then given false place further BadPattern else given true place further PatternTooLarge)
+    if is_in_grammar t then (if nests_too_deep t then given false place further BadPattern else given true place
+    further PatternTooLarge)
     else decided place further BadPattern
 
--- of an assertion: the form of its argument, and of `pattern` its pattern (JSON Schema Validation, section 6)
+-- of an assertion: the shape of its argument, and of `pattern` its pattern (JSON Schema Validation, section 6)
 abbrev pub assertion_rules : Site → Text → Value → List Candidate
 assertion_rules place k argument =
-    when (not (assertion.has_form k argument)) (decided place (k ∷ []) BadKeyword)
+    when (not (assertion.has_shape k argument)) (decided place (k ∷ []) BadKeyword)
     ++ (if is k (codes "pattern") then on_text (at_pattern place (k ∷ [])) argument else [])
 
 -- of a text argument, by its keyword's name
@@ -112,12 +122,13 @@ text_rules before place k t =
 -- of `patternProperties`: its names are patterns (section 10.3.2.2)
 abbrev pub name_rules : Site → Text → Value → List Candidate
 name_rules place k argument =
-    if is k (codes "patternProperties") then flat_map (λ n. at_pattern place (k ∷ n.0 ∷ []) n.0) (members_of argument) else []
+    if is k (codes "patternProperties") then flat_map (λ n. at_pattern place (k ∷ n.0 ∷ []) n.0)
+    (members_of argument) else []
 
--- of a keyword, its form first
+-- of a keyword, its shape first
 abbrev pub at_member : List Site → Site → Text × Value → List Candidate
 at_member before place m =
-    when (not (is_formed m.0 m.1)) (decided place (m.0 ∷ []) BadKeyword)
+    when (not (is_shaped m.0 m.1)) (decided place (m.0 ∷ []) BadKeyword)
     ++ (assertion_rules place m.0 m.1 ++ (on_text (text_rules before place m.0) m.1 ++ name_rules place m.0 m.1))
 
 -- of a place and its keywords
@@ -133,7 +144,8 @@ first_pass before (place ∷ rest) = at_site before place ++ first_pass (before 
 abbrev pub at_joined_reference : List Site → Site → Tokens → Parsed Parts → List Candidate
 at_joined_reference all place further (Err fault) = decided place further BadReference
 at_joined_reference all place further (Ok uri) =
-    if is_read (decoded_fragment uri) then when (is_none (named all uri)) (decided place further Unresolved) else decided place further BadReference
+    if is_read (decoded_fragment uri) then when (is_none (named all uri)) (decided place further Unresolved) else
+    decided place further BadReference
 
 abbrev pub at_reference_text : List Site → Site → Tokens → Option Text → List Candidate
 at_reference_text all place further None = []
@@ -159,7 +171,7 @@ candidates documents = first_pass [] (sites documents) ++ second_pass (sites doc
 abbrev pub refusals : Documents → List Refusal
 refusals documents = decided_in (candidates documents)
 
--- want of memory is told of no place
+-- want of memory is recorded of no place
 abbrev pub no_memory : Refusal
 no_memory = record { document = 0; place = []; kind = Memory }
 
@@ -169,7 +181,7 @@ IsRefusalOf documents r = (r ≡ no_memory) ⊎ IsFirst (candidates documents) r
 
 -- ---- words for the parts
 
--- the refusal that is told of a check's fault
+-- the refusal that is recorded of a check's fault
 abbrev pub refusal_of : CheckFault → Refusal
 refusal_of fault.Memory = no_memory
 refusal_of (fault.Refused r) = r

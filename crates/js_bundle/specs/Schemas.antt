@@ -1,5 +1,7 @@
--- What is asked of finished schemas. A place is told by its number in scan order.
-use Rattle.std.specs.Prelude.{◌≡◌, ℕ, ◌+◌, ◌<◌, List, [], ◌∷◌, ◌++◌, Bool, true, false, Option, Some, None, option_and_then, option_map, find, decimal, bytes_eq, slice_get, length, map, Ok, Err, codes, if◌then◌else◌}
+-- What is asked of finished schemas. A place is recorded by its number in scan order.
+use Rattle.std.specs.Prelude.{◌≡◌, ℕ, ◌+◌, ◌<◌, List, [], ◌∷◌, ◌++◌, Bool, true, false, Option, Some}
+use Rattle.std.specs.Prelude.{None, option_and_then, option_map, find, decimal, bytes_eq, slice_get}
+use Rattle.std.specs.Prelude.{length, map, Ok, Err, codes, if◌then◌else◌}
 use Rattle.std.specs.Borrow.{Bor}
 use Rattle.std.specs.List.{range_with_len}
 use Rattle.std.specs.Option.{option_map_or}
@@ -67,12 +69,14 @@ step_tokens (Name name) = name ∷ []
 -- the place that a keyword of a place holds at the step
 abbrev pub below : Documents → Site → Text → Step → Option Site
 below documents place keyword step =
-    if fits (holding keyword) step then find (stands_at place.document (place.pointer ++ keyword ∷ step_tokens step)) (sites documents) else None
+    if fits (holding keyword) step then find (stands_at place.document (place.pointer ++ keyword ∷ step_tokens step))
+    (sites documents) else None
 
 -- the keyword of this schema holds a schema at the step
 abbrev pub Holds : Value → Text → Step → Value → Type 0
 Holds schema k Alone u = (holding k ≡ One) × (argument k schema ≡ Some u)
-Holds schema k (Index i) u = (holding k ≡ Listed) × ((l : Value) × (argument k schema ≡ Some l) × (slice_get (items_in l) i ≡ Some u))
+Holds schema k (Index i) u = (holding k ≡ Listed)
+    × ((l : Value) × (argument k schema ≡ Some l) × (slice_get (items_in l) i ≡ Some u))
 Holds schema k (Name n) u = (holding k ≡ Named) × ((l : Value) × (argument k schema ≡ Some l) × (argument n l ≡ Some u))
 
 -- a place is found, and this schema stands there
@@ -84,11 +88,13 @@ FindsSchema documents (Some n) u = (place : Site) × (place_at documents n ≡ S
 
 -- the assertion of a keyword of the place, if it has that keyword and it is one
 abbrev pub assertion : Text → Site → Option Asserted
-assertion keyword place = option_and_then (λ v. asserted keyword v (members_of place.schema)) (argument keyword place.schema)
+assertion keyword place =
+    option_and_then (λ v. asserted keyword v (members_of place.schema)) (argument keyword place.schema)
 
 -- the pattern of this name among the `patternProperties` of the place; a pattern is seen as its text
 abbrev pub pattern : Text → Site → Option Text
-pattern name place = option_and_then (λ v. option_map (λ u. name) (argument name v)) (argument (codes "patternProperties") place.schema)
+pattern name place = option_and_then (λ v. option_map (λ u. name) (argument name v))
+    (argument (codes "patternProperties") place.schema)
 
 -- ---- where a judgement begins (section 9.2.1)
 
@@ -131,15 +137,15 @@ abbrev pub numbered : {A B : Type 0} → (ℕ → A → List B) → ℕ → List
 numbered f n [] = []
 numbered f n (x ∷ xs) = f n x ++ numbered f (n + 1) xs
 
--- a document's URI and its root's base are told once, if they are the same
-abbrev pub told_once : List Text → List Text
-told_once [] = []
-told_once (uri ∷ []) = uri ∷ []
-told_once (uri ∷ base ∷ more) = if bytes_eq uri base then uri ∷ [] else uri ∷ base ∷ []
+-- a document's URI and its root's base are recorded once, if they are the same
+abbrev pub stated_once : List Text → List Text
+stated_once [] = []
+stated_once (uri ∷ []) = uri ∷ []
+stated_once (uri ∷ base ∷ more) = if bytes_eq uri base then uri ∷ [] else uri ∷ base ∷ []
 
 -- the URIs of all resources, each with the number of its root
 abbrev pub resources_at : ℕ → Site → List (Text × ℕ)
-resources_at n place = map (λ uri. (uri, n)) (told_once (known_as place))
+resources_at n place = map (λ uri. (uri, n)) (stated_once (known_as place))
 
 abbrev pub resources : Documents → List (Text × ℕ)
 resources documents = numbered resources_at 0 (sites documents)

@@ -1,5 +1,5 @@
 -- What only private functions speak of: no public clause cites it.
 pub mod Leads
-pub mod KeptSite
+pub mod CheckedSite
 pub mod Patterns
 pub mod PlaceBelow

@@ -73,7 +73,7 @@ impl Bundle {
     /// In this order: `TooManyDocuments`, if there are 1,000 already; `UriTooLong`, if the URI has more than
     /// 65,536 bytes; `BadUri`, if it is no absolute URL, or has a fragment that isn't empty; `NotJson`;
     /// `NotWhole`, at the first number that isn't whole; `Memory` at any point. The refusal's document is the
-    /// number of documents held. The bundle is as it was.
+    /// number of documents added before. The bundle is as it was.
     pub fn add(&mut self, uri: &str, bytes: &[u8]) -> Result<(), Refusal>
         ensures ok { OnOk result (IsAdded self.old uri.now bytes.now self.new) }
         ensures refused { IfErr result (IsRefusedBy (length self.old) uri.now bytes.now) }
@@ -133,9 +133,9 @@ impl Bundle {
         ensures back { IfErr result (λ p. p.1 ≡ self) }
     {
         match check_whole(alloc, self.documents.as_slice()) {
-            Ok(kept) => Ok(Schemas {
+            Ok(checked) => Ok(Schemas {
                 documents: self.into_documents(),
-                kept,
+                checked,
             }),
             Err(fault) => Err((refusal_of(alloc, fault), self)),
         }
@@ -196,43 +196,51 @@ fn append(documents: &mut Vec<Document>, document: Document) -> Result<(), (Refu
         (λ p. p.0 ≡ record { document = length documents.old.items; place = []; kind = Memory }) }
     ensures back { IfErr result (λ p. p.1 ≡ document) }
 {
-    let held = documents.len();
+    let earlier = documents.len();
     let alloc = *documents.allocator();
     match documents.push(document) {
         Ok(()) => Ok(()),
-        Err(failed) => Err((refusal_with(alloc, held, RefusalKind::Memory), failed.value)),
+        Err(failed) => Err((
+            refusal_with(alloc, earlier, RefusalKind::Memory),
+            failed.value,
+        )),
     }
 }
 
 // The document, unless there are too many already.
-fn read_document(alloc: Global, held: usize, uri: &str, bytes: &[u8]) -> Result<Document, Refusal>
-    ensures ok { IfOk result (λ d. IsTaken held uri.now bytes.now (document_of d)) }
+fn read_document(
+    alloc: Global,
+    earlier: usize,
+    uri: &str,
+    bytes: &[u8],
+) -> Result<Document, Refusal>
+    ensures ok { IfOk result (λ d. IsTaken earlier uri.now bytes.now (document_of d)) }
     ensures ascends { IfOk result (λ d. NamesAscend (value_of d.root)) }
     ensures short { IfOk result (λ d. IsShort (value_of d.root)) }
-    ensures err { IfErr result (IsRefusedBy held uri.now bytes.now) }
+    ensures err { IfErr result (IsRefusedBy earlier uri.now bytes.now) }
 {
-    let uri = checked_uri(alloc, held, uri)?;
+    let uri = checked_uri(alloc, earlier, uri)?;
     match read(alloc, bytes) {
         Ok(root) => Ok(Document { uri, root }),
-        Err(fault) => Err(unread(alloc, held, fault)),
+        Err(fault) => Err(unread(alloc, earlier, fault)),
     }
 }
 
 // A document's URI, unless there are too many documents already.
-fn checked_uri(alloc: Global, held: usize, uri: &str) -> Result<Url, Refusal>
-    ensures ok { IfOk result (λ u. IsUnder held uri.now u) }
-    ensures err { IfErr result (IsUriRefusedBy held uri.now) }
+fn checked_uri(alloc: Global, earlier: usize, uri: &str) -> Result<Url, Refusal>
+    ensures ok { IfOk result (λ u. IsUnder earlier uri.now u) }
+    ensures err { IfErr result (IsUriRefusedBy earlier uri.now) }
 {
-    if MOST_DOCUMENTS <= held {
-        return Err(refusal_with(alloc, held, RefusalKind::TooManyDocuments));
+    if MOST_DOCUMENTS <= earlier {
+        return Err(refusal_with(alloc, earlier, RefusalKind::TooManyDocuments));
     }
     if LONGEST < uri.len() {
-        return Err(refusal_with(alloc, held, RefusalKind::UriTooLong));
+        return Err(refusal_with(alloc, earlier, RefusalKind::UriTooLong));
     }
     match parsed_uri(alloc, uri) {
         Ok(uri) => Ok(uri),
-        Err(UriFault::Memory) => Err(refusal_with(alloc, held, RefusalKind::Memory)),
-        Err(UriFault::Bad) => Err(refusal_with(alloc, held, RefusalKind::BadUri)),
+        Err(UriFault::Memory) => Err(refusal_with(alloc, earlier, RefusalKind::Memory)),
+        Err(UriFault::Bad) => Err(refusal_with(alloc, earlier, RefusalKind::BadUri)),
     }
 }
 

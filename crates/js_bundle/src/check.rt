@@ -16,37 +16,37 @@ ghost use Rattle.js_places.specs.Resource.{sites};
 ghost use Rattle.js_places.specs.ResourceTable.{AreRooted, IsResourceTable};
 ghost use Rattle.js_places.specs.code.Scan.{site_of};
 ghost use Rattle.js_places.specs.Seen.{document_of, AreRead};
-ghost use Rattle.js_places.specs.code.KeptLocation.{kept_location};
-ghost use Rattle.js_bundle.specs.code.KeptSite.{kept_site, kept_site_of};
+ghost use Rattle.js_places.specs.code.StoredLocation.{stored_location};
+ghost use Rattle.js_bundle.specs.code.CheckedSite.{checked_site, checked_site_of};
 
 pub(crate) mod assertions_and_patterns;
+pub(crate) mod checked_site;
 pub(crate) mod fault;
 pub(crate) mod first_pass;
-pub(crate) mod kept_site;
 pub(crate) mod lookup;
 pub(crate) mod references;
 pub(crate) mod rules;
 
 use crate::check::assertions_and_patterns::BuiltTable;
+use crate::check::checked_site::{CheckedSite, checked_sites_of};
 use crate::check::fault::CheckFault;
 use crate::check::first_pass::{Passed, first_pass};
-use crate::check::kept_site::{KeptSite, kept_sites_of};
 use crate::check::lookup::Lookup;
 use crate::check::references::{References, resolve_all};
 use js_places::{
-    Document, Edges, Index, KeptLocation, KeywordTable, Resources, Site, edges_in, resources_of,
+    Document, Edges, Index, KeywordTable, Resources, Site, StoredLocation, edges_in, resources_of,
     scan_all,
 };
 use std::alloc::Global;
 
 /// What is kept of checked documents, place by place.
 pub(crate) struct Checked {
-    pub(crate) sites: Vec<KeptSite>,
+    pub(crate) sites: Vec<CheckedSite>,
     pub(crate) built: BuiltTable,
     pub(crate) keywords: KeywordTable,
     pub(crate) references: References,
     /// The absolute location of each.
-    pub(crate) locations: Vec<KeptLocation>,
+    pub(crate) locations: Vec<StoredLocation>,
     pub(crate) index: Index,
     pub(crate) resources: Resources,
     /// What each place holds.
@@ -115,8 +115,8 @@ fn look_up(
 pub(crate) fn check_whole(alloc: Global, documents: &[Document]) -> Result<Checked, CheckFault>
     requires { AreRead (map document_of documents.now) }
     ensures clear { OnOk result (IsClear (candidates (map document_of documents.now))) }
-    ensures kept_sites { IfOk result
-        (λ c. map kept_site_of c.sites.items ≡ map kept_site (sites (map document_of documents.now))) }
+    ensures checked_sites { IfOk result
+        (λ c. map checked_site_of c.sites.items ≡ map checked_site (sites (map document_of documents.now))) }
     ensures assertions { IfOk result (λ c. ArePartsByPlace assertions_at (sites (map document_of documents.now))
         c.built.all.assertions.items c.built.assertion_ends.items) }
     ensures patterns { IfOk result (λ c. ArePartsByPlace patterns_at (sites (map document_of documents.now))
@@ -129,7 +129,7 @@ pub(crate) fn check_whole(alloc: Global, documents: &[Document]) -> Result<Check
         (number_of_target (sites (map document_of documents.now)) (codes "$ref"))
         (sites (map document_of documents.now))) }
     ensures locations { IfOk result (λ c. c.locations.items
-        ≡ map kept_location (sites (map document_of documents.now))) }
+        ≡ map stored_location (sites (map document_of documents.now))) }
     ensures index { IfOk result (λ c. IsIndexOf c.index (sites (map document_of documents.now))) }
     ensures resources { IfOk result
         (λ c. IsResourceTable c.resources (sites (map document_of documents.now))) }
@@ -140,7 +140,7 @@ pub(crate) fn check_whole(alloc: Global, documents: &[Document]) -> Result<Check
     let passed = first_pass(alloc, sites.as_slice())?;
     let found = look_up(alloc, documents, sites.as_slice(), &passed)?;
     Ok(Checked {
-        sites: kept_sites_of(alloc, sites)?,
+        sites: checked_sites_of(alloc, sites)?,
         built: passed.built,
         keywords: passed.keywords,
         references: found.references,

@@ -28,7 +28,7 @@ pub enum RefusalKind {
     UriTooLong,
     /// A schema is neither an object nor a boolean (Core, section 4.3).
     NotASchema,
-    /// A keyword's argument hasn't its form.
+    /// A keyword doesn't take its argument.
     BadKeyword,
     /// A text is no pattern.
     BadPattern,
@@ -36,7 +36,7 @@ pub enum RefusalKind {
     PatternTooLarge,
     /// An `$id` can't be joined, or has a fragment that isn't empty (Core, section 8.2.1).
     BadId,
-    /// The name of an `$anchor` or a `$dynamicAnchor` hasn't its form (Core, section 8.2.2).
+    /// The name of an `$anchor` or a `$dynamicAnchor` isn't well formed (Core, section 8.2.2).
     BadAnchor,
     /// The `$schema` is of another dialect (Core, section 8.1.1).
     UnknownDialect,

@@ -6,27 +6,27 @@ ghost use Rattle.js_places.specs.Location.{absolute_location, canonical, locatio
 ghost use Rattle.js_places.specs.PlaceNumber.{is_place, place_at};
 ghost use Rattle.js_bundle.specs.Schemas.{place_numbers};
 ghost use Rattle.js_places.specs.Seen.{document_of};
-ghost use Rattle.js_bundle.specs.code.KeptSite.{kept_site, kept_site_of};
+ghost use Rattle.js_bundle.specs.code.CheckedSite.{checked_site, checked_site_of};
 
 use crate::check::Checked;
-use crate::check::kept_site::KeptSite;
+use crate::check::checked_site::CheckedSite;
 use crate::place::Place;
 use js_doc::{Doc, Memory, Pointer};
 use js_places::{Document, absolute_location, uri};
 use std::alloc::Global;
 use std::marker::Model;
 
-/// Schema documents that are checked: every keyword has its form, and every reference its target. Contracts see them as
-/// their documents, and a place as its number in scan order.
+/// Schema documents that are checked: every keyword takes its argument, and every reference has its target. Contracts
+/// see them as their documents, and a place as its number in scan order.
 pub struct Schemas {
     pub(crate) documents: Vec<Document>,
-    pub(crate) kept: Checked,
+    pub(crate) checked: Checked,
 }
 
 // By hand, so that it is proved here alone, and crates that own schemas call it.
 impl Drop for Schemas {
     fn drop(self) {
-        let Schemas { documents, kept } = self;
+        let Schemas { documents, checked } = self;
     }
 }
 
@@ -43,7 +43,7 @@ impl Model for Schemas {
 
     ghost view = { λ s. map document_of s.documents.items };
 
-    ghost invariant = { λ s. IsCheckOf (map document_of s.documents.items) s.kept };
+    ghost invariant = { λ s. IsCheckOf (map document_of s.documents.items) s.checked };
 }
 
 impl Schemas {
@@ -51,23 +51,26 @@ impl Schemas {
     pub fn has(&self, place: Place) -> bool
         ensures { result ≡ is_place self.now place }
     {
-        place.number < self.kept.sites.len()
+        place.number < self.checked.sites.len()
     }
 
     // The documents alone.
     pub(crate) fn into_documents(self) -> Vec<Document>
         ensures { map document_of result.items ≡ self }
     {
-        let Schemas { documents, kept: _ } = self;
+        let Schemas {
+            documents,
+            checked: _,
+        } = self;
         documents
     }
 
     // What is kept of a place.
-    pub(crate) fn kept_site(&self, place: Place) -> &KeptSite
+    pub(crate) fn checked_site(&self, place: Place) -> &CheckedSite
         requires { is_place self.now place ≡ true }
-        ensures { option_map kept_site (place_at self.now place) ≡ Some (kept_site_of result.now) }
+        ensures { option_map checked_site (place_at self.now place) ≡ Some (checked_site_of result.now) }
     {
-        &self.kept.sites[place.number]
+        &self.checked.sites[place.number]
     }
 
     /// The number of the place's document, the first one's 0.
@@ -75,7 +78,7 @@ impl Schemas {
         requires { is_place self.now place ≡ true }
         ensures { option_map (λ s. s.document) (place_at self.now place) ≡ Some result }
     {
-        self.kept_site(place).document
+        self.checked_site(place).document
     }
 
     /// Where in its document the place stands.
@@ -83,7 +86,7 @@ impl Schemas {
         requires { is_place self.now place ≡ true }
         ensures { option_map (λ s. s.pointer) (place_at self.now place) ≡ Some result.now }
     {
-        &self.kept_site(place).pointer
+        &self.checked_site(place).pointer
     }
 
     /// The schema that stands at the place.
@@ -91,7 +94,7 @@ impl Schemas {
         requires { is_place self.now place ≡ true }
         ensures { option_map (λ s. s.schema) (place_at self.now place) ≡ Some (value_of result.now) }
     {
-        let site = self.kept_site(place);
+        let site = self.checked_site(place);
         let root = &self.documents[site.document].root;
         match root.at_with_hint(&site.pointer, site.rank as usize) {
             Some(schema) => schema,
@@ -104,7 +107,7 @@ impl Schemas {
         requires { is_place self.now place ≡ true }
         ensures { option_map canonical (place_at self.now place) ≡ Some result.now }
     {
-        uri::printed(&self.kept_site(place).own.base)
+        uri::printed(&self.checked_site(place).own.base)
     }
 
     /// The absolute location of the place, or of a keyword of it (JSON Schema Core, section 12.3.2): the canonical URI
@@ -122,7 +125,7 @@ impl Schemas {
         ensures { IfOk result (λ t. option_map (λ s. absolute_location s (tokens_of keyword.entry))
             (place_at self.now place) ≡ Some (string_bytes t)) }
     {
-        let site = self.kept_site(place);
+        let site = self.checked_site(place);
         absolute_location(alloc, &site.own, &site.pointer, keyword)
     }
 
@@ -132,9 +135,9 @@ impl Schemas {
         requires { is_place self.now place ≡ true }
         ensures { option_map location (place_at self.now place) ≡ Some (result.0.now ++ result.1.now) }
     {
-        let kept = &self.kept.locations[place.number];
-        let text = kept.text.as_str();
-        if kept.is_fragment {
+        let location = &self.checked.locations[place.number];
+        let text = location.text.as_str();
+        if location.is_fragment {
             (self.resource(place), text)
         } else {
             (text, "")
@@ -150,7 +153,7 @@ impl Schemas {
         ensures { IfOk result (λ v. v.items ≡ place_numbers self.now) }
     {
         let mut places = Vec::new(alloc);
-        for number in 0..self.kept.sites.len() {
+        for number in 0..self.checked.sites.len() {
             places.push(Place { number })?;
         }
         Ok(places)

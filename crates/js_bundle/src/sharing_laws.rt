@@ -2,12 +2,12 @@
 ghost use Rattle.std.specs.Thread.{IsSend, IsSync};
 ghost use Rattle.js_bundle.specs.contracts.schemas.Schemas as Finished;
 
-use crate::check::kept_site::KeptSite;
+use crate::check::checked_site::CheckedSite;
 use crate::check::references::References;
 use crate::schemas::Schemas;
 use js_assert::sharing_laws::{assertions_cross, patterns_cross};
 use js_doc::Text;
-use js_places::{Document, Edges, Index, KeptLocation, KeywordTable, Resources};
+use js_places::{Document, Edges, Index, KeywordTable, Resources, StoredLocation};
 use std::sync::Arc;
 
 /// Schemas may be sent to another thread, and shared by several.
@@ -18,12 +18,12 @@ pub fn schemas_cross()
     assertions_cross();
     patterns_cross();
     crosses::<Vec<Document>>();
-    crosses::<Vec<KeptSite>>();
+    crosses::<Vec<CheckedSite>>();
     crosses::<Text>();
     crosses::<Vec<usize>>();
     crosses::<KeywordTable>();
     crosses::<References>();
-    crosses::<Vec<KeptLocation>>();
+    crosses::<Vec<StoredLocation>>();
     crosses::<Index>();
     crosses::<Resources>();
     crosses::<Vec<Edges>>();

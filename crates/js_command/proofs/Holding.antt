@@ -1,35 +1,48 @@
 -- Documents and the files that hold them, one after another.
-use Rattle.std.proofs.Common.{◌≡◌, ℕ, ◌+◌, ◌<◌, ◌≤◌, List, [], ◌∷◌, ◌++◌, length, get_or, drop, refl, sym, ap, ◌∙◌, subst, append_assoc}
+use Rattle.std.proofs.Common.{◌≡◌, ℕ, ◌+◌, ◌<◌, ◌≤◌, List, [], ◌∷◌, ◌++◌, length, get_or, drop}
+use Rattle.std.proofs.Common.{refl, sym, ap, ◌∙◌, subst, append_assoc}
 use Rattle.std.proofs.lemmas.List.{append-nil, drop_all, drop_more}
 use Rattle.js_output.specs.Device.{IsLeft, input_limit}
 use Rattle.js_output.specs.Documents.{DocumentTexts}
-use Rattle.js_command.specs.Answer.{AreHeld}
-use Rattle.js_command.specs.Files.{HeldByPath}
+use Rattle.js_command.specs.Answer.{AreContents}
+use Rattle.js_command.specs.Files.{ContentsByPath}
 use Rattle.js_command.specs.code.Tasks.{pairs_seen}
 use Rattle.js_command.specs.declared.words.DocumentFile.{DocumentFile}
 
 -- whatever documents the rest holds, these stand before them
-abbrev pub HoldsSoFar : HeldByPath → List DocumentFile → ℕ → DocumentTexts → Type 0
-HoldsSoFar held documents at taken = (rest : DocumentTexts) → AreHeld held (pairs_seen (drop at documents)) rest → AreHeld held (pairs_seen documents) (taken ++ rest)
+abbrev pub HoldsSoFar : ContentsByPath → List DocumentFile → ℕ → DocumentTexts → Type 0
+HoldsSoFar contents documents at taken = (rest : DocumentTexts)
+    → AreContents contents (pairs_seen (drop at documents)) rest
+    → AreContents contents (pairs_seen documents) (taken ++ rest)
 
-pub holds_none : (held : HeldByPath) (documents : List DocumentFile) → HoldsSoFar held documents 0 []
-holds_none held documents = λ rest h. h
+pub holds_none : (contents : ContentsByPath) (documents : List DocumentFile) → HoldsSoFar contents documents 0 []
+holds_none contents documents = λ rest h. h
 
-pub holds_more : (held : HeldByPath) (documents : List DocumentFile) (at : ℕ) (d : DocumentFile) (text : List ℕ) (taken more : DocumentTexts) → at < length documents
-    → IsLeft (held (get_or documents at d).file.now) text → length text ≤ input_limit → more ≡ taken ++ ((get_or documents at d).uri.now, text) ∷ []
-    → HoldsSoFar held documents at taken → HoldsSoFar held documents (at + 1) more
-holds_more held documents at d text taken more within is few grows h = λ rest left.
+pub holds_more : (contents : ContentsByPath) (documents : List DocumentFile) (at : ℕ) (d : DocumentFile) (text : List ℕ)
+    (taken more : DocumentTexts) → at < length documents
+    → IsLeft (contents (get_or documents at d).file.now) text → length text ≤ input_limit
+    → more ≡ taken ++ ((get_or documents at d).uri.now, text) ∷ []
+    → HoldsSoFar contents documents at taken → HoldsSoFar contents documents (at + 1) more
+holds_more contents documents at d text taken more within is few grows h = λ rest left.
     let here = get_or documents at d in
-    let next : AreHeld held (pairs_seen (drop at documents)) ((here.uri.now, text) ∷ rest) =
-    subst (λ ds. AreHeld held (pairs_seen ds) ((here.uri.now, text) ∷ rest)) (sym (drop_more documents at d within)) (refl, is, few, left) in
-    subst (λ ds. AreHeld held (pairs_seen documents) ds) (sym (ap (λ l. l ++ rest) grows ∙ append_assoc taken ((here.uri.now, text) ∷ []) rest)) (h ((here.uri.now, text) ∷ rest) next)
+    let next : AreContents contents (pairs_seen (drop at documents)) ((here.uri.now, text) ∷ rest) =
+    subst (λ ds. AreContents contents (pairs_seen ds) ((here.uri.now, text) ∷ rest))
+    (sym (drop_more documents at d within))
+    (refl, is, few, left) in
+    subst (λ ds. AreContents contents (pairs_seen documents) ds) (sym (ap (λ l. l ++ rest) grows
+    ∙ append_assoc taken ((here.uri.now, text) ∷ []) rest)) (h ((here.uri.now, text) ∷ rest) next)
 
-pub holds_all : (held : HeldByPath) (documents : List DocumentFile) (at : ℕ) (taken : DocumentTexts) → length documents ≤ at → HoldsSoFar held documents at taken
-    → AreHeld held (pairs_seen documents) taken
-holds_all held documents at taken end h =
-    subst (λ ds. AreHeld held (pairs_seen documents) ds) (append-nil taken) (h [] (subst (λ ds. AreHeld held (pairs_seen ds) []) (sym (drop_all at documents end)) tt))
+pub holds_all : (contents : ContentsByPath) (documents : List DocumentFile) (at : ℕ) (taken : DocumentTexts)
+    → length documents ≤ at → HoldsSoFar contents documents at taken
+    → AreContents contents (pairs_seen documents) taken
+holds_all contents documents at taken end h =
+    subst (λ ds. AreContents contents (pairs_seen documents) ds) (append-nil taken)
+    (h [] (subst (λ ds. AreContents contents (pairs_seen ds) []) (sym (drop_all at documents end)) tt))
 
 -- of the same files and documents
-pub holds_over : (held : HeldByPath) (named files : List DocumentFile) (taken documents : DocumentTexts) → named ≡ files → documents ≡ taken
-    → AreHeld held (pairs_seen named) taken → AreHeld held (pairs_seen files) documents
-holds_over held named files taken documents same is h = subst (AreHeld held (pairs_seen files)) (sym is) (subst (λ ds. AreHeld held (pairs_seen ds) taken) same h)
+pub holds_over : (contents : ContentsByPath) (named files : List DocumentFile) (taken documents : DocumentTexts)
+    → named ≡ files → documents ≡ taken
+    → AreContents contents (pairs_seen named) taken → AreContents contents (pairs_seen files) documents
+holds_over contents named files taken documents same is h =
+    subst (AreContents contents (pairs_seen files)) (sym is)
+    (subst (λ ds. AreContents contents (pairs_seen ds) taken) same h)

@@ -10,17 +10,20 @@ use Rattle.js_command.specs.code.Tasks.{first_fault, IsMisuse, IsReadOrMemory, R
 use Rattle.js_command.specs.declared.words.Misuse.{Misuse}
 use Rattle.js_command.specs.declared.words.Misuse.TheVariants as misuse
 
-pub pair_reads : (answer : Result Bool Fault) (failed : Bool) → (answer ≢ Err fault.Memory → IsErrOf answer fault.Read ↔ (failed ≡ true)) → failed ≡ true → IsReadOrMemory answer
+pub pair_reads : (answer : Result Bool Fault) (failed : Bool)
+    → (answer ≢ Err fault.Memory → IsErrOf answer fault.Read ↔ (failed ≡ true)) → failed ≡ true → IsReadOrMemory answer
 pair_reads (Err fault.Memory) failed read stands = tt
 pair_reads (Err _) failed read stands = subst IsReadOrMemory (sym ((read (λ e. cc)).1 stands)) tt
 pair_reads (Ok valid) failed read stands = subst IsReadOrMemory (sym ((read (λ e. cc)).1 stands)) tt
 
-reads_first : {B : Type 0} (answer : Result Bool Fault) (flushed : Result B Fault) → IsReadOrMemory answer → IsReadOrMemory (first_fault answer flushed)
+reads_first : {B : Type 0} (answer : Result Bool Fault) (flushed : Result B Fault) → IsReadOrMemory answer
+    → IsReadOrMemory (first_fault answer flushed)
 reads_first (Err f) flushed h = h
 reads_first (Ok valid) flushed h = absurd h
 
 -- a flush doesn't matter
-pub input_after : {D B : Type 0} (request : Request) (old new : Tracked D) (answer : Result Bool Fault) (flushed : Result B Fault) → ReadsInput request old new answer
+pub input_after : {D B : Type 0} (request : Request) (old new : Tracked D) (answer : Result Bool Fault)
+    (flushed : Result B Fault) → ReadsInput request old new answer
     → ReadsInput request old new (first_fault answer flushed)
 input_after pair old new answer flushed h = λ stands. reads_first answer flushed (h stands)
 input_after (check format instance entry pairs) old new answer flushed h = h
@@ -32,21 +35,25 @@ read_status fault.Memory h = refl
 read_status fault.Read h = refl
 read_status _ h = absurd h
 
-module _ {D : Type 0} (asked : Result Request Misuse) (request : Request) (asks : asked ≡ Ok request) (old new : Tracked D) where
-  uses_by : (answer : Result Bool Fault) (status : ℕ) (r : Request) → ReadsInput r old new answer → (IsReadOrMemory answer → status ≡ 4) → UsesInput (Ok r) old new status
+module _ {D : Type 0} (asked : Result Request Misuse) (request : Request) (asks : asked ≡ Ok request)
+    (old new : Tracked D) where
+  uses_by : (answer : Result Bool Fault) (status : ℕ) (r : Request) → ReadsInput r old new answer
+      → (IsReadOrMemory answer → status ≡ 4) → UsesInput (Ok r) old new status
   uses_by answer status pair h ends = λ stands. ends (h stands)
   uses_by answer status (check format instance entry pairs) h ends = h
   uses_by answer status (suite file pairs) h ends = h
   uses_by answer status (places pairs) h ends = h
 
   pub uses_err : (f : Fault) → ReadsInput request old new (Err f) → UsesInput asked old new (fault_status f)
-  uses_err f h = subst (λ a. UsesInput a old new (fault_status f)) (sym asks) (uses_by (Err f) (fault_status f) request h (read_status f))
+  uses_err f h = subst (λ a. UsesInput a old new (fault_status f)) (sym asks)
+      (uses_by (Err f) (fault_status f) request h (read_status f))
 
 ok_is_no_err : (r : Request) (m : Misuse) → ¬ (◌≡◌ {A = Result Request Misuse} (Ok r) (Err m))
 ok_is_no_err r m = λ e. cc
 
 -- words that ask for nothing
-pub uses_none : {D : Type 0} (asked : Result Request Misuse) (m : Misuse) (source : Tracked D) (status : ℕ) → IsMisuse asked m → status ≡ misuse_status m → UsesInput asked source source status
+pub uses_none : {D : Type 0} (asked : Result Request Misuse) (m : Misuse) (source : Tracked D) (status : ℕ)
+    → IsMisuse asked m → status ≡ misuse_status m → UsesInput asked source source status
 uses_none (Ok pair) misuse.Memory source status h e = λ stands. e
 uses_none (Ok pair) misuse.OtherForm source status h e = λ stands. absurd (ok_is_no_err pair misuse.OtherForm h)
 uses_none (Ok pair) misuse.OddPairs source status h e = λ stands. absurd (ok_is_no_err pair misuse.OddPairs h)

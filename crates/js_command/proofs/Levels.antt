@@ -1,7 +1,10 @@
 -- What `clap` reads of the words of each subcommand.
-use Rattle.std.proofs.Common.{◌≡◌, ◌∙◌, ◌≤◌, ℕ, List, [], ◌∷◌, ◌++◌, length, Bool, true, false, nat_lt, Option, Some, None, Result, Err, find, unwrap_or, option_map, if◌then◌else◌, bytes_eq, codes, refl, sym, ap, ap₂, append_assoc, append-nil, fold, arith}
+use Rattle.std.proofs.Common.{◌≡◌, ◌∙◌, ◌≤◌, ℕ, List, [], ◌∷◌, ◌++◌, length, Bool, true, false, nat_lt, Option, Some}
+use Rattle.std.proofs.Common.{None, Result, Err, find, unwrap_or, option_map, if◌then◌else◌, bytes_eq, codes, refl}
+use Rattle.std.proofs.Common.{sym, ap, ap₂, append_assoc, append-nil, fold, arith}
 use Rattle.clap.specs.Lexer.{usize_max}
-use Rattle.clap.specs.Walk.{Text, Row, Rule, Held, Walk, positional, value, arg_by_long, arg_by_short, arg_by_index, walk_from, nothing_held, settled, finished, rows_after, answers_to}
+use Rattle.clap.specs.Walk.{Text, Row, Rule, Held, Walk, positional, value, arg_by_long, arg_by_short, arg_by_index}
+use Rattle.clap.specs.Walk.{walk_from, nothing_held, settled, finished, rows_after, answers_to}
 use Rattle.clap.specs.Simple.{Shape, built, label_of, filled, with_index}
 use Rattle.clap.specs.Kinds.{Kinds, or_else, values_kinds}
 use Rattle.clap.specs.Faults.{step_fault, settle_fault, defaults_fault, check_fault, level_fault, walk_fault}
@@ -54,10 +57,12 @@ read_fault (k ∷ ks) found h = refl
 
 -- what is read of a level
 abbrev pub level_read : Text → List Text → Result Request Misuse
-level_read name ws = read_by (level_fault (level name) [] nothing_held ws false []) (Some (name, rows_after (level name).rules [] ws))
+level_read name ws = read_by (level_fault (level name) [] nothing_held ws false [])
+    (Some (name, rows_after (level name).rules [] ws))
 
 abbrev closing : Shape → Held → Kinds
-closing s h = or_else (settle_fault s.rules s.args_override_self h) (or_else (defaults_fault (settled s.rules h).rows s.rules) (check_fault s (finished s.rules h) false))
+closing s h = or_else (settle_fault s.rules s.args_override_self h)
+    (or_else (defaults_fault (settled s.rules h).rows s.rules) (check_fault s (finished s.rules h) false))
 
 abbrev start : Walk
 start = walk_from nothing_held
@@ -85,14 +90,17 @@ module _ (name : Text) (has : HasPositionals name) where
     abbrev Says : Type 0
     Says = (ps : List Text) → IsShort ps → read_after start ps ≡ form ps
 
-    level_by : (ws : List Text) (taking : Option (List Text)) → Reads (level name) has.long has.short has.fixed start ws taking → Few (length ws) taking → IsShort ws → Says
+    level_by : (ws : List Text) (taking : Option (List Text))
+        → Reads (level name) has.long has.short has.fixed start ws taking → Few (length ws) taking → IsShort ws → Says
         → level_read name ws ≡ asked_by form taking
-    level_by ws None h fewer few says = read_fault (level_fault (level name) [] nothing_held ws false []) (Some (name, rows_after (level name).rules [] ws))
+    level_by ws None h fewer few says = read_fault (level_fault (level name) [] nothing_held ws false [])
+        (Some (name, rows_after (level name).rules [] ws))
         (fault_before (walk_fault (level name) [] start ws) _ h)
     level_by ws (Some ps) h fewer few says = (λ i. final name (h.1 i) (h.0 i)) ∙ says ps (omega (arith, fewer, few))
 
     level_says : Says → (ws : List Text) → IsShort ws → level_read name ws ≡ asked_by form (plain_of ws)
-    level_says says ws few = level_by ws (plain_of ws) (reads (level name) has.long has.short has.fixed start ws start_open refl) (few_of ws) few says
+    level_says says ws few = level_by ws (plain_of ws)
+        (reads (level name) has.long has.short has.fixed start ws start_open refl) (few_of ws) few says
 
 -- ---- the words that are left over
 
@@ -113,7 +121,8 @@ values_fine [] = refl
 values_fine (w ∷ ws) = values_fine ws
 
 -- one level, of which the positional k takes all words that are left
-module _ (name : Text) (has : HasPositionals name) (rows : List Row) (k : ℕ) (here : arg_by_index (level name).rules k ≡ Some (pairs_at k)) where
+module _ (name : Text) (has : HasPositionals name) (rows : List Row) (k : ℕ)
+    (here : arg_by_index (level name).rules k ≡ Some (pairs_at k)) where
   left_end : (words ps : List Text) → walk_by name has (so_far rows k words) ps ≡ so_far rows k (words ++ ps)
   left_end words [] = ap (so_far rows k) (sym (append-nil words))
   left_end words (x ∷ xs) =
@@ -123,11 +132,13 @@ module _ (name : Text) (has : HasPositionals name) (rows : List Row) (k : ℕ) (
   left_fine : (words ps : List Text) → fault_by name has (so_far rows k words) ps ≡ []
   left_fine words [] = refl
   left_fine words (x ∷ xs) =
-      let next : taken (level name) has.long has.short has.fixed (so_far rows k words) x ≡ so_far rows k (words ++ x ∷ []) = rw here refl in
+      let next : taken (level name) has.long has.short has.fixed (so_far rows k words) x
+      ≡ so_far rows k (words ++ x ∷ []) = rw here refl in
       let turn : step_fault (level name) k (so_far rows k words).held value ≡ [] = rw here refl in
       ap₂ or_else turn (ap (λ u. fault_by name has u xs) next ∙ left_fine (words ++ x ∷ []) xs)
 
-  left_read : (words ps : List Text) → read_after name has (so_far rows k words) ps ≡ final name [] (so_far rows k (words ++ ps)).held
+  left_read : (words ps : List Text)
+      → read_after name has (so_far rows k words) ps ≡ final name [] (so_far rows k (words ++ ps)).held
   left_read words ps = ap₂ (final name) (left_fine words ps) (ap (λ u. u.held) (left_end words ps))
 
 -- ---- the three subcommands
@@ -145,7 +156,8 @@ row id word = record { id = id; values = word ∷ []; count = None; source = Som
 -- `places`
 
 places_has : HasPositionals (codes "places")
-places_has = record { long = λ n. refl; short = λ x. refl; fixed = λ p. fixed_at (level (codes "places")).rules p (refl, tt) }
+places_has =
+    record { long = λ n. refl; short = λ x. refl; fixed = λ p. fixed_at (level (codes "places")).rules p (refl, tt) }
 
 places_says : Says (codes "places") places_has places_asked
 unfolding clap_on_literals
@@ -157,7 +169,8 @@ places_says (p ∷ ps) few =
 -- `suite`
 
 suite_has : HasPositionals (codes "suite")
-suite_has = record { long = λ n. refl; short = λ x. refl; fixed = λ p. fixed_at (level (codes "suite")).rules p (refl, (refl, tt)) }
+suite_has = record
+    { long = λ n. refl; short = λ x. refl; fixed = λ p. fixed_at (level (codes "suite")).rules p (refl, (refl, tt)) }
 
 suite_says : Says (codes "suite") suite_has suite_asked
 unfolding clap_on_literals
@@ -170,7 +183,11 @@ suite_says (file ∷ p ∷ ps) few =
 -- `check`
 
 check_has : HasPositionals (codes "check")
-check_has = record { long = λ n. refl; short = λ x. refl; fixed = λ p. fixed_at (level (codes "check")).rules p (refl, (refl, (refl, (refl, tt)))) }
+check_has = record {
+  long = λ n. refl;
+  short = λ x. refl;
+  fixed = λ p. fixed_at (level (codes "check")).rules p (refl, (refl, (refl, (refl, tt))));
+}
 
 check_says : Says (codes "check") check_has check_asked
 unfolding clap_on_literals
@@ -179,7 +196,8 @@ check_says (format ∷ []) few = refl
 check_says (format ∷ instance ∷ []) few = refl
 check_says (format ∷ instance ∷ entry ∷ []) few = refl
 check_says (format ∷ instance ∷ entry ∷ p ∷ ps) few =
-    left_read (codes "check") check_has (row (codes "FORMAT") format ∷ row (codes "INSTANCE") instance ∷ row (codes "ENTRY") entry ∷ []) 4 refl (p ∷ []) ps
+    left_read (codes "check") check_has (row (codes "FORMAT") format ∷ row (codes "INSTANCE") instance
+    ∷ row (codes "ENTRY") entry ∷ []) 4 refl (p ∷ []) ps
     ∙ rw (not_less (length (p ∷ ps)), not_above (length (p ∷ ps)) (omega (arith, few)), values_fine (p ∷ ps)) refl
 
 -- ---- what each reads

@@ -8,4 +8,4 @@ pub mod Holding
 pub mod FileFaults
 pub mod LastFlush
 pub mod InputUse
-pub mod Telling
+pub mod ProgramAnswers

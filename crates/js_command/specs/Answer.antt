@@ -1,5 +1,6 @@
 -- What the program answers: the outcome of what its words ask for, by what the files and the input hold.
-use Rattle.std.specs.Prelude.{◌≡◌, ◌≤◌, ◌⊎◌, ℕ, ◌==◌, List, [], ◌∷◌, ◌++◌, length, Option, Result, Ok, Err, Bool, true, ◌&&◌, ⊤}
+use Rattle.std.specs.Prelude.{◌≡◌, ◌≤◌, ◌⊎◌, ℕ, ◌==◌, List, [], ◌∷◌, ◌++◌, length, Option}
+use Rattle.std.specs.Prelude.{Result, Ok, Err, Bool, true, ◌&&◌, ⊤}
 use Rattle.std.specs.Io.KnownBytes.{Appends}
 use Rattle.js_output.specs.Cause.{Causes, MayGoOn, IsFirstFault}
 use Rattle.js_output.specs.Device.{Tracked, input_limit, IsLeft, AppendsBeginning, Sends, SendsBeginning}
@@ -11,19 +12,21 @@ use Rattle.js_output.specs.SuiteLines.{counts_of, lines_text}
 use Rattle.js_output.specs.declared.suite_lines.Counts.{Counts}
 use Rattle.js_output.specs.declared.fault.Fault.{Fault}
 use Rattle.js_output.specs.declared.fault.Fault.TheVariants as fault
-use Rattle.js_command.specs.Files.{HeldByPath, IsFirstFileFault}
+use Rattle.js_command.specs.Files.{ContentsByPath, IsFirstFileFault}
 use Rattle.js_command.specs.Words.{DocumentPairs, files_of, Request, pair, check, suite, places, request_of}
 use Rattle.js_command.specs.declared.words.Misuse.{Misuse}
 
 -- each document has its URI, and is what its file holds, within the limit
-abbrev pub AreHeld : HeldByPath → DocumentPairs → DocumentTexts → Type 0
-AreHeld held [] [] = ⊤
-AreHeld held (p ∷ ps) (d ∷ ds) = (d.0 ≡ p.0) × IsLeft (held p.1) d.1 × (length d.1 ≤ input_limit) × AreHeld held ps ds
-AreHeld held _ _ = ⊥
+abbrev pub AreContents : ContentsByPath → DocumentPairs → DocumentTexts → Type 0
+AreContents contents [] [] = ⊤
+AreContents contents (p ∷ ps) (d ∷ ds) = (d.0 ≡ p.0) × IsLeft (contents p.1) d.1 × (length d.1 ≤ input_limit)
+    × AreContents contents ps ds
+AreContents contents _ _ = ⊥
 
 -- what comes of documents whose places are listed
 abbrev pub PlacesOutcome : DocumentTexts → Result Output Fault → Type 0
-PlacesOutcome documents (Ok output) = MayGoOn (documents_causes documents) × (output ≡ record { valid = true; text = places_text documents })
+PlacesOutcome documents (Ok output) = MayGoOn (documents_causes documents)
+    × (output ≡ record { valid = true; text = places_text documents })
 PlacesOutcome documents (Err f) = IsFirstFault (documents_causes documents) f
 
 -- no test of a suite failed, and none was skipped
@@ -34,9 +37,10 @@ abbrev pub suite_output : Counts → List ℕ → Output
 suite_output counts text = record { valid = all_passed counts; text = text }
 
 -- what comes of a suite
-abbrev pub SuiteTold : DocumentTexts → List ℕ → Result Output Fault → Type 0
-SuiteTold documents bytes (Ok output) = (lines : _) × SuiteOutcome documents bytes (Ok lines) × (output ≡ suite_output (counts_of lines) (lines_text lines))
-SuiteTold documents bytes (Err f) = SuiteOutcome documents bytes (Err f)
+abbrev pub SuiteReported : DocumentTexts → List ℕ → Result Output Fault → Type 0
+SuiteReported documents bytes (Ok output) = (lines : _) × SuiteOutcome documents bytes (Ok lines)
+    × (output ≡ suite_output (counts_of lines) (lines_text lines))
+SuiteReported documents bytes (Err f) = SuiteOutcome documents bytes (Err f)
 
 -- what comes of the standard input, which can't be read if it has failed
 abbrev pub OverInput : Bool → (Result Output Fault → Type 0) → Result Output Fault → Type 0
@@ -44,56 +48,71 @@ OverInput failed Expected (Err fault.Read) = failed ≡ true
 OverInput failed Expected answer = Expected answer
 
 -- What comes of files, which are read in this order. `Unread` is what else `Read` can come of.
-abbrev pub OverFiles : HeldByPath → List (List ℕ) → Type 0 → (Result Output Fault → Type 0) → Result Output Fault → Type 0
-OverFiles held paths Unread Expected (Err fault.Read) = IsFirstFileFault held paths fault.Read ⊎ Unread
-OverFiles held paths Unread Expected (Err fault.InputTooLarge) = IsFirstFileFault held paths fault.InputTooLarge ⊎ Expected (Err fault.InputTooLarge)
-OverFiles held paths Unread Expected answer = Expected answer
+abbrev pub OverFiles : ContentsByPath → List (List ℕ) → Type 0 → (Result Output Fault → Type 0)
+    → Result Output Fault → Type 0
+OverFiles contents paths Unread Expected (Err fault.Read) = IsFirstFileFault contents paths fault.Read ⊎ Unread
+OverFiles contents paths Unread Expected (Err fault.InputTooLarge) = IsFirstFileFault contents paths fault.InputTooLarge
+    ⊎ Expected (Err fault.InputTooLarge)
+OverFiles contents paths Unread Expected answer = Expected answer
 
 -- The text of the last file is read again, from memory, once the documents are accepted. That this reading doesn't
 -- fail is no promise of its reader.
-abbrev pub MayReadAgain : HeldByPath → DocumentPairs → (DocumentTexts → Causes) → Type 0
-MayReadAgain held pairs causes = (documents : DocumentTexts) × AreHeld held pairs documents × MayGoOn (causes documents)
+abbrev pub MayReadAgain : ContentsByPath → DocumentPairs → (DocumentTexts → Causes) → Type 0
+MayReadAgain contents pairs causes = (documents : DocumentTexts) × AreContents contents pairs documents
+    × MayGoOn (causes documents)
 
 -- what comes of documents, and of a file that is judged by them
-abbrev pub OverTexts : HeldByPath → DocumentPairs → List ℕ → (DocumentTexts → Causes) → (DocumentTexts → List ℕ → Result Output Fault → Type 0) → Result Output Fault → Type 0
-OverTexts held pairs file causes Expected answer =
-    OverFiles held (files_of pairs ++ file ∷ []) (MayReadAgain held pairs causes)
-    (λ told. (documents : DocumentTexts) × AreHeld held pairs documents × ((bytes : List ℕ) × IsLeft (held file) bytes × Expected documents bytes told)) answer
+abbrev pub OverTexts : ContentsByPath → DocumentPairs → List ℕ → (DocumentTexts → Causes)
+    → (DocumentTexts → List ℕ → Result Output Fault → Type 0) → Result Output Fault → Type 0
+OverTexts contents pairs file causes Expected answer =
+    OverFiles contents (files_of pairs ++ file ∷ []) (MayReadAgain contents pairs causes)
+    (λ reported. (documents : DocumentTexts) × AreContents contents pairs documents
+    × ((bytes : List ℕ) × IsLeft (contents file) bytes × Expected documents bytes reported)) answer
 
 -- what comes of a request; `failed` if the standard input has failed at the end
-abbrev pub RequestOutcome : HeldByPath → Option (List ℕ) → Bool → Request → Result Output Fault → Type 0
-RequestOutcome held input failed pair answer = OverInput failed (λ told. (bytes : List ℕ) × IsLeft input bytes × PairOutcome bytes told) answer
-RequestOutcome held input failed (check format instance entry pairs) answer =
-    OverTexts held pairs instance (λ documents. beginning_causes documents entry) (λ documents. Outcome documents entry format) answer
-RequestOutcome held input failed (suite file pairs) answer = OverTexts held pairs file documents_causes SuiteTold answer
-RequestOutcome held input failed (places pairs) answer =
-    OverFiles held (files_of pairs) ⊥ (λ told. (documents : DocumentTexts) × AreHeld held pairs documents × PlacesOutcome documents told) answer
+abbrev pub RequestOutcome : ContentsByPath → Option (List ℕ) → Bool → Request → Result Output Fault → Type 0
+RequestOutcome contents input failed pair answer =
+    OverInput failed (λ reported. (bytes : List ℕ) × IsLeft input bytes × PairOutcome bytes reported) answer
+RequestOutcome contents input failed (check format instance entry pairs) answer =
+    OverTexts contents pairs instance (λ documents. beginning_causes documents entry)
+    (λ documents. Outcome documents entry format) answer
+RequestOutcome contents input failed (suite file pairs) answer =
+    OverTexts contents pairs file documents_causes SuiteReported answer
+RequestOutcome contents input failed (places pairs) answer =
+    OverFiles contents (files_of pairs) ⊥ (λ reported. (documents : DocumentTexts)
+    × AreContents contents pairs documents
+    × PlacesOutcome documents reported) answer
 
 -- The verdict is returned if the output's text was written, and `Write` if the sink has failed after a beginning of
 -- it; any other fault, except lack of memory, if it comes.
-abbrev pub Performs : {D : Type 0} → (Result Output Fault → Type 0) → (D → Option (List ℕ)) → Tracked D → Tracked D → Result Bool Fault → Type 0
-Performs Expected taken old new (Ok valid) = (output : Output) × Expected (Ok output) × (output.valid ≡ valid) × Sends taken old new output.text
+abbrev pub Performs : {D : Type 0} → (Result Output Fault → Type 0) → (D → Option (List ℕ)) → Tracked D → Tracked D
+    → Result Bool Fault → Type 0
+Performs Expected taken old new (Ok valid) = (output : Output) × Expected (Ok output) × (output.valid ≡ valid)
+    × Sends taken old new output.text
 Performs Expected taken old new (Err fault.Memory) = ⊤
-Performs Expected taken old new (Err fault.Write) = (output : Output) × Expected (Ok output) × SendsBeginning taken old new output.text
+Performs Expected taken old new (Err fault.Write) = (output : Output) × Expected (Ok output)
+    × SendsBeginning taken old new output.text
 Performs Expected taken old new (Err f) = Expected (Err f)
 
 -- it comes to this verdict, and its text was written
-abbrev pub IsTold : (Result Output Fault → Type 0) → Bool → Option (List ℕ) → Option (List ℕ) → Type 0
-IsTold Expected valid old new = (output : Output) × Expected (Ok output) × (output.valid ≡ valid) × Appends old new output.text
+abbrev pub IsReported : (Result Output Fault → Type 0) → Bool → Option (List ℕ) → Option (List ℕ) → Type 0
+IsReported Expected valid old new = (output : Output) × Expected (Ok output) × (output.valid ≡ valid)
+    × Appends old new output.text
 
 -- it comes to an output, and a beginning of its text was written
-abbrev pub IsPartlyTold : (Result Output Fault → Type 0) → Option (List ℕ) → Option (List ℕ) → Type 0
-IsPartlyTold Expected old new = (output : Output) × Expected (Ok output) × AppendsBeginning old new output.text
+abbrev pub IsPartlyReported : (Result Output Fault → Type 0) → Option (List ℕ) → Option (List ℕ) → Type 0
+IsPartlyReported Expected old new = (output : Output) × Expected (Ok output) × AppendsBeginning old new output.text
 
 -- why a fault is reported: memory ran out; or the output has failed, after a beginning of a text; or this fault comes
 abbrev pub IsReason : (Result Output Fault → Type 0) → Option (List ℕ) → Option (List ℕ) → Bool → Fault → Type 0
 IsReason Expected old new failed fault.Memory = ⊤
-IsReason Expected old new failed fault.Write = (failed ≡ true) × IsPartlyTold Expected old new
+IsReason Expected old new failed fault.Write = (failed ≡ true) × IsPartlyReported Expected old new
 IsReason Expected old new failed f = Expected (Err f)
 
 -- what comes of the request that the words make
-abbrev pub WordsOutcome : List (List ℕ) → HeldByPath → Option (List ℕ) → Bool → Result Output Fault → Type 0
-WordsOutcome words held input failed answer = (request : Request) × (request_of words ≡ Ok request) × RequestOutcome held input failed request answer
+abbrev pub WordsOutcome : List (List ℕ) → ContentsByPath → Option (List ℕ) → Bool → Result Output Fault → Type 0
+WordsOutcome words contents input failed answer = (request : Request) × (request_of words ≡ Ok request)
+    × RequestOutcome contents input failed request answer
 
 -- Standard input is read for a pair alone. If it has failed then, the status is 4.
 abbrev pub UsesInput : {D : Type 0} → Result Request Misuse → Tracked D → Tracked D → ℕ → Type 0

@@ -6,8 +6,8 @@ use Rattle.js_output.specs.declared.fault.Fault.{Fault}
 use Rattle.js_output.specs.declared.fault.Fault.TheVariants as fault
 
 -- what a file holds, by its path, where that is known
-abbrev pub HeldByPath : Type 0
-HeldByPath = List ℕ → Option (List ℕ)
+abbrev pub ContentsByPath : Type 0
+ContentsByPath = List ℕ → Option (List ℕ)
 
 -- what it holds is within the limit, where it is known
 abbrev pub MayFit : Option (List ℕ) → Type 0
@@ -22,6 +22,7 @@ IsFileFault (Some bytes) fault.InputTooLarge = input_limit < length bytes
 IsFileFault (Some bytes) _ = ⊥
 
 -- the fault of the first of these files that isn't taken
-abbrev pub IsFirstFileFault : HeldByPath → List (List ℕ) → Fault → Type 0
-IsFirstFileFault held [] f = ⊥
-IsFirstFileFault held (path ∷ paths) f = IsFileFault (held path) f ⊎ (MayFit (held path) × IsFirstFileFault held paths f)
+abbrev pub IsFirstFileFault : ContentsByPath → List (List ℕ) → Fault → Type 0
+IsFirstFileFault contents [] f = ⊥
+IsFirstFileFault contents (path ∷ paths) f = IsFileFault (contents path) f
+    ⊎ (MayFit (contents path) × IsFirstFileFault contents paths f)

@@ -22,7 +22,8 @@ pairs_of rows = pairs_in (unwrap_or (all_of (codes "PAIRS") rows) [])
 
 abbrev pub request_in : Text → List Row → Result Request Misuse
 request_in name rows =
-    if bytes_eq name (codes "check") then check_in (first_of (codes "FORMAT") rows) (first_of (codes "INSTANCE") rows) (first_of (codes "ENTRY") rows) (pairs_of rows)
+    if bytes_eq name (codes "check") then check_in (first_of (codes "FORMAT") rows) (first_of (codes "INSTANCE") rows)
+    (first_of (codes "ENTRY") rows) (pairs_of rows)
     else (if bytes_eq name (codes "suite") then suite_in (first_of (codes "SUITE") rows) (pairs_of rows)
     else places_by (pairs_of rows))
 

@@ -17,7 +17,8 @@ pairs_argument = record (new_rule (codes "PAIRS")) {
 }
 
 abbrev pub check_command : App
-check_command = with_rule (with_rule (with_rule (with_rule (new_app (codes "check")) (word_argument (codes "FORMAT"))) (word_argument (codes "INSTANCE"))) (word_argument (codes "ENTRY"))) pairs_argument
+check_command = with_rule (with_rule (with_rule (with_rule (new_app (codes "check")) (word_argument (codes "FORMAT")))
+    (word_argument (codes "INSTANCE"))) (word_argument (codes "ENTRY"))) pairs_argument
 
 abbrev pub suite_command : App
 suite_command = with_rule (with_rule (new_app (codes "suite")) (word_argument (codes "SUITE"))) pairs_argument
@@ -40,4 +41,5 @@ program =
     }
 
 abbrev pub grammar : App
-grammar = with_subcommand (with_subcommand (with_subcommand program check_command.top) suite_command.top) places_command.top
+grammar = with_subcommand
+    (with_subcommand (with_subcommand program check_command.top) suite_command.top) places_command.top

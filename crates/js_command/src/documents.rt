@@ -2,7 +2,7 @@
 ghost use Rattle.std.specs.Prelude.{◌≡◌, ◌≢◌, ◌∷◌, ◌++◌, [], IfOk, IfErr, OnOk};
 ghost use Rattle.js_output.specs.Device.{IsLeft};
 ghost use Rattle.js_output.specs.Documents.{documents_of};
-ghost use Rattle.js_command.specs.Answer.{AreHeld};
+ghost use Rattle.js_command.specs.Answer.{AreContents};
 ghost use Rattle.js_command.specs.Files.{IsFirstFileFault};
 ghost use Rattle.js_command.specs.Words.{files_of};
 ghost use Rattle.js_command.specs.code.Tasks.{pairs_seen};
@@ -27,11 +27,11 @@ pub(crate) fn take_all<'a, F: Files>(
     documents: &[DocumentFile<'a>],
     files: &mut F,
 ) -> Result<Vec<Taken<'a>>, Fault>
-    ensures held { IfOk result (λ ds.
-        AreHeld (F.held files.old) (pairs_seen documents.now) (documents_taken ds.items)) }
-    ensures fault { IfErr result (λ e. e ≢ Fault.Memory → IsFirstFileFault (F.held files.old)
+    ensures contents { IfOk result (λ ds.
+        AreContents (F.contents files.old) (pairs_seen documents.now) (documents_taken ds.items)) }
+    ensures fault { IfErr result (λ e. e ≢ Fault.Memory → IsFirstFileFault (F.contents files.old)
         (files_of (pairs_seen documents.now)) e) }
-    ensures stays { F.held files.new ≡ F.held files.old }
+    ensures stays { F.contents files.new ≡ F.contents files.old }
 {
     let mut all = Vec::new(alloc);
     for document in documents {
@@ -57,10 +57,10 @@ pub(crate) fn take_texts<'a, F: Files>(
     file: &str,
     files: &mut F,
 ) -> Result<Texts<'a>, Fault>
-    ensures held { IfOk result (λ t. AreHeld (F.held files.old) (pairs_seen documents.now)
+    ensures contents { IfOk result (λ t. AreContents (F.contents files.old) (pairs_seen documents.now)
         (documents_taken t.documents.items)) }
-    ensures judged { IfOk result (λ t. IsLeft (F.held files.old file.now) t.judged.items) }
-    ensures fault { IfErr result (λ e. e ≢ Fault.Memory → IsFirstFileFault (F.held files.old)
+    ensures judged { IfOk result (λ t. IsLeft (F.contents files.old file.now) t.judged.items) }
+    ensures fault { IfErr result (λ e. e ≢ Fault.Memory → IsFirstFileFault (F.contents files.old)
         (files_of (pairs_seen documents.now) ++ file.now ∷ []) e) }
 {
     let taken = take_all(alloc, documents, files)?;
@@ -72,7 +72,7 @@ pub(crate) fn take_texts<'a, F: Files>(
 }
 
 /// The documents as a run takes them.
-pub(crate) fn handed_in<'t>(
+pub(crate) fn borrowed_documents<'t>(
     alloc: Global,
     taken: &'t [Taken<'t>],
 ) -> Result<Vec<(&'t str, &'t [u8])>, Fault>

@@ -10,7 +10,7 @@ use std::alloc::Global;
 pub trait Files {
     // What a file holds, by its path, if that is known. Such a file can be read. Of a disk nothing
     // is known.
-    ghost held: { Self → List ℕ → Option (List ℕ) } = { λ _ _. None };
+    ghost contents: { Self → List ℕ → Option (List ℕ) } = { λ _ _. None };
 
     /// All bytes of a file.
     ///
@@ -18,8 +18,8 @@ pub trait Files {
     /// `Memory`; `Read` if the file can't be opened or read; `InputTooLarge` if it has more than
     /// 16,777,216 bytes. After an error the files are as they were.
     fn take(&mut self, alloc: Global, path: &str) -> Result<Vec<u8>, Fault>
-        ensures bytes { IfOk result (λ bytes. IsLeft (held self.old path.now) bytes.items) }
+        ensures bytes { IfOk result (λ bytes. IsLeft (contents self.old path.now) bytes.items) }
         ensures fits { IfOk result (λ bytes. length bytes.items ≤ input_limit) }
-        ensures fault { IfErr result (IsFileFault (held self.old path.now)) }
-        ensures stays { held self.new ≡ held self.old };
+        ensures fault { IfErr result (IsFileFault (contents self.old path.now)) }
+        ensures stays { contents self.new ≡ contents self.old };
 }

@@ -17,12 +17,12 @@ pub(crate) fn report<V: Write>(alloc: Global, fault: &Fault, faults: &mut Sink<V
     ensures { AppendsBeginning (V.contents faults.old.device) (V.contents faults.new.device)
         (fault_line fault.now ++ 10 ∷ []) }
 {
-    if let Some(line) = told(alloc, fault) {
+    if let Some(line) = ended_line(alloc, fault) {
         let _ = faults.write_all(line.as_bytes());
     }
 }
 
-fn told(alloc: Global, fault: &Fault) -> Option<String>
+fn ended_line(alloc: Global, fault: &Fault) -> Option<String>
     ensures { IfSome result (λ line. string_bytes line ≡ fault_line fault.now ++ 10 ∷ []) }
 {
     let mut line = refusal_line(alloc, fault).ok()?;
@@ -35,7 +35,7 @@ pub(crate) fn report_misuse<V: Write>(alloc: Global, misuse: Misuse, faults: &mu
     ensures status { result ≡ misuse_status misuse }
     ensures usage { result ≡ 2 → AppendsBeginning (V.contents faults.old.device)
         (V.contents faults.new.device) (usage_line misuse) }
-    ensures told { result ≡ 4 → AppendsBeginning (V.contents faults.old.device)
+    ensures reported { result ≡ 4 → AppendsBeginning (V.contents faults.old.device)
         (V.contents faults.new.device) (fault_line Fault.Memory ++ 10 ∷ []) }
 {
     match misuse {

@@ -7,7 +7,8 @@ ghost use Rattle.js_output.specs.Line.{fault_line};
 ghost use Rattle.js_output.specs.declared.fault.Fault.{Fault};
 ghost use Rattle.js_command.specs.Words.{request_of, usage_line, words_of};
 ghost use Rattle.js_command.specs.declared.words.Misuse.{Misuse};
-ghost use Rattle.js_command.specs.Answer.{RequestOutcome, WordsOutcome, IsTold, IsPartlyTold, IsReason, UsesInput};
+ghost use Rattle.js_command.specs.Answer.{RequestOutcome, WordsOutcome, IsReported, IsPartlyReported, IsReason};
+ghost use Rattle.js_command.specs.Answer.{UsesInput};
 ghost use Rattle.js_command.specs.Status.{fault_status};
 ghost use Rattle.js_command.specs.code.Tasks.{ReadsInput, first_fault, request_seen};
 
@@ -49,8 +50,8 @@ pub fn command<'a, F: Files, R: Read, W: Write, V: Write>(
 
     // 0: the outcome of the words, by what the files and the input hold, is valid. 1: it is invalid.
     // The text that says so was written.
-    ensures verdict { result < 2 → IsTold
-        (WordsOutcome (words_of words.entry.now) (F.held files.old)
+    ensures verdict { result < 2 → IsReported
+        (WordsOutcome (words_of words.entry.now) (F.contents files.old)
         (R.remaining input.old.device) input.new.failed)
         (result == 0) (W.contents out.old.device) (W.contents out.new.device) }
     ensures whole { result < 2 → out.new.failed ≡ false }
@@ -69,8 +70,8 @@ pub fn command<'a, F: Files, R: Read, W: Write, V: Write>(
     // Nothing was written; or the output has failed, after a beginning of such a text.
     ensures beginning { result ≡ 4
         → Keeps (W.contents out.old.device) (W.contents out.new.device)
-        ⊎ ((out.new.failed ≡ true) × IsPartlyTold
-        (WordsOutcome (words_of words.entry.now) (F.held files.old)
+        ⊎ ((out.new.failed ≡ true) × IsPartlyReported
+        (WordsOutcome (words_of words.entry.now) (F.contents files.old)
         (R.remaining input.old.device) input.new.failed)
         (W.contents out.old.device) (W.contents out.new.device)) }
 
@@ -83,8 +84,8 @@ pub fn command<'a, F: Files, R: Read, W: Write, V: Write>(
     ensures usage { result ≡ 2 → (m : Misuse) × (request_of (words_of words.entry.now) ≡ Err m)
         × AppendsBeginning (V.contents faults.old.device) (V.contents faults.new.device)
         (usage_line m) }
-    ensures told { 2 < result → (fault : Fault) × (fault_status fault ≡ result)
-        × IsReason (WordsOutcome (words_of words.entry.now) (F.held files.old)
+    ensures reported { 2 < result → (fault : Fault) × (fault_status fault ≡ result)
+        × IsReason (WordsOutcome (words_of words.entry.now) (F.contents files.old)
         (R.remaining input.old.device) input.new.failed)
         (W.contents out.old.device) (W.contents out.new.device) out.new.failed fault
         × (fault ≢ Fault.Write → Keeps (W.contents out.old.device) (W.contents out.new.device))
@@ -117,15 +118,15 @@ fn perform_whole<F: Files, R: Read, W: Write>(
     input: &mut Source<R>,
     out: &mut Sink<W>,
 ) -> Result<bool, Fault>
-    ensures told { IfOk result (λ valid. IsTold
-        (RequestOutcome (F.held files.old) (R.remaining input.old.device) input.new.failed
+    ensures reported { IfOk result (λ valid. IsReported
+        (RequestOutcome (F.contents files.old) (R.remaining input.old.device) input.new.failed
         (request_seen task.entry)) valid
         (W.contents out.old.device) (W.contents out.new.device)) }
     ensures whole { OnOk result (out.new.failed ≡ false) }
     ensures nothing { IfErr result (λ e. e ≢ Fault.Write
         → Keeps (W.contents out.old.device) (W.contents out.new.device)) }
     ensures reason { IfErr result (IsReason
-        (RequestOutcome (F.held files.old) (R.remaining input.old.device) input.new.failed
+        (RequestOutcome (F.contents files.old) (R.remaining input.old.device) input.new.failed
         (request_seen task.entry))
         (W.contents out.old.device) (W.contents out.new.device) out.new.failed) }
     ensures flushed { FlushedOnce out.old out.new }

@@ -5,7 +5,7 @@ ghost use Rattle.js_command.specs.Words.{places};
 ghost use Rattle.js_command.specs.Answer.{RequestOutcome, Performs, all_passed};
 ghost use Rattle.js_command.specs.code.Tasks.{ReadsInput, judging_seen, pairs_seen, request_seen};
 
-use crate::documents::{handed_in, take_all, take_texts};
+use crate::documents::{borrowed_documents, take_all, take_texts};
 use crate::files::Files;
 use crate::words::{DocumentFile, Judgement, Subject, Task};
 use js_output::{Counts, Fault, Sink, Source, run, run_pair, run_places, run_suite};
@@ -22,7 +22,7 @@ pub(crate) fn perform<F: Files, R: Read, W: Write>(
     out: &mut Sink<W>,
 ) -> Result<bool, Fault>
     ensures answer { Performs
-        (RequestOutcome (F.held files.old) (R.remaining input.old.device) input.new.failed
+        (RequestOutcome (F.contents files.old) (R.remaining input.old.device) input.new.failed
         (request_seen task.entry)) W.contents out.old out.new result }
     ensures input { ReadsInput (request_seen task.entry) input.old input.new result }
     ensures nothing { IfErr result (λ e. e ≢ Fault.Write → out.new ≡ out.old) }
@@ -42,13 +42,13 @@ fn perform_judging<F: Files, W: Write>(
     out: &mut Sink<W>,
 ) -> Result<bool, Fault>
     ensures answer { Performs
-        (RequestOutcome (F.held files.old) None false (judging_seen judging.now))
+        (RequestOutcome (F.contents files.old) None false (judging_seen judging.now))
         W.contents out.old out.new result }
     ensures nothing { IfErr result (λ e. e ≢ Fault.Write → out.new ≡ out.old) }
     ensures unflushed { Unflushed out.old out.new }
 {
     let texts = take_texts(alloc, judging.documents.as_slice(), judging.file, files)?;
-    let docs = handed_in(alloc, texts.documents.as_slice())?;
+    let docs = borrowed_documents(alloc, texts.documents.as_slice())?;
     let mut text = Source::new(texts.judged.as_slice());
     match &judging.subject {
         Subject::Instance(format, entry) => {
@@ -75,13 +75,13 @@ fn perform_places<F: Files, W: Write>(
     out: &mut Sink<W>,
 ) -> Result<bool, Fault>
     ensures answer { Performs
-        (RequestOutcome (F.held files.old) None false (places (pairs_seen documents.now)))
+        (RequestOutcome (F.contents files.old) None false (places (pairs_seen documents.now)))
         W.contents out.old out.new result }
     ensures nothing { IfErr result (λ e. e ≢ Fault.Write → out.new ≡ out.old) }
     ensures unflushed { Unflushed out.old out.new }
 {
-    let held = take_all(alloc, documents, files)?;
-    let docs = handed_in(alloc, held.as_slice())?;
+    let contents = take_all(alloc, documents, files)?;
+    let docs = borrowed_documents(alloc, contents.as_slice())?;
     run_places(alloc, docs.as_slice(), out)?;
     Ok(true)
 }

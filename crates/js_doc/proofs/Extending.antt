@@ -4,7 +4,8 @@ use Rattle.std.proofs.lemmas.List.{length-take, take-append-le, take-append-drop
 use Rattle.js_doc.specs.code.Extends.{Extends}
 
 is_longer : (s t : List ℕ) → Extends s t → length s ≤ length t
-is_longer s t e = let n : length (take (length s) t) ≡ length s = ap length e in omega (arith, n, length-take (length s) t)
+is_longer s t e = let n : length (take (length s) t) ≡ length s = ap length e in
+    omega (arith, n, length-take (length s) t)
 
 grown : (s t piece : List ℕ) → Extends s t → Extends s (t ++ piece)
 grown s t piece e = take-append-le (length s) t piece (is_longer s t e) ∙ e

@@ -1,5 +1,6 @@
--- The set of the bytes that a fragment escapes is the one that the definition tells.
-use Rattle.std.proofs.Common.{◌≡◌, ℕ, ◌≤◌, Bool, true, false, not, ◌==◌, ltb, List, [], ◌∷◌, ◌++◌, flat_map, if◌then◌else◌, refl, sym, ap, ◌∙◌, arith}
+-- The set of the bytes that a fragment escapes is the one that the definition names.
+use Rattle.std.proofs.Common.{◌≡◌, ℕ, ◌≤◌, Bool, true, false, not, ◌==◌, ltb, List, [], ◌∷◌, ◌++◌}
+use Rattle.std.proofs.Common.{flat_map, if◌then◌else◌, refl, sym, ap, ◌∙◌, arith}
 use Rattle.std.specs.Char.{is_ascii_alphanumeric}
 use Rattle.std.specs.List.{list_any, list_all}
 use Rattle.std.proofs.lemmas.Bool.{agree_below, agree_below_at, cond_both, and_parts}
@@ -36,7 +37,8 @@ escaped_high b high = grind (arith, nat_tests)
 
 agree : (b : ℕ) → should_percent_encode ESCAPED b ≡ not (is_fragment_char b)
 agree b = cond_both (ltb b 128) true false (λ x. should_percent_encode ESCAPED b ≡ not (is_fragment_char b))
-    (λ e. agree_below_at (should_percent_encode ESCAPED) (λ b. not (is_fragment_char b)) 128 b below (grind (arith, nat_tests)))
+    (λ e. agree_below_at (should_percent_encode ESCAPED) (λ b. not (is_fragment_char b)) 128 b below
+    (grind (arith, nat_tests)))
     (λ e. let high : 128 ≤ b = grind (arith, nat_tests) in escaped_high b high ∙ ap not (sym (no_char_high b high)))
 
 turned : (s : Bool) (xs ys : List ℕ) → (if not s then xs else ys) ≡ (if s then ys else xs)
@@ -44,12 +46,14 @@ turned true xs ys = refl
 turned false xs ys = refl
 
 same_byte : (b : ℕ) → encode_byte ESCAPED b ≡ fragment_byte b
-same_byte b = ap (λ t. if t then percent_encode_byte b else b ∷ []) (agree b) ∙ turned (is_fragment_char b) (percent_encode_byte b) (b ∷ [])
+same_byte b = ap (λ t. if t then percent_encode_byte b else b ∷ []) (agree b)
+    ∙ turned (is_fragment_char b) (percent_encode_byte b) (b ∷ [])
 
 pub fragment_is : (bs : List ℕ) → percent_encode ESCAPED bs ≡ flat_map fragment_byte bs
 unfolding percent_encode
 fragment_is [] = refl
-fragment_is (b ∷ bs) = ap (λ x. x ++ flat_map (encode_byte ESCAPED) bs) (same_byte b) ∙ ap (λ x. fragment_byte b ++ x) (fragment_is bs)
+fragment_is (b ∷ bs) = ap (λ x. x ++ flat_map (encode_byte ESCAPED) bs) (same_byte b)
+    ∙ ap (λ x. fragment_byte b ++ x) (fragment_is bs)
 
 pub has_percent : contains ESCAPED 37 ≡ true
 has_percent = refl

@@ -1,5 +1,6 @@
 -- Values of two kinds are in the order of the kinds.
-use Rattle.std.proofs.Common.{◌≡◌, ◌≢◌, ℕ, suc, ◌<◌, true, false, refl, pos, negsuc, sym, ap, ◌∙◌, arith, Ordering, Less, Equal, Greater}
+use Rattle.std.proofs.Common.{◌≡◌, ◌≢◌, ℕ, suc, ◌<◌, true, false, refl, pos, negsuc, sym, ap}
+use Rattle.std.proofs.Common.{◌∙◌, arith, Ordering, Less, Equal, Greater}
 use Rattle.std.specs.Cmp.{ranks}
 use Rattle.std.specs.Ordering.{nat_cmp, ordering_then, ordering_reverse, MatchOrdering}
 use base.Stored.{Gv, gnil, gnum, gcons}
@@ -38,7 +39,8 @@ below (gcons a b) (gcons c d) h = ap (λ r. ordering_then r (tree_order b d)) (b
 lower : (v w : Value) → kind_rank v < kind_rank w → order v w ≡ Less
 lower v w h = below (to_value v) (to_value w) (omega (arith, h, stored_rank v, stored_rank w))
 
-by_rank : (v w : Value) (r : Ordering) → MatchOrdering r (kind_rank v < kind_rank w) (kind_rank v ≡ kind_rank w) (kind_rank w < kind_rank v) → kind_rank v ≢ kind_rank w → r ≡ order v w
+by_rank : (v w : Value) (r : Ordering) → MatchOrdering r (kind_rank v < kind_rank w) (kind_rank v ≡ kind_rank w)
+    (kind_rank w < kind_rank v) → kind_rank v ≢ kind_rank w → r ≡ order v w
 by_rank v w Less h n = sym (lower v w h)
 by_rank v w Equal h n = absurd (n h)
 by_rank v w Greater h n = sym (order-total.antisymm v w ∙ ap ordering_reverse (lower w v h))

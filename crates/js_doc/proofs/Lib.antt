@@ -9,6 +9,8 @@ pub mod Ordered
 pub mod KindsOrdered
 pub mod Escapes
 pub mod Finding
+pub mod TokenLoops
+pub mod FromTokens
 pub mod Ascending
 pub mod Shortness
 pub mod PointerTexts
@@ -16,8 +18,9 @@ pub mod TextBytes
 pub mod FragmentBytes
 pub mod TokenBytes
 pub mod PlainTokens
-pub mod Named
+pub mod TokenLookup
 pub mod LastToken
 pub mod FiniteMaps
 pub mod Placing
 pub mod Smaller
+pub mod EachSame

@@ -1,5 +1,6 @@
 -- The order of documents, a part further on.
-use Rattle.std.proofs.Common.{◌≡◌, ℕ, ◌+◌, ◌<◌, ◌≤◌, List, [], ◌∷◌, length, drop, Ordering, Less, Equal, Greater, nat_cmp, refl, sym, ap, ◌∙◌, arith}
+use Rattle.std.proofs.Common.{◌≡◌, ℕ, ◌+◌, ◌<◌, ◌≤◌, List, [], ◌∷◌, length, drop, Ordering, Less}
+use Rattle.std.proofs.Common.{Equal, Greater, nat_cmp, refl, sym, ap, ◌∙◌, arith}
 use Rattle.std.proofs.lemmas.List.{length-drop}
 use Rattle.std.specs.Cmp.{ranks}
 use Rattle.std.specs.Cmp.Lexicographic.{slice_cmp}
@@ -24,27 +25,38 @@ EntriesOrder a b = tree_order (to_members (members_seen a)) (to_members (members
 
 -- ---- where one list ends, the lengths decide
 
-decided : (m n : ℕ) (r : Ordering) → MatchOrdering r (m < n) (m ≡ n) (n < m) → (m < n → r ≡ Less) × (m ≡ n → r ≡ Equal) × (n < m → r ≡ Greater)
+decided : (m n : ℕ) (r : Ordering) → MatchOrdering r (m < n) (m ≡ n) (n < m)
+    → (m < n → r ≡ Less) × (m ≡ n → r ≡ Equal) × (n < m → r ≡ Greater)
 decided m n Less h = (λ e. refl, λ e. absurd (omega (arith, h, e)), λ e. absurd (omega (arith, h, e)))
 decided m n Equal h = (λ e. absurd (omega (arith, h, e)), λ e. refl, λ e. absurd (omega (arith, h, e)))
 decided m n Greater h = (λ e. absurd (omega (arith, h, e)), λ e. absurd (omega (arith, h, e)), λ e. refl)
 
-by_length : {A : Type 0} (all : List A → List A → Ordering) → all [] [] ≡ Equal → ((y : A) (b : List A) → all [] (y ∷ b) ≡ Less) → ((x : A) (a : List A) → all (x ∷ a) [] ≡ Greater)
-    → (m n i : ℕ) (a b : List A) → length a + i ≡ m → length b + i ≡ n → (0 < length a → 0 < length b → ⊥) → nat_cmp m n ≡ all a b
-by_length all both more fewer m n i [] [] p q h = (decided m n (nat_cmp m n) (ranks m n)).1 (omega (arith, p, q)) ∙ sym both
-by_length all both more fewer m n i [] (y ∷ b) p q h = (decided m n (nat_cmp m n) (ranks m n)).0 (omega (arith, p, q)) ∙ sym (more y b)
-by_length all both more fewer m n i (x ∷ a) [] p q h = (decided m n (nat_cmp m n) (ranks m n)).2 (omega (arith, p, q)) ∙ sym (fewer x a)
+by_length : {A : Type 0} (all : List A → List A → Ordering) → all [] [] ≡ Equal
+    → ((y : A) (b : List A) → all [] (y ∷ b) ≡ Less) → ((x : A) (a : List A) → all (x ∷ a) [] ≡ Greater)
+    → (m n i : ℕ) (a b : List A) → length a + i ≡ m → length b + i ≡ n → (0 < length a → 0 < length b → ⊥)
+    → nat_cmp m n ≡ all a b
+by_length all both more fewer m n i [] [] p q h =
+    (decided m n (nat_cmp m n) (ranks m n)).1 (omega (arith, p, q)) ∙ sym both
+by_length all both more fewer m n i [] (y ∷ b) p q h =
+    (decided m n (nat_cmp m n) (ranks m n)).0 (omega (arith, p, q)) ∙ sym (more y b)
+by_length all both more fewer m n i (x ∷ a) [] p q h =
+    (decided m n (nat_cmp m n) (ranks m n)).2 (omega (arith, p, q)) ∙ sym (fewer x a)
 by_length all both more fewer m n i (x ∷ a) (y ∷ b) p q h = absurd (h (omega arith) (omega arith))
 
-ended : {A : Type 0} (all : List A → List A → Ordering) → all [] [] ≡ Equal → ((y : A) (b : List A) → all [] (y ∷ b) ≡ Less) → ((x : A) (a : List A) → all (x ∷ a) [] ≡ Greater)
-    → (a b : List A) (i : ℕ) → i ≤ length a → i ≤ length b → (i < length a → i < length b → ⊥) → nat_cmp (length a) (length b) ≡ all (drop i a) (drop i b)
+ended : {A : Type 0} (all : List A → List A → Ordering) → all [] [] ≡ Equal
+    → ((y : A) (b : List A) → all [] (y ∷ b) ≡ Less) → ((x : A) (a : List A) → all (x ∷ a) [] ≡ Greater)
+    → (a b : List A) (i : ℕ) → i ≤ length a → i ≤ length b → (i < length a → i < length b → ⊥)
+    → nat_cmp (length a) (length b) ≡ all (drop i a) (drop i b)
 ended all both more fewer a b i p q h =
     let m = length-drop i a in
     let n = length-drop i b in
-    by_length all both more fewer (length a) (length b) i (drop i a) (drop i b) (omega (arith, p, m)) (omega (arith, q, n)) (λ s t. h (omega (arith, p, m, s)) (omega (arith, q, n, t)))
+    by_length all both more fewer (length a) (length b) i (drop i a) (drop i b) (omega (arith, p, m))
+    (omega (arith, q, n)) (λ s t. h (omega (arith, p, m, s)) (omega (arith, q, n, t)))
 
-pub items_ended : (a b : List Doc) (i : ℕ) → i ≤ length a → i ≤ length b → (i < length a → i < length b → ⊥) → nat_cmp (length a) (length b) ≡ ItemsOrder (drop i a) (drop i b)
+pub items_ended : (a b : List Doc) (i : ℕ) → i ≤ length a → i ≤ length b → (i < length a → i < length b → ⊥)
+    → nat_cmp (length a) (length b) ≡ ItemsOrder (drop i a) (drop i b)
 items_ended = ended ItemsOrder refl (λ y b. refl) (λ x a. refl)
 
-pub entries_ended : (a b : List Entry) (i : ℕ) → i ≤ length a → i ≤ length b → (i < length a → i < length b → ⊥) → nat_cmp (length a) (length b) ≡ EntriesOrder (drop i a) (drop i b)
+pub entries_ended : (a b : List Entry) (i : ℕ) → i ≤ length a → i ≤ length b → (i < length a → i < length b → ⊥)
+    → nat_cmp (length a) (length b) ≡ EntriesOrder (drop i a) (drop i b)
 entries_ended = ended EntriesOrder refl (λ y b. refl) (λ x a. refl)

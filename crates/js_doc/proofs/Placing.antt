@@ -1,5 +1,6 @@
 -- Where a name stands among members whose names ascend, and what is got and put there.
-use Rattle.std.proofs.Common.{◌≡◌, ℕ, ◌+◌, ◌-◌, ◌/◌, ◌<◌, ◌≤◌, suc, zero, List, [], ◌∷◌, ◌++◌, map, length, get_or, set, insert}
+use Rattle.std.proofs.Common.{◌≡◌, ℕ, ◌+◌, ◌-◌, ◌/◌, ◌<◌, ◌≤◌, suc, zero, List, [], ◌∷◌}
+use Rattle.std.proofs.Common.{◌++◌, map, length, get_or, set, insert}
 use Rattle.std.proofs.Common.{Some, None, String, Global, Ordering, Less}
 use Rattle.std.proofs.Common.{Equal, Greater, true, string_bytes, refl, sym, ap, ◌∙◌, subst, arith}
 use Rattle.std.proofs.lemmas.Cmp.{nat_list_cmp_total}
@@ -15,7 +16,7 @@ use Rattle.js_doc.specs.code.Places.{rank, rank_past, GoesTo, StandsAt, IsAboveA
 use Rattle.js_doc.specs.declared.doc.Doc.{Doc}
 use Rattle.js_doc.proofs.Alike.{Entry}
 use Rattle.js_doc.proofs.FiniteMaps.{name_equal, get_below}
-use Rattle.js_doc.proofs.Named.{is_text-sound}
+use Rattle.js_doc.proofs.TokenLookup.{is_text-sound}
 use Rattle.js_doc.proofs.Ascending.{members_ascend-put}
 use Rattle.js_doc.proofs.Shortness.{members_short-put}
 
@@ -45,8 +46,10 @@ above_same h x k e f = above h k (subst (λ y. name_cmp h y ≡ Less) (sym (name
 -- ---- a search
 
 -- the middle is one of the places
-pub middle_within : (low high n : ℕ) → low < high → high ≤ n → (low + (high - low) / 2 < high) × (low + (high - low) / 2 < n)
-middle_within low high n h fits = let below : low + (high - low) / 2 < high = omega (arith, h) in (below, omega (arith, below, fits))
+pub middle_within : (low high n : ℕ) → low < high → high ≤ n
+    → (low + (high - low) / 2 < high) × (low + (high - low) / 2 < n)
+middle_within low high n h fits = let below : low + (high - low) / 2 < high = omega (arith, h) in
+    (below, omega (arith, below, fits))
 
 -- so is the last one, where there are some
 pub last_place : (n : ℕ) → (n ≡ 0 → ⊥) → (n - 1 < n) × (n - 1 + 1 ≡ n)
@@ -163,6 +166,17 @@ pub get_none : (k : List ℕ) (seen es : List Entry) (i : ℕ) → seen ≡ es �
 get_none k seen es i same s h =
     let there : GoesTo k (map pair_of es) i = subst (λ ys. GoesTo k (map pair_of ys) i) same h in
     sym (none_ranked k (map pair_of es) (there.0 ∙ sym there.1) s)
+
+-- a name that stands somewhere goes nowhere
+pub stands_or_goes : (k : List ℕ) (seen es : List Entry) (i j : ℕ) → seen ≡ es → IsAscending (map pair_of es)
+    → StandsAt k seen i → GoesTo k (map pair_of es) j → ⊥
+stands_or_goes k seen [] i j same s h g =
+    let there : StandsAt k [] i = subst (λ ys. StandsAt k ys i) same h in absurd (omega (arith, there.0))
+stands_or_goes k seen (f ∷ es) i j same s h g =
+    let there : StandsAt k (f ∷ es) i = subst (λ ys. StandsAt k ys i) same h in
+    let got = get_at k (f ∷ es) i f s there.0 (there.1 f) in
+    let none = none_ranked k (map pair_of (f ∷ es)) (g.0 ∙ sym g.1) s in
+    let x : None ≡ Some (value_of (get_or (f ∷ es) i f).1) = sym none ∙ got in absurd (cc)
 
 -- ---- what is put
 

@@ -1,5 +1,6 @@
 -- Tokens that are written as they are, in a pointer's text and in a fragment.
-use Rattle.std.proofs.Common.{◌≡◌, ℕ, ◌≤◌, Bool, true, false, not, ◌&&◌, ◌==◌, ltb, List, [], ◌∷◌, flat_map, refl, sym, ap, subst, ◌∙◌, arith}
+use Rattle.std.proofs.Common.{◌≡◌, ℕ, ◌≤◌, Bool, true, false, not, ◌&&◌, ◌==◌, ltb, List, [], ◌∷◌}
+use Rattle.std.proofs.Common.{flat_map, refl, sym, ap, subst, ◌∙◌, arith}
 use Rattle.std.specs.List.{list_all}
 use Rattle.std.proofs.lemmas.Bool.{agree_below, agree_below_at, and_parts, cond_both}
 use Rattle.std.proofs.lemmas.Bool.Decides.{nat_tests}
@@ -40,7 +41,8 @@ decided false false e f = f
 
 plain_is_both : (b : ℕ) → is_plain b ≡ true → is_both b ≡ true
 plain_is_both b e = cond_both (ltb b 128) true false (λ x. is_both b ≡ true)
-    (λ l. decided (is_plain b) (is_both b) (agree_below_at (λ b. is_plain b && not (is_both b)) (λ b. false) 128 b below (grind (arith, nat_tests))) e)
+    (λ l. decided (is_plain b) (is_both b)
+    (agree_below_at (λ b. is_plain b && not (is_both b)) (λ b. false) 128 b below (grind (arith, nat_tests))) e)
     (λ l. let high : 128 ≤ b = grind (arith, nat_tests) in let no = plain_high b high in absurd cc)
 
 pub kept_too : (bs : List ℕ) → list_all is_plain bs ≡ true → list_all is_kept bs ≡ true
@@ -67,7 +69,8 @@ low : agree_below is_plain (λ b. false) 35 ≡ true
 low = refl
 
 above_marks : (b : ℕ) (v w : Bool) → ltb b 35 ≡ v → b == 92 ≡ w → is_plain b ≡ true → stands b ≡ true
-above_marks b true w l m e = let no : is_plain b ≡ false = agree_below_at is_plain (λ b. false) 35 b low (grind (arith, nat_tests, l)) in absurd cc
+above_marks b true w l m e = let no : is_plain b
+    ≡ false = agree_below_at is_plain (λ b. false) 35 b low (grind (arith, nat_tests, l)) in absurd cc
 above_marks b false true l m e =
     let is : b ≡ 92 = grind (arith, nat_tests, m) in
     let no : is_plain 92 ≡ true = subst (λ c. is_plain c ≡ true) is e in

@@ -1,5 +1,6 @@
 -- A text with its escapes in runs of bytes that stand as they are.
-use Rattle.std.proofs.Common.{◌≡◌, ℕ, suc, ◌+◌, ◌-◌, ◌<◌, ◌==◌, Bool, true, false, cond, ◌&&◌, List, [], ◌∷◌, ◌++◌, length, take, drop, get_or, refl, ap, sym, ◌∙◌, append-nil, arith}
+use Rattle.std.proofs.Common.{◌≡◌, ℕ, suc, ◌+◌, ◌-◌, ◌<◌, ◌≤◌, ◌==◌, Bool, true, false, cond, ◌&&◌, List, [], ◌∷◌, ◌++◌}
+use Rattle.std.proofs.Common.{length, take, drop, get_or, refl, ap, sym, ◌∙◌, append-nil, arith}
 use Rattle.std.proofs.lemmas.Bool.Decides.{nat_tests}
 use Rattle.std.proofs.lemmas.Bool.{eqb-true, ne_eqb}
 use Rattle.std.proofs.lemmas.List.{take_all}
@@ -17,19 +18,30 @@ escaped_from bs i = escape (drop i bs)
 abbrev pub run : List ℕ → ℕ → ℕ → List ℕ
 run bs start end = take (end - start) (drop start bs)
 
-pub run_first : (bs : List ℕ) (start end : ℕ) → end ≡ start + prefix_len stands (drop start bs) → escaped_from bs start ≡ run bs start end ++ escaped_from bs end
+pub run_first : (bs : List ℕ) (start end : ℕ) → end ≡ start + prefix_len stands (drop start bs)
+    → escaped_from bs start ≡ run bs start end ++ escaped_from bs end
 run_first bs start end is =
-    sym (append-nil (escaped_from bs start)) ∙ (escape_to_stop bs start end [] is ∙ ap (λ l. run bs start end ++ l) (append-nil (escaped_from bs end)))
+    sym (append-nil (escaped_from bs start))
+    ∙ (escape_to_stop bs start end [] is ∙ ap (λ l. run bs start end ++ l) (append-nil (escaped_from bs end)))
+
+-- the run from start on has come as far as end: it ends where the run from there on does
+abbrev pub IsRunUpTo : List ℕ → ℕ → ℕ → Type 0
+IsRunUpTo bs start end =
+    (start + prefix_len stands (drop start bs) ≡ end + prefix_len stands (drop end bs)) × (end ≤ length bs)
 
 -- the run has gone out
-pub run_gone : (a b c : Progress) (bs : List ℕ) (start end : ℕ) (all : List ℕ) → Wrote a b (escaped_from bs start) all → end ≡ start + prefix_len stands (drop start bs) → Goes b c (run bs start end)
+pub run_gone : (a b c : Progress) (bs : List ℕ) (start end : ℕ) (all : List ℕ) → Wrote a b (escaped_from bs start) all
+    → end ≡ start + prefix_len stands (drop start bs) → Goes b c (run bs start end)
     → Wrote a c (escaped_from bs end) all
-run_gone a b c bs start end all w is run_goes = goes_on a b c (run bs start end) _ all (same_left a b _ _ all w (run_first bs start end is)) run_goes
+run_gone a b c bs start end all w is run_goes =
+    goes_on a b c (run bs start end) _ all (same_left a b _ _ all w (run_first bs start end is)) run_goes
 
 -- then a byte that is escaped
-pub escape_next : (bs : List ℕ) (i : ℕ) → i < length bs → escaped_from bs i ≡ escape_byte (get_or bs i 0) ++ escaped_from bs (i + 1)
+pub escape_next : (bs : List ℕ) (i : ℕ) → i < length bs
+    → escaped_from bs i ≡ escape_byte (get_or bs i 0) ++ escaped_from bs (i + 1)
 escape_next bs i h =
-    sym (append-nil (escaped_from bs i)) ∙ (escape_at bs i [] h ∙ ap (λ l. escape_byte (get_or bs i 0) ++ l) (append-nil (escaped_from bs (i + 1))))
+    sym (append-nil (escaped_from bs i))
+    ∙ (escape_at bs i [] h ∙ ap (λ l. escape_byte (get_or bs i 0) ++ l) (append-nil (escaped_from bs (i + 1))))
 
 -- or the end
 pub none_left : (bs : List ℕ) (i : ℕ) → i ≡ length bs → escaped_from bs i ≡ []

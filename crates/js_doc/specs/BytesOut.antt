@@ -22,7 +22,8 @@ Goes old new bytes = Appends old.gone new.gone bytes × CallsOnce old new bytes 
 -- a beginning of the bytes has gone out, and it has stopped
 abbrev pub Stops : Progress → Progress → List ℕ → Type 0
 Stops old new bytes =
-    (part : List ℕ) × (left : List ℕ) × (part ++ left ≡ bytes) × Appends old.gone new.gone part × CallsOnce old new bytes × (new.stopped ≡ true)
+    (part : List ℕ) × (left : List ℕ) × (part ++ left ≡ bytes) × Appends old.gone new.gone part
+    × CallsOnce old new bytes × (new.stopped ≡ true)
 
 abbrev pub Puts : {T E : Type 0} → Progress → Progress → List ℕ → Result T E → Type 0
 Puts old new bytes result = MatchResult result (λ _. Goes old new bytes) (λ _. Stops old new bytes)

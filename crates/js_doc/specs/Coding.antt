@@ -3,7 +3,8 @@ use Rattle.std.specs.Prelude.{◌≡◌, ℕ, suc, zero, pos, negsuc, List, [], 
 use Rattle.std.specs.Coded.{Coded, code_by, coded_list, coded×, coded_ℕ}
 use base.Stored.{Gv, gnil, gnum, gcons}
 use denote.Struct.Codes.{itself}
-use Rattle.js_doc.specs.Value.{Value, null, truth, whole, text, list, object, Items, no_items, item, Members, no_members, member, Values, Named}
+use Rattle.js_doc.specs.Value.{Value, null, truth, whole, text, list, object, Items, no_items, item}
+use Rattle.js_doc.specs.Value.{Members, no_members, member, Values, Named}
 
 abbrev pub to_text : List ℕ → Gv
 to_text [] = gnil
@@ -77,7 +78,8 @@ mutual
 
   pub from_members-to_members : (ms : Members) → from_members (to_members ms) ≡ ms
   from_members-to_members no_members = refl
-  from_members-to_members (member k v ms) = λ i. member (from_text-to_text k i) (from_value-to_value v i) (from_members-to_members ms i)
+  from_members-to_members (member k v ms) = λ i.
+      member (from_text-to_text k i) (from_value-to_value v i) (from_members-to_members ms i)
 
 abbrev pub value_code : Coded Value
 value_code = code_by Gv itself to_value from_value from_value-to_value

@@ -3,7 +3,8 @@ use Rattle.std.specs.Prelude.{ℕ, List, [], ◌++◌, Bool, true, false, codes}
 use Rattle.std.specs.Fmt.{signed_decimal}
 use Rattle.serde_json.specs.Data as json
 use Rattle.serde_json.specs.Written.{compact_text}
-use Rattle.js_doc.specs.Value.{Value, null, truth, whole, text, list, object, Items, no_items, item, Members, no_members, member}
+use Rattle.js_doc.specs.Value.{Value, null, truth, whole, text, list, object, Items}
+use Rattle.js_doc.specs.Value.{no_items, item, Members, no_members, member}
 
 -- a text between quotation marks, escaped as `serde_json` escapes it (RFC 8259, section 7)
 abbrev pub quoted : List ℕ → List ℕ
@@ -32,4 +33,5 @@ abbrev mutual
   -- the members from here on, and the closing brace
   pub compact_members : Bool → Members → List ℕ
   compact_members later no_members = codes "}"
-  compact_members later (member k v ms) = comma_if later ++ (quoted k ++ (codes ":" ++ (compact v ++ compact_members true ms)))
+  compact_members later (member k v ms) = comma_if later
+      ++ (quoted k ++ (codes ":" ++ (compact v ++ compact_members true ms)))

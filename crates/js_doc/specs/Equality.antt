@@ -40,7 +40,8 @@ same_tree-sound (gnum m) (gcons c d) e = absurd (cc)
 same_tree-sound (gcons a b) gnil e = absurd (cc)
 same_tree-sound (gcons a b) (gnum n) e = absurd (cc)
 same_tree-sound (gcons a b) (gcons c d) e =
-    let both = and_both (same_tree a c) (same_tree b d) e in λ i. gcons (same_tree-sound a c both.0 i) (same_tree-sound b d both.1 i)
+    let both = and_both (same_tree a c) (same_tree b d) e in
+    λ i. gcons (same_tree-sound a c both.0 i) (same_tree-sound b d both.1 i)
 
 -- a value is the same as itself
 pub same-refl : (v : Value) → same v v ≡ true
@@ -48,7 +49,8 @@ same-refl v = same_tree-refl (to_value v)
 
 -- what is the same is equal
 pub same-sound : (v w : Value) → same v w ≡ true → v ≡ w
-same-sound v w e = sym (from_value-to_value v) ∙ ap from_value (same_tree-sound (to_value v) (to_value w) e) ∙ from_value-to_value w
+same-sound v w e = sym (from_value-to_value v) ∙ ap from_value (same_tree-sound (to_value v) (to_value w) e)
+    ∙ from_value-to_value w
 
 -- what is equal is the same
 pub same-complete : (v w : Value) → v ≡ w → same v w ≡ true
@@ -60,4 +62,8 @@ same_back v w false e true f = sym e ∙ ap (same v) (same-sound w v f) ∙ same
 same_back v w false e false f = refl
 
 pub same-equivalence : IsEquivalence same
-same-equivalence = record { refl = same-refl; symm = λ v w. same_back v w _ refl _ refl; congr = λ v w u e. ap (λ x. same x u) (same-sound v w e) }
+same-equivalence = record {
+  refl = same-refl;
+  symm = λ v w. same_back v w _ refl _ refl;
+  congr = λ v w u e. ap (λ x. same x u) (same-sound v w e);
+}

@@ -14,6 +14,7 @@ pub mod Plain
 pub mod Pointer
 pub mod PointerReading
 pub mod Fragment
+pub mod Notation
 pub mod Lookup
 pub mod Compact
 pub mod BytesOut

@@ -1,5 +1,6 @@
 -- What stands at a pointer in a value (RFC 6901, section 4).
-use Rattle.std.specs.Prelude.{ℕ, ◌+◌, List, [], ◌∷◌, Bool, if◌then◌else◌, nat_eq, decimal, Option, Some, None, option_and_then}
+use Rattle.std.specs.Prelude.{ℕ, ◌+◌, List, [], ◌∷◌, Bool, if◌then◌else◌, nat_eq, decimal}
+use Rattle.std.specs.Prelude.{Option, Some, None, option_and_then}
 use Rattle.std.specs.Cmp.Lexicographic.{pointwise}
 use Rattle.js_doc.specs.Value.{Value, list, object, Items, no_items, item, Members, no_members, member}
 use Rattle.js_doc.specs.Pointer.{Tokens}

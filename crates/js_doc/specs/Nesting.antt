@@ -1,6 +1,7 @@
 -- How deep a value nests: a value that holds no other nests 0 deep.
 use Rattle.std.specs.Prelude.{ℕ, suc, max}
-use Rattle.js_doc.specs.Value.{Value, list, object, Items, no_items, item, Members, no_members, member, Values, Named, items, members}
+use Rattle.js_doc.specs.Value.{Value, list, object, Items, no_items, item, Members, no_members}
+use Rattle.js_doc.specs.Value.{member, Values, Named, items, members}
 
 abbrev mutual
   pub depth : Value → ℕ

@@ -1,6 +1,7 @@
--- A total order of values, as a test that computes: null, false, true, texts by their bytes, numbers from 0 up, numbers from -1 down,
--- lists item by item, and objects member by member, a name before its value. A list or an object that ends comes before one that goes on.
--- The order is the project's own; it ties exactly the values that are equal (`order-ties`, `order-sound`).
+-- A total order of values, as a test that computes: null, false, true, texts by their bytes, numbers from 0 up, numbers
+-- from -1 down, lists item by item, and objects member by member, a name before its value. A list or an object that
+-- ends comes before one that goes on. The order is the project's own; it ties exactly the values that are equal
+-- (`order-ties`, `order-sound`).
 use Rattle.std.specs.Prelude.{◌≡◌, ℕ, List, [], ◌∷◌, refl}
 use Rattle.std.proofs.Common.{ap, ◌∙◌, subst, is_eq}
 use Rattle.std.specs.Cmp.{IsTotalOrder, on_total, unsigned_ties, both_tied}
@@ -44,7 +45,8 @@ then_equal Less = refl
 then_equal Equal = refl
 then_equal Greater = refl
 
-flat_order : (a b : Gv) (k l : List ℕ) → slice_cmp nat_cmp (flat a k) (flat b l) ≡ ordering_then (tree_order a b) (slice_cmp nat_cmp k l)
+flat_order : (a b : Gv) (k l : List ℕ)
+    → slice_cmp nat_cmp (flat a k) (flat b l) ≡ ordering_then (tree_order a b) (slice_cmp nat_cmp k l)
 flat_order gnil gnil k l = refl
 flat_order gnil (gnum n) k l = refl
 flat_order gnil (gcons c d) k l = refl
@@ -54,10 +56,12 @@ flat_order (gnum m) (gcons c d) k l = refl
 flat_order (gcons a b) gnil k l = refl
 flat_order (gcons a b) (gnum n) k l = refl
 flat_order (gcons a b) (gcons c d) k l =
-    flat_order a c (flat b k) (flat d l) ∙ ap (ordering_then (tree_order a c)) (flat_order b d k l) ∙ then_then (tree_order a c) (tree_order b d) (slice_cmp nat_cmp k l)
+    flat_order a c (flat b k) (flat d l) ∙ ap (ordering_then (tree_order a c)) (flat_order b d k l)
+    ∙ then_then (tree_order a c) (tree_order b d) (slice_cmp nat_cmp k l)
 
 tree_order-total : IsTotalOrder tree_order
-tree_order-total = subst IsTotalOrder (λ i a b. (flat_order a b [] [] ∙ then_equal (tree_order a b)) i) (on_texts (λ g. flat g []))
+tree_order-total = subst IsTotalOrder (λ i a b. (flat_order a b [] [] ∙ then_equal (tree_order a b)) i)
+    (on_texts (λ g. flat g []))
 
 pub order-total : IsTotalOrder order
 order-total = on_total to_value tree_order-total
@@ -73,7 +77,8 @@ tree_ties (gnum m) (gnum n) = unsigned_ties m n
 tree_ties (gnum m) (gcons c d) = refl
 tree_ties (gcons a b) gnil = refl
 tree_ties (gcons a b) (gnum n) = refl
-tree_ties (gcons a b) (gcons c d) = both_tied (same_tree a c) (same_tree b d) (tree_order a c) (tree_order b d) (tree_ties a c) (tree_ties b d)
+tree_ties (gcons a b) (gcons c d) =
+    both_tied (same_tree a c) (same_tree b d) (tree_order a c) (tree_order b d) (tree_ties a c) (tree_ties b d)
 
 pub order-ties : (v w : Value) → same v w ≡ eq_by_cmp order v w
 order-ties v w = tree_ties (to_value v) (to_value w)

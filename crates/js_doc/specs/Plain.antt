@@ -1,4 +1,5 @@
--- Bytes of a token that are written as they are, in the text of a pointer and in a fragment (RFC 6901, sections 3 and 6).
+-- Bytes of a token that are written as they are, in the text of a pointer and in a fragment (RFC 6901, sections 3 and
+-- 6).
 use Rattle.std.specs.Prelude.{ℕ, Bool, not, ◌&&◌, ◌||◌, ◌==◌}
 use Rattle.std.specs.Char.{is_ascii_alphanumeric}
 

@@ -3,7 +3,8 @@
 use Rattle.std.specs.Prelude.{ℕ, ◌+◌, pos, List, [], ◌∷◌, Result, Ok, Err, decimal}
 use Rattle.serde_json.specs.Data as json
 use Rattle.serde_json.specs.Data.{Num, unsigned, negative, float, Data}
-use Rattle.js_doc.specs.Value.{Value, null, truth, whole, text, list, object, Items, no_items, item, Members, no_members, member}
+use Rattle.js_doc.specs.Value.{Value, null, truth, whole, text, list, object, Items}
+use Rattle.js_doc.specs.Value.{no_items, item, Members, no_members, member}
 use Rattle.js_doc.specs.Pointer.{Tokens}
 
 -- what is wanted, or the way to what stands against it

@@ -27,10 +27,7 @@ pub(crate) fn convert_owned(alloc: Global, value: Value) -> Result<Doc, ReadFaul
         Value::Bool(b) => Ok(Doc::Truth(b)),
         Value::Number(number) => convert_number(alloc, &number),
         Value::String(text) => Ok(Doc::Text(Text::new(text))),
-        Value::Array(values) => {
-            let docs = convert_owned_items(alloc, values)?;
-            Ok(Doc::List(Items::new(docs)))
-        }
+        Value::Array(values) => Ok(Doc::List(Items::new(convert_owned_items(alloc, values)?))),
         Value::Object(map) => {
             let members = convert_owned_members(alloc, map)?;
             Ok(Doc::Members(members))
@@ -49,10 +46,7 @@ fn convert_owned_items(alloc: Global, values: Vec<Value>) -> Result<Vec<Doc>, Re
     for value in values {
         match convert_owned(alloc, value) {
             Ok(doc) => docs.push_reserved(doc),
-            Err(fault) => {
-                let token = index_token(alloc, docs.len())?;
-                return Err(fault.lifted(token));
-            }
+            Err(fault) => return Err(fault.lifted(index_token(alloc, docs.len())?)),
         }
     }
     Ok(docs)
@@ -74,7 +68,7 @@ fn convert_owned_members(alloc: Global, map: Map<String, Value>) -> Result<Membe
     Ok(members)
 }
 
-// No values, with room for so many.
+// No values, with room for `len`.
 pub(crate) fn values_with_room(alloc: Global, len: usize) -> Result<Vec<Doc>, Memory>
     ensures items { IfOk result (λ v. v.items ≡ []) }
     ensures room { IfOk result (λ v. len ≤ vec_capacity v) }

@@ -1,7 +1,7 @@
 ghost use Rattle.std.specs.Prelude.{◌≡◌, ◌↔◌, [], IsTrue, length, map, slice_get, string_bytes};
 ghost use Rattle.std.specs.Prelude.{option_map, IfOk, OnOk, OnErr};
 ghost use Rattle.js_doc.specs.Members.{IsAscending, get, put};
-ghost use Rattle.js_doc.specs.code.Places.{IsAboveAll};
+ghost use Rattle.js_doc.specs.code.Places.{GoesTo, IsAboveAll};
 
 use crate::doc::Doc;
 use crate::memory::Memory;
@@ -27,22 +27,20 @@ impl Drop for Members {
 }
 
 impl Model for Members {
-    ghost use Rattle.std.specs.Prelude.{map};
-    ghost use Rattle.js_doc.specs.Value.{Named};
+    ghost use Rattle.js_doc.specs.Value.{Named, object};
     ghost use Rattle.js_doc.specs.Nesting.{named_depth};
     ghost use Rattle.js_doc.specs.Coding.{named_code};
+    ghost use Rattle.std.specs.Prelude.{map};
 
     ghost Value = { Named };
 
     ghost coded = { named_code };
 
-    ghost use Rattle.js_doc.specs.Seen.{pair_of};
+    ghost use Rattle.js_doc.specs.Seen.{members_seen, pair_of};
 
     ghost view = { λ m. map pair_of m.entries.items };
 
     ghost use Rattle.js_doc.specs.Lawful.{IsLawful};
-    ghost use Rattle.js_doc.specs.Seen.{members_seen};
-    ghost use Rattle.js_doc.specs.Value.{object};
 
     ghost invariant = { λ m. IsLawful (object (members_seen m.entries.items)) };
 
@@ -100,8 +98,8 @@ impl Members {
         }
     }
 
-    /// The member that stands at the rank, counted from 0 in the order of the names, or None where there are no more
-    /// than so many. It takes the same time at each rank.
+    /// The member that stands at the rank, counted from 0 in the order of the names, or None if it isn't below
+    /// their number. It takes the same time at each rank.
     pub fn nth(&self, rank: usize) -> Option<(&str, &Doc)>
         ensures { option_map (λ m. (m.0.now, value_of m.1.now)) result ≡ slice_get self.now rank }
     {
@@ -163,6 +161,16 @@ impl Members {
         value.lawful();
         self.entries.push((name, value))?;
         Ok(())
+    }
+
+    /// Whether the name would stand behind all others.
+    pub(crate) fn goes_last(&self, name: &str) -> bool
+        ensures { IsTrue result ↔ GoesTo name.now self.now (length self.now) }
+    {
+        match place(self.entries.as_slice(), name) {
+            Ok(_) => false,
+            Err(rank) => rank == self.entries.len(),
+        }
     }
 
     pub(crate) fn lawful_members(&self)

@@ -35,9 +35,8 @@ impl Pointer {
     pub fn new(alloc: Global) -> Pointer
         ensures { result ≡ [] }
     {
-        Pointer {
-            tokens: Vec::new(alloc),
-        }
+        let tokens = Vec::new(alloc);
+        Pointer { tokens }
     }
 
     /// Adds a token at the end.

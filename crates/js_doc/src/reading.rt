@@ -7,9 +7,11 @@ ghost use Rattle.js_doc.specs.Short.{IsShort};
 ghost use Rattle.js_doc.specs.Seen.{value_of, items_seen};
 ghost use Rattle.js_doc.specs.WholeNumbers.{whole_number, value_in, items_in, members_in};
 ghost use Rattle.js_doc.specs.Reading.{IsReadAs, IsReadFault, IsConversionFault, Lifts};
+ghost use Rattle.js_doc.specs.declared.reading.ReadFault.TheVariants.{Memory};
 
 use crate::conversion::{convert_owned, values_with_room};
 use crate::doc::Doc;
+use crate::from_tokens::read_by_tokens;
 use crate::items::Items;
 use crate::members::Members;
 use crate::memory::Memory;
@@ -32,8 +34,6 @@ pub enum ReadFault {
 }
 
 impl From<Memory> for ReadFault {
-    ghost use Rattle.js_doc.specs.declared.reading.ReadFault.TheVariants.{Memory};
-
     ghost from_gives = { λ _ e. e ≡ Memory };
 
     fn from(_refused: Memory) -> ReadFault {
@@ -62,6 +62,22 @@ impl ReadFault {
 /// # Errors
 /// See [`ReadFault`].
 pub fn read(alloc: Global, bytes: &[u8]) -> Result<Doc, ReadFault>
+    ensures ok { IfOk result (λ d. IsReadAs bytes.now (Ok (value_of d))) }
+    ensures ascends { IfOk result (λ d. NamesAscend (value_of d)) }
+    ensures short { IfOk result (λ d. IsShort (value_of d)) }
+    ensures err { IfErr result (IsReadFault bytes.now) }
+{
+    match read_by_tokens(alloc, bytes)? {
+        Some(doc) => {
+            doc.lawful();
+            Ok(doc)
+        }
+        None => read_tree(alloc, bytes),
+    }
+}
+
+// The same by `serde_json`'s tree, which also says why a text has no value.
+fn read_tree(alloc: Global, bytes: &[u8]) -> Result<Doc, ReadFault>
     ensures ok { IfOk result (λ d. IsReadAs bytes.now (Ok (value_of d))) }
     ensures ascends { IfOk result (λ d. NamesAscend (value_of d)) }
     ensures short { IfOk result (λ d. IsShort (value_of d)) }

@@ -4,9 +4,9 @@ ghost use Rattle.std.specs.List.{list_all};
 ghost use Rattle.js_doc.specs.Escapes.{stands};
 ghost use Rattle.js_doc.specs.Pointer.{escape, token_text};
 ghost use Rattle.js_doc.specs.Fragment.{fragment_byte, fragment_token};
-ghost use Rattle.js_doc.specs.code.Extends.{Extends};
-ghost use Rattle.js_doc.specs.code.Representation.{written};
+ghost use Rattle.js_doc.specs.Notation.{token_written, written};
 ghost use Rattle.js_doc.specs.Plain.{is_kept, is_plain};
+ghost use Rattle.js_doc.specs.code.Extends.{Extends};
 
 use crate::fragment::ESCAPED;
 use crate::memory::Memory;
@@ -88,12 +88,12 @@ impl Eq for Token {
     ghost laws = { nat_list_eq_equiv };
 }
 
-// How a token is written (RFC 6901, sections 5 and 6).
+/// How a token is written (RFC 6901, sections 5 and 6).
 #[derive(Clone, Copy)]
-enum Representation {
-    // As in a pointer's text.
+pub enum Notation {
+    /// As in a pointer's text.
     Plain,
-    // As in a URI's fragment.
+    /// As in a fragment of a URI.
     Fragment,
 }
 
@@ -106,7 +106,7 @@ pub fn push_token(out: &mut String, token: &str) -> Result<(), Memory>
     ensures ok { OnOk result (string_bytes out.new ≡ string_bytes out.old ++ token_text token.now) }
     ensures stays { OnErr result (string_bytes out.new ≡ string_bytes out.old) }
 {
-    push_after_slash(out, Representation::Plain, token)
+    push_token_in(out, Notation::Plain, token)
 }
 
 /// The same in a fragment of a URI: each byte of it but ASCII letters, digits and ``-._~!$&'()*+,;=:@/?`` is a `%`
@@ -118,18 +118,21 @@ pub fn push_fragment_token(out: &mut String, token: &str) -> Result<(), Memory>
     ensures ok { OnOk result (string_bytes out.new ≡ string_bytes out.old ++ fragment_token token.now) }
     ensures stays { OnErr result (string_bytes out.new ≡ string_bytes out.old) }
 {
-    push_after_slash(out, Representation::Fragment, token)
+    push_token_in(out, Notation::Fragment, token)
 }
 
-// Puts a `/` and the token at the end, or nothing. It is inlined, so that no caller asks which form it is.
+/// Either of the two, by the notation. It is inlined: callers that name a notation don't ask which it is.
+///
+/// # Errors
+/// `Memory`; the text is then as it was.
 #[inline(always)]
-fn push_after_slash(out: &mut String, form: Representation, token: &str) -> Result<(), Memory>
-    ensures ok { OnOk result (string_bytes out.new ≡ string_bytes out.old ++ 47 ∷ written form token.now) }
+pub fn push_token_in(out: &mut String, notation: Notation, token: &str) -> Result<(), Memory>
+    ensures ok { OnOk result (string_bytes out.new ≡ string_bytes out.old ++ token_written notation token.now) }
     ensures stays { OnErr result (string_bytes out.new ≡ string_bytes out.old) }
 {
     let len = out.len();
     out.push('/')?;
-    let pushed = push_written(out, form, token);
+    let pushed = push_written(out, notation, token);
     if pushed.is_err() {
         out.truncate(len);
     }
@@ -137,13 +140,13 @@ fn push_after_slash(out: &mut String, form: Representation, token: &str) -> Resu
 }
 
 #[inline(always)]
-fn push_written(out: &mut String, form: Representation, token: &str) -> Result<(), Memory>
-    ensures ok { OnOk result (string_bytes out.new ≡ string_bytes out.old ++ written form token.now) }
+fn push_written(out: &mut String, notation: Notation, token: &str) -> Result<(), Memory>
+    ensures ok { OnOk result (string_bytes out.new ≡ string_bytes out.old ++ written notation token.now) }
     ensures grows { Extends (string_bytes out.old) (string_bytes out.new) }
 {
-    match form {
-        Representation::Plain => push_escaped(out, token),
-        Representation::Fragment => push_pieces(out, token),
+    match notation {
+        Notation::Plain => push_escaped(out, token),
+        Notation::Fragment => push_pieces(out, token),
     }
 }
 

@@ -30,10 +30,12 @@ from_first (e ∷ es) =
 
 -- ---- one application is asked for, and then nothing
 
-pub taken : (documents : Documents) (o r n : Option Applied) → r ≡ o → n ≡ None → MatchOption r (one_asked documents o ≡ []) (λ a. one_asked documents o ≡ applied_of documents a ∷ one_asked documents n)
+pub taken : (documents : Documents) (o r n : Option Applied) → r ≡ o → n ≡ None → MatchOption r
+    (one_asked documents o ≡ []) (λ a. one_asked documents o ≡ applied_of documents a ∷ one_asked documents n)
 taken documents None r n e f = rw e refl
 taken documents (Some a) r n e f = rw (e, f) refl
 
-pub taken_applied : (documents : Documents) (o r : Option Applied) → r ≡ o → IsOne documents o → MatchOption r (Unit {0}) (λ a. IsApplied documents a)
+pub taken_applied : (documents : Documents) (o r : Option Applied) → r ≡ o → IsOne documents o
+    → MatchOption r (Unit {0}) (λ a. IsApplied documents a)
 taken_applied documents None r e h = rw e tt
 taken_applied documents (Some a) r e h = rw e h

@@ -4,9 +4,9 @@ use Rattle.std.proofs.Common.{arith, lit<}
 use Rattle.js_bundle.specs.Document.{Documents}
 use Rattle.js_doc.specs.Value.{Value}
 use Rattle.js_tree.specs.Forest.{Forest, empty, tree, height, node_count}
-use Rattle.js_tree.proofs.BoxedTold.{boxed_held}
-use Rattle.js_tree.proofs.FlatTold.{flat_held}
-use Rattle.js_tree.proofs.VerdictTold.{verdict_held}
+use Rattle.js_tree.proofs.WholeTreeCollected.{boxed_held}
+use Rattle.js_tree.proofs.FlatFormCollected.{flat_held}
+use Rattle.js_tree.proofs.VerdictCollected.{verdict_held}
 use Rattle.js_eval.specs.Collected.{VerdictIsCollected, TreeIsCollected, RowsAreCollected}
 use Rattle.js_walk.specs.Result.{ResultTree, IsWithinLimits}
 
@@ -22,8 +22,12 @@ height_bound t w = omega (arith, w.many, height_le_nodes t.below, millions)
 
 module _ (documents : Documents) (place : ℕ) (v : Value) where
   pub verdict_collected : VerdictIsCollected documents place v
-  verdict_collected c d start h =
-      (h.result.root.valid, record { result = h.result; within = h.within; verdict = refl }, verdict_held h.result c d (height_bound h.result h.within.stands) start h.passes)
+  verdict_collected c d start h = (
+    h.result.root.valid,
+    record { result = h.result; within = h.within; verdict = refl },
+    verdict_held h.result c d
+        (height_bound h.result h.within.stands) start h.passes,
+  )
 
   pub tree_collected : TreeIsCollected documents place v
   tree_collected c d start h = (h.result, h.within, boxed_held h.result c d start h.passes)

@@ -44,5 +44,6 @@ shown = record {
   dependent_accepts = refl;
   tree_accepts = refl;
   strict_tree_refuses = (refl, refl);
-  double_not_gives = record { bound = 3; settled = refl; node = (refl, (refl, (refl, (refl, (refl, (refl, tt, tt), tt), tt), tt), tt)) };
+  double_not_gives = record
+      { bound = 3; settled = refl; node = (refl, (refl, (refl, (refl, (refl, (refl, tt, tt), tt), tt), tt), tt)) };
 }

@@ -21,17 +21,21 @@ document uri root = option_map_or (λ u. record { uri = u; root = root } ∷ [])
 
 -- whether the schema that an entry names is settled within n, and holds
 abbrev settled : Documents → Text → Value → Bool
-settled documents entry v = option_map_or (λ place. (within (schemas_of documents) 8).settled [] place v) (option_and_then (named (sites documents)) (uri_of entry)) false
+settled documents entry v = option_map_or (λ place. (within (schemas_of documents) 8).settled [] place v)
+    (option_and_then (named (sites documents)) (uri_of entry)) false
 
 abbrev holds : Documents → Text → Value → Bool
-holds documents entry v = option_map_or (λ place. (within (schemas_of documents) 8).holds [] place v) (option_and_then (named (sites documents)) (uri_of entry)) false
+holds documents entry v = option_map_or (λ place. (within (schemas_of documents) 8).holds [] place v)
+    (option_and_then (named (sites documents)) (uri_of entry)) false
 
 -- ---- a reference from one document into another
 
 abbrev two : Documents
-two = document (codes "https://a.example/s") (only (codes "$ref") (str (codes "t#/$defs/i"))) ++ document (codes "https://a.example/t") (only (codes "$defs") (only (codes "i") (of_type (codes "integer"))))
+two = document (codes "https://a.example/s") (only (codes "$ref") (str (codes "t#/$defs/i")))
+    ++ document (codes "https://a.example/t") (only (codes "$defs") (only (codes "i") (of_type (codes "integer"))))
 
-pub across_documents : (holds two (codes "https://a.example/s") (num 1) ≡ true) × (holds two (codes "https://a.example/s") (str (codes "a")) ≡ false)
+pub across_documents : (holds two (codes "https://a.example/s") (num 1) ≡ true)
+    × (holds two (codes "https://a.example/s") (str (codes "a")) ≡ false)
 unfolding url_on_literals holding printed without_fragment within kind keyword_named
 across_documents = (refl, refl)
 
@@ -41,19 +45,28 @@ abbrev node : Value
 node = only (codes "$dynamicRef") (str (codes "#node"))
 
 abbrev tree : Documents
-tree = document (codes "https://example.com/tree") (obj ((codes "$dynamicAnchor", str (codes "node")) ∷ (codes "$id", str (codes "https://example.com/tree")) ∷ (codes "properties", obj ((codes "children", obj ((codes "items", node) ∷ (codes "type", str (codes "array")) ∷ [])) ∷ (codes "data", truth true) ∷ [])) ∷ (codes "type", str (codes "object")) ∷ []))
+tree = document (codes "https://example.com/tree")
+    (obj ((codes "$dynamicAnchor", str (codes "node")) ∷ (codes "$id", str (codes "https://example.com/tree")) ∷ (
+      codes "properties",
+      obj ((codes "children", obj ((codes "items", node) ∷ (codes "type", str (codes "array")) ∷ []))
+          ∷ (codes "data", truth true) ∷ []),
+    ) ∷ (codes "type", str (codes "object")) ∷ []))
 
 abbrev strict_tree : Documents
-strict_tree = document (codes "https://example.com/strict-tree") (obj ((codes "$dynamicAnchor", str (codes "node")) ∷ (codes "$id", str (codes "https://example.com/strict-tree")) ∷ (codes "$ref", str (codes "tree")) ∷ (codes "unevaluatedProperties", truth false) ∷ []))
+strict_tree = document (codes "https://example.com/strict-tree")
+    (obj ((codes "$dynamicAnchor", str (codes "node")) ∷ (codes "$id", str (codes "https://example.com/strict-tree"))
+    ∷ (codes "$ref", str (codes "tree")) ∷ (codes "unevaluatedProperties", truth false) ∷ []))
 
 -- `{"children":[{"daat":1}]}`
 abbrev misspelt : Value
 misspelt = only (codes "children") (arr (only (codes "daat") (num 1) ∷ []))
 
-pub tree_accepts : (settled (tree ++ strict_tree) (codes "https://example.com/tree") misspelt ≡ true) × (holds (tree ++ strict_tree) (codes "https://example.com/tree") misspelt ≡ true)
+pub tree_accepts : (settled (tree ++ strict_tree) (codes "https://example.com/tree") misspelt ≡ true)
+    × (holds (tree ++ strict_tree) (codes "https://example.com/tree") misspelt ≡ true)
 unfolding url_on_literals holding printed without_fragment within kind keyword_named
 tree_accepts = (refl, refl)
 
-pub strict_tree_refuses : (settled (tree ++ strict_tree) (codes "https://example.com/strict-tree") misspelt ≡ true) × (holds (tree ++ strict_tree) (codes "https://example.com/strict-tree") misspelt ≡ false)
+pub strict_tree_refuses : (settled (tree ++ strict_tree) (codes "https://example.com/strict-tree") misspelt ≡ true)
+    × (holds (tree ++ strict_tree) (codes "https://example.com/strict-tree") misspelt ≡ false)
 unfolding url_on_literals holding printed without_fragment within kind keyword_named
 strict_tree_refuses = (refl, refl)

@@ -1,5 +1,6 @@
 -- The keywords of a schema that apply no schemas, judged by the assertions of its place and counted by its names.
-use Rattle.std.specs.Prelude.{◌≡◌, ℕ, ◌+◌, Bool, true, false, not, ◌&&◌, cond, List, [], ◌∷◌, ◌++◌, Option, Some, None, is_some, option_map, option_to_list, filter, length, refl}
+use Rattle.std.specs.Prelude.{◌≡◌, ℕ, ◌+◌, Bool, true, false, not, ◌&&◌, cond, List, [], ◌∷◌, ◌++◌, Option, Some}
+use Rattle.std.specs.Prelude.{None, is_some, option_map, option_to_list, filter, length, refl}
 use Rattle.std.specs.List.{AllByRecursion, list_all, flat_map}
 use Rattle.std.specs.Option.{option_map_or}
 use Rattle.std.specs.Str.{bytes_eq}
@@ -8,6 +9,7 @@ use Rattle.std.proofs.lemmas.List.Elements.{filter-append}
 use Rattle.std.proofs.lemmas.List.Folds.{list_all-append}
 use Rattle.std.proofs.lemmas.Slice.Eq.{bytes_eq-Decides}
 use Rattle.js_doc.specs.Value.{Value, Named}
+use Rattle.js_doc.proofs.EachSame.{each_same}
 use Rattle.js_assert.specs.Argument.{entries}
 use Rattle.js_assert.specs.Assertion.{Asserted, asserted, says}
 use Rattle.js_assert.specs.Keyword.{keyword_named}
@@ -23,7 +25,7 @@ use Rattle.js_walk.specs.Keywords.{Keyword, has_node, is_else, is_after_if, come
 use Rattle.js_walk.specs.Kind.{Applicator, applicators, kind, kind_in}
 use Rattle.js_walk.specs.Passes.{passes_of}
 use Rattle.js_walk.specs.Sited.{numbered_site}
-use Rattle.js_walk.specs.Walk.Told.{keywords_at, passes_at}
+use Rattle.js_walk.specs.Walk.Progress.{keywords_at, passes_at}
 use Rattle.js_walk.specs.Walk.Visited.{AreJudged, is_visited, may_apply}
 use Rattle.js_eval.specs.code.Leaves.{has_leaf}
 use Rattle.js_walk.specs.code.Standard.{kind_by, turn_by_name, keyword_names_of}
@@ -44,7 +46,8 @@ either_kind : (b : Bool) → b ≡ is_assertion (cond b Assertion Annotation)
 either_kind true = refl
 either_kind false = refl
 
-asserts_in : (rows : List Applicator) (name : List ℕ) → AllByRecursion (λ row. is_some (keyword_named row.0) ≡ is_assertion row.1) rows
+asserts_in : (rows : List Applicator) (name : List ℕ)
+    → AllByRecursion (λ row. is_some (keyword_named row.0) ≡ is_assertion row.1) rows
     → is_some (keyword_named name) ≡ is_assertion (kind_in rows name)
 asserts_in [] name h = either_kind (is_some (keyword_named name))
 asserts_in (row ∷ rows) name h = at (bytes_eq name row.0) refl (asserts_in rows name h.1)
@@ -57,7 +60,7 @@ asserts_in (row ∷ rows) name h = at (bytes_eq name row.0) refl (asserts_in row
 applicators_assert_nothing : AllByRecursion (λ row. is_some (keyword_named row.0) ≡ is_assertion row.1) applicators
 unfolding keyword_named
 applicators_assert_nothing =
-    (refl, (refl, (refl, (refl, (refl, (refl, (refl, (refl, (refl, (refl, (refl, (refl, (refl, (refl, (refl, (refl, (refl, (refl, (refl, tt)))))))))))))))))))
+    each_same (λ row. is_some (keyword_named row.0)) (λ row. is_assertion row.1) applicators refl
 
 asserts : (name : List ℕ) → is_some (keyword_named name) ≡ is_assertion (kind name)
 unfolding kind
@@ -83,14 +86,16 @@ leaf_of name = ap₂ (λ t κ. is_ever t && not (may_apply κ)) (sym (turn_is na
 -- ---- counting in the order of nodes, and over all members
 
 module _ (test : Keyword → Bool) where
-  one_counted : (b t : Bool) (m : Keyword) (ks : List Keyword) → test m ≡ t → length (filter test (cond b (m ∷ ks) ks)) ≡ cond (b && t) 1 0 + length (filter test ks)
+  one_counted : (b t : Bool) (m : Keyword) (ks : List Keyword) → test m ≡ t
+      → length (filter test (cond b (m ∷ ks) ks)) ≡ cond (b && t) 1 0 + length (filter test ks)
   one_counted false t m ks e = omega arith
   one_counted true true m ks e = ap (λ b. length (cond b (m ∷ filter test ks) (filter test ks))) e ∙ omega arith
   one_counted true false m ks e = ap (λ b. length (cond b (m ∷ filter test ks) (filter test ks))) e ∙ omega arith
 
 -- a keyword has one turn at most: by whether it has a node, comes after `if`, is `else`, and passes the test
 one_turn : (n a e t : Bool) (x y z : ℕ) → (e ≡ true → n ≡ true) → (e ≡ true → a ≡ false)
-    → (cond ((n && (not e && not a)) && t) 1 0 + x) + ((cond (e && t) 1 0 + y) + (cond ((n && a) && t) 1 0 + z)) ≡ cond (is_ever (turn_by n a e) && t) 1 0 + (x + (y + z))
+    → (cond ((n && (not e && not a)) && t) 1 0 + x) + ((cond (e && t) 1 0 + y) + (cond ((n && a) && t) 1 0 + z))
+    ≡ cond (is_ever (turn_by n a e) && t) 1 0 + (x + (y + z))
 one_turn false a true t x y z node before = absurd (let i : false ≡ true = node refl in cc)
 one_turn true true true t x y z node before = absurd (let i : true ≡ false = before refl in cc)
 one_turn false a false t x y z node before = omega arith
@@ -121,13 +126,17 @@ module _ (test : Keyword → Bool) where
       let last = filter (λ k. comes_after_else k.0) ms in
       filter-append test first (second ++ last) ∙ ap (λ ks. filter test first ++ ks) (filter-append test second last)
 
-  three_counted : (ms : Named) → length (firsts ms) + (length (seconds ms) + length (lasts ms)) ≡ length (filter with_turn ms)
+  three_counted : (ms : Named)
+      → length (firsts ms) + (length (seconds ms) + length (lasts ms)) ≡ length (filter with_turn ms)
   unfolding turn_of
   three_counted [] = refl
   three_counted (m ∷ ms) =
-      ap₂ (λ x y. x + y) (one_counted test (comes_before_else m.0) (test m) m (filter (λ k. comes_before_else k.0) ms) refl)
-      (ap₂ (λ x y. x + y) (one_counted test (is_else m.0) (test m) m (filter (λ k. is_else k.0) ms) refl) (one_counted test (comes_after_else m.0) (test m) m (filter (λ k. comes_after_else k.0) ms) refl))
-      ∙ (one_turn (has_node m.0) (is_after_if m.0) (is_else m.0) (test m) (length (firsts ms)) (length (seconds ms)) (length (lasts ms)) (else_has_node m.0) (else_before m.0)
+      ap₂ (λ x y. x + y) (one_counted test (comes_before_else m.0) (test m) m
+      (filter (λ k. comes_before_else k.0) ms) refl)
+      (ap₂ (λ x y. x + y) (one_counted test (is_else m.0) (test m) m (filter (λ k. is_else k.0) ms) refl)
+      (one_counted test (comes_after_else m.0) (test m) m (filter (λ k. comes_after_else k.0) ms) refl))
+      ∙ (one_turn (has_node m.0) (is_after_if m.0) (is_else m.0) (test m) (length (firsts ms)) (length (seconds ms))
+      (length (lasts ms)) (else_has_node m.0) (else_before m.0)
       ∙ (ap (λ n. cond (with_turn m) 1 0 + n) (three_counted ms)
       ∙ more (with_turn m) m (filter with_turn ms)))
     where
@@ -137,7 +146,8 @@ module _ (test : Keyword → Bool) where
 
   all_counted : (ms : Named) → length (filter test (in_order ms)) ≡ length (filter with_turn ms)
   all_counted ms =
-      ap length (in_three ms) ∙ (length-append (firsts ms) (seconds ms ++ lasts ms) ∙ (ap (λ n. length (firsts ms) + n) (length-append (seconds ms) (lasts ms)) ∙ three_counted ms))
+      ap length (in_three ms) ∙ (length-append (firsts ms) (seconds ms ++ lasts ms)
+      ∙ (ap (λ n. length (firsts ms) + n) (length-append (seconds ms) (lasts ms)) ∙ three_counted ms))
 
 -- ---- judging in the order of nodes, and over all members
 
@@ -163,7 +173,8 @@ first_up true x y z = refl
 first_up false x y z = refl
 
 one_turn_holds : (n a e t b x y z : Bool) → (e ≡ true → n ≡ true) → (e ≡ true → a ≡ false)
-    → ((cond ((n && (not e && not a)) && t) b true && x) && ((cond (e && t) b true && y) && (cond ((n && a) && t) b true && z))) ≡ (cond (is_ever (turn_by n a e) && t) b true && (x && (y && z)))
+    → ((cond ((n && (not e && not a)) && t) b true && x) && ((cond (e && t) b true && y)
+    && (cond ((n && a) && t) b true && z))) ≡ (cond (is_ever (turn_by n a e) && t) b true && (x && (y && z)))
 one_turn_holds false a true t b x y z node before = absurd (let i : false ≡ true = node refl in cc)
 one_turn_holds true true true t b x y z node before = absurd (let i : true ≡ false = before refl in cc)
 one_turn_holds false a false t b x y z node before = refl
@@ -172,23 +183,30 @@ one_turn_holds true true false t b x y z node before = last_up (cond t b true) x
 one_turn_holds true false false t b x y z node before = first_up (cond t b true) x y z
 
 module _ (says : Keyword → Bool) (test : Keyword → Bool) where
-  three_hold : (ms : Named) → (list_all says (firsts test ms) && (list_all says (seconds test ms) && list_all says (lasts test ms))) ≡ list_all (λ m. cond (with_turn test m) (says m) true) ms
+  three_hold : (ms : Named) → (list_all says (firsts test ms) && (list_all says (seconds test ms)
+      && list_all says (lasts test ms))) ≡ list_all (λ m. cond (with_turn test m) (says m) true) ms
   unfolding turn_of
   three_hold [] = refl
   three_hold (m ∷ ms) =
-      ap₂ (λ x y. x && y) (one_holds says test (comes_before_else m.0) (test m) m (filter (λ k. comes_before_else k.0) ms) refl)
-      (ap₂ (λ x y. x && y) (one_holds says test (is_else m.0) (test m) m (filter (λ k. is_else k.0) ms) refl) (one_holds says test (comes_after_else m.0) (test m) m (filter (λ k. comes_after_else k.0) ms) refl))
-      ∙ (one_turn_holds (has_node m.0) (is_after_if m.0) (is_else m.0) (test m) (says m) (list_all says (firsts test ms)) (list_all says (seconds test ms)) (list_all says (lasts test ms)) (else_has_node m.0) (else_before m.0)
+      ap₂ (λ x y. x && y) (one_holds says test (comes_before_else m.0) (test m) m
+      (filter (λ k. comes_before_else k.0) ms) refl)
+      (ap₂ (λ x y. x && y) (one_holds says test (is_else m.0) (test m) m (filter (λ k. is_else k.0) ms) refl)
+      (one_holds says test (comes_after_else m.0) (test m) m (filter (λ k. comes_after_else k.0) ms) refl))
+      ∙ (one_turn_holds (has_node m.0) (is_after_if m.0) (is_else m.0) (test m) (says m) (list_all says (firsts test
+      ms)) (list_all says (seconds test ms)) (list_all says (lasts test ms)) (else_has_node m.0) (else_before m.0)
       ∙ ap (λ b. cond (with_turn test m) (says m) true && b) (three_hold ms))
 
-  all_hold : (ms : Named) → list_all says (filter test (in_order ms)) ≡ list_all (λ m. cond (with_turn test m) (says m) true) ms
+  all_hold : (ms : Named) → list_all says (filter test (in_order ms))
+      ≡ list_all (λ m. cond (with_turn test m) (says m) true) ms
   all_hold ms =
       ap (list_all says) (in_three test ms)
-      ∙ (list_all-append says (firsts test ms) (seconds test ms ++ lasts test ms) ∙ (ap (λ b. list_all says (firsts test ms) && b) (list_all-append says (seconds test ms) (lasts test ms)) ∙ three_hold ms))
+      ∙ (list_all-append says (firsts test ms) (seconds test ms ++ lasts test ms) ∙ (ap (λ b. list_all says
+      (firsts test ms) && b) (list_all-append says (seconds test ms) (lasts test ms)) ∙ three_hold ms))
 
 -- ---- by their names
 
-alike : {A B : Type 0} (b c : Bool) (x : A) (y : B) (xs : List A) (ys : List B) → b ≡ c → length xs ≡ length ys → length (cond b (x ∷ xs) xs) ≡ length (cond c (y ∷ ys) ys)
+alike : {A B : Type 0} (b c : Bool) (x : A) (y : B) (xs : List A) (ys : List B) → b ≡ c → length xs ≡ length ys
+    → length (cond b (x ∷ xs) xs) ≡ length (cond c (y ∷ ys) ys)
 alike true true x y xs ys e r = omega (arith, r)
 alike false false x y xs ys e r = r
 alike true false x y xs ys e r = cc
@@ -197,10 +215,12 @@ alike false true x y xs ys e r = cc
 abbrev unvisited : Keyword → Bool
 unvisited k = not (is_visited true k)
 
-leaves_counted : (ms : Named) → length (filter has_leaf (keyword_names_of ms)) ≡ length (filter (with_turn unvisited) ms)
+leaves_counted : (ms : Named)
+    → length (filter has_leaf (keyword_names_of ms)) ≡ length (filter (with_turn unvisited) ms)
 unfolding is_visited
 leaves_counted [] = refl
-leaves_counted (m ∷ ms) = alike (has_leaf (keyword_name m.0)) (with_turn unvisited m) (keyword_name m.0) m (filter has_leaf (keyword_names_of ms)) (filter (with_turn unvisited) ms) (leaf_of m.0) (leaves_counted ms)
+leaves_counted (m ∷ ms) = alike (has_leaf (keyword_name m.0)) (with_turn unvisited m) (keyword_name m.0) m
+    (filter has_leaf (keyword_names_of ms)) (filter (with_turn unvisited) ms) (leaf_of m.0) (leaves_counted ms)
 
 -- ---- by their assertions
 
@@ -208,7 +228,8 @@ module _ (siblings : Named) (v : Value) (matching : ℕ) where
   abbrev asserted_says : Option Asserted → Bool
   asserted_says o = option_map_or (λ a. says a v matching) o true
 
-  by_kind : (k : Keyword) (κ : Kind) (ever : Bool) (o : Option Asserted) → asserted k.0 k.1 siblings ≡ o → is_some o ≡ is_assertion κ → (is_assertion κ ≡ true → ever ≡ true)
+  by_kind : (k : Keyword) (κ : Kind) (ever : Bool) (o : Option Asserted) → asserted k.0 k.1 siblings ≡ o
+      → is_some o ≡ is_assertion κ → (is_assertion κ ≡ true → ever ≡ true)
       → cond (ever && not (may_apply κ)) (passes_of siblings v matching k [] κ) true ≡ asserted_says o
   by_kind k Assertion true o e some node = ap asserted_says e
   by_kind k Assertion false o e some node = absurd (let i : false ≡ true = node refl in cc)
@@ -218,9 +239,11 @@ module _ (siblings : Named) (v : Value) (matching : ℕ) where
   by_kind k _ false None e some node = refl
   by_kind k _ ever (Some a) e some node = cc
 
-  by_member : (m : Keyword) → cond (is_ever (turn_of m.0) && not (may_apply (kind m.0))) (passes_of siblings v matching m [] (kind m.0)) true ≡ asserted_says (asserted m.0 m.1 siblings)
+  by_member : (m : Keyword) → cond (is_ever (turn_of m.0) && not (may_apply (kind m.0)))
+      (passes_of siblings v matching m [] (kind m.0)) true ≡ asserted_says (asserted m.0 m.1 siblings)
   by_member m =
-      by_kind m (kind m.0) (is_ever (turn_of m.0)) (asserted m.0 m.1 siblings) refl (some_mapped _ (keyword_named m.0) ∙ asserts m.0) (node_of m.0)
+      by_kind m (kind m.0) (is_ever (turn_of m.0)) (asserted m.0 m.1 siblings) refl
+      (some_mapped _ (keyword_named m.0) ∙ asserts m.0) (node_of m.0)
 
   said : (o : Option Asserted) → list_all (λ a. says a v matching) (option_to_list o) ≡ asserted_says o
   said None = refl
@@ -231,7 +254,8 @@ module _ (siblings : Named) (v : Value) (matching : ℕ) where
       alone false = refl
 
   each_said : (ms : Named) → list_all (λ a. says a v matching) (flat_map (assertion_at siblings) ms)
-      ≡ list_all (λ m. cond (is_ever (turn_of m.0) && not (may_apply (kind m.0))) (passes_of siblings v matching m [] (kind m.0)) true) ms
+      ≡ list_all (λ m. cond (is_ever (turn_of m.0) && not (may_apply (kind m.0)))
+      (passes_of siblings v matching m [] (kind m.0)) true) ms
   each_said [] = refl
   each_said (m ∷ ms) =
       list_all-append (λ a. says a v matching) (assertion_at siblings m) (flat_map (assertion_at siblings) ms)
@@ -242,18 +266,23 @@ module _ (siblings : Named) (v : Value) (matching : ℕ) where
 assertions_are : (s : Site) → assertions_at s ≡ flat_map (assertion_at (entries s.schema)) (entries s.schema)
 assertions_are s = ap (λ ms. flat_map (assertion_at ms) ms) (same_members s.schema)
 
-pub judged_together : (documents : Documents) (n : ℕ) (v : Value) (matching : ℕ) (assertions : List Asserted) (names : List KeywordName) (pass : Bool) (count : ℕ) → is_place documents n ≡ true
-    → option_map assertions_at (place_at documents n) ≡ Some assertions → names ≡ keyword_names_of (entries (numbered_site documents n).schema)
-    → pass ≡ list_all (λ a. says a v matching) assertions → count ≡ length (filter has_leaf names) → AreJudged (schemas_of documents) (numbered_site documents n) v matching pass count
+pub judged_together : (documents : Documents) (n : ℕ) (v : Value) (matching : ℕ) (assertions : List Asserted)
+    (names : List KeywordName) (pass : Bool) (count : ℕ) → is_place documents n ≡ true
+    → option_map assertions_at (place_at documents n) ≡ Some assertions
+    → names ≡ keyword_names_of (entries (numbered_site documents n).schema)
+    → pass ≡ list_all (λ a. says a v matching) assertions → count ≡ length (filter has_leaf names)
+    → AreJudged (schemas_of documents) (numbered_site documents n) v matching pass count
 unfolding keywords_at passes_at is_visited
 judged_together documents n v matching assertions names pass count there built named passes counted =
     let s = numbered_site documents n in
     let ms = entries s.schema in
-    let found : Some assertions ≡ Some (assertions_at s) = sym built ∙ ap (option_map assertions_at) (place_is documents n there) in
+    let found : Some assertions ≡ Some (assertions_at s) = sym built
+    ∙ ap (option_map assertions_at) (place_is documents n there) in
     let same : assertions ≡ assertions_at s = cc in
     record {
       verdict =
           passes ∙ (ap (list_all (λ a. says a v matching)) (same ∙ assertions_are s)
           ∙ (each_said ms v matching ms ∙ sym (all_hold (λ k. passes_of ms v matching k [] (kind k.0)) unvisited ms)));
-      many = counted ∙ (ap (λ l. length (filter has_leaf l)) named ∙ (leaves_counted ms ∙ sym (all_counted unvisited ms)));
+      many = counted ∙ (ap (λ l. length (filter has_leaf l)) named
+          ∙ (leaves_counted ms ∙ sym (all_counted unvisited ms)));
     }

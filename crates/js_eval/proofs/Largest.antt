@@ -9,5 +9,6 @@ last_is (i ∷ j ∷ js) d h =
     let e : length (i ∷ j ∷ js) - 1 ≡ suc (length (j ∷ js) - 1) = omega arith in
     last_is (j ∷ js) d (omega arith) ∙ sym (ap (λ k. index (get_or (i ∷ j ∷ js) k d)) e)
 
-pub largest_is : (xs ys : List ℕ) (i : ℕ) → xs ≡ ys → 0 < length xs → i ≡ get_or xs (length xs - 1) i → index i ≡ largest ys
+pub largest_is : (xs ys : List ℕ) (i : ℕ) → xs ≡ ys → 0 < length xs
+    → i ≡ get_or xs (length xs - 1) i → index i ≡ largest ys
 largest_is xs ys i same h e = ap index e ∙ (sym (last_is xs i h) ∙ ap largest same)

@@ -1,4 +1,4 @@
-pub mod LeavesTold
+pub mod LeafAsTwoEvents
 pub mod Located
 pub mod Examples
 pub mod AskedNothing
@@ -13,7 +13,7 @@ pub mod Shared
 pub mod Started
 pub mod Counts
 pub mod JudgedTogether
-pub mod Held
+pub mod Options
 pub mod NamesLeft
 pub mod Collected
 pub mod ResultExamples

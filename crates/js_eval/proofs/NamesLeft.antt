@@ -1,5 +1,6 @@
 -- The names that are left of a keyword's, and the members that are left.
-use Rattle.std.proofs.Common.{◌≡◌, ℕ, zero, suc, ◌+◌, List, [], ◌∷◌, Some, None, String, Ordering, Less, Equal, Greater, drop, filter, map, slice_get, ap, ap₂, subst, sym, ◌∙◌, arith}
+use Rattle.std.proofs.Common.{◌≡◌, ℕ, zero, suc, ◌+◌, List, [], ◌∷◌, Some, None, String, Ordering, Less, Equal}
+use Rattle.std.proofs.Common.{Greater, drop, filter, map, slice_get, ap, ap₂, subst, sym, ◌∙◌, arith}
 use Rattle.std.specs.Global.{Global}
 use Rattle.std.proofs.lemmas.Cmp.{nat_list_cmp_total}
 use Rattle.std.specs.Ordering.{ordering_reverse}
@@ -13,7 +14,8 @@ use Rattle.js_eval.specs.code.NamesLeft.{names_left}
 use Rattle.js_eval.proofs.Shared.{later_names, member_first, one_more}
 
 -- the first that is left has the rank, and the others are left behind it
-pub next_left : {A : Type 0} (all : List A) (r : ℕ) (x : A) (xs : List A) → x ∷ xs ≡ drop r all → (xs ≡ drop (r + 1) all) × (slice_get all r ≡ Some x)
+pub next_left : {A : Type 0} (all : List A) (r : ℕ) (x : A) (xs : List A) → x ∷ xs ≡ drop r all
+    → (xs ≡ drop (r + 1) all) × (slice_get all r ≡ Some x)
 next_left [] zero x xs e = absurd (cc)
 next_left [] (suc r) x xs e = absurd (cc)
 next_left (y ∷ ys) zero x xs e =
@@ -26,13 +28,15 @@ next_left (y ∷ ys) (suc r) x xs e =
     (subst (λ n. xs ≡ drop n (y ∷ ys)) number more.0, more.1)
 
 -- the others are left behind the rank after it
-pub left_behind : {A : Type 0} (all : List A) (r n : ℕ) (x : A) (xs : List A) → n ≡ r + 1 → x ∷ xs ≡ drop r all → xs ≡ drop n all
+pub left_behind : {A : Type 0} (all : List A) (r n : ℕ) (x : A) (xs : List A) → n ≡ r + 1
+    → x ∷ xs ≡ drop r all → xs ≡ drop n all
 left_behind all r n x xs e h = (next_left all r x xs h).0 ∙ ap (λ k. drop k all) (sym e)
 
 -- ---- of names and members that ascend, the first name looked up
 
 -- the member that has it is the first to come
-pub look_up : (n : List ℕ × Value) (ns ms : Named) (v : Value) → get n.0 ms ≡ Some v → IsAscending (n ∷ ns) → IsAscending ms
+pub look_up : (n : List ℕ × Value) (ns ms : Named) (v : Value) → get n.0 ms ≡ Some v
+    → IsAscending (n ∷ ns) → IsAscending ms
     → filter (λ m. has m.0 (n ∷ ns)) ms ≡ (n.0, v) ∷ filter (λ m. has m.0 ns) ms
 look_up n ns ms v e a b = one_more n ns ms a.0 a.1 b ∙ ap (λ o. member_first n.0 o (filter (λ m. has m.0 ns) ms)) e
 
@@ -57,14 +61,16 @@ pass_member n m ns ms e a =
     cc
 
 -- so the first name may be passed over, or the first member, by the order that was found
-pub name_passed : (n m : String Global × Doc) (ns ms : List (String Global × Doc)) (whole : Named) (a b : List ℕ) (o : Ordering)
+pub name_passed : (n m : String Global
+    × Doc) (ns ms : List (String Global × Doc)) (whole : Named) (a b : List ℕ) (o : Ordering)
     → o ≡ name_cmp a b → a ≡ (pair_of n).0 → b ≡ (pair_of m).0 → o ≡ Less → IsAscending (map pair_of (m ∷ ms))
     → names_left (map pair_of (m ∷ ms)) (n ∷ ns) ≡ whole → names_left (map pair_of (m ∷ ms)) ns ≡ whole
 name_passed n m ns ms whole a b o found first second less ascend same =
     let e : name_cmp (pair_of n).0 (pair_of m).0 ≡ Less = sym (found ∙ ap₂ name_cmp first second) ∙ less in
     sym (pass_name (pair_of n) (pair_of m) (map pair_of ns) (map pair_of ms) e ascend) ∙ same
 
-pub member_passed : (n m : String Global × Doc) (ns ms : List (String Global × Doc)) (whole : Named) (a b : List ℕ) (o : Ordering)
+pub member_passed : (n m : String Global
+    × Doc) (ns ms : List (String Global × Doc)) (whole : Named) (a b : List ℕ) (o : Ordering)
     → o ≡ name_cmp a b → a ≡ (pair_of n).0 → b ≡ (pair_of m).0 → o ≡ Greater → IsAscending (map pair_of (n ∷ ns))
     → names_left (map pair_of (m ∷ ms)) (n ∷ ns) ≡ whole → names_left (map pair_of ms) (n ∷ ns) ≡ whole
 member_passed n m ns ms whole a b o found first second greater ascend same =
@@ -78,5 +84,6 @@ take_both n m ns ms e a =
     let same : m.0 ≡ n.0 = sym (name_equal n.0 m.0 e) in
     let at : name_cmp m.0 n.0 ≡ Equal = nat_list_cmp_total.antisymm m.0 n.0 ∙ ap ordering_reverse e in
     let later = later_names n ns ms (subst (λ x. IsBelowHead x ms) same a.0) a.1 in
-    let first : m ∷ filter (λ x. has x.0 ns) ms ≡ (n.0, m.1) ∷ filter (λ x. has x.0 ns) ms = ap (λ x. (x, m.1) ∷ filter (λ x. has x.0 ns) ms) same in
+    let first : m ∷ filter (λ x. has x.0 ns) ms
+    ≡ (n.0, m.1) ∷ filter (λ x. has x.0 ns) ms = ap (λ x. (x, m.1) ∷ filter (λ x. has x.0 ns) ms) same in
     cc

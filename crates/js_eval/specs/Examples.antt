@@ -119,12 +119,17 @@ unevaluated_after_any_of = obj (
     ∷ (codes "unevaluatedProperties", truth false) ∷ [])
 
 abbrev pub unevaluated_after_contains : Value
-unevaluated_after_contains = obj ((codes "contains", of_type (codes "string")) ∷ (codes "unevaluatedItems", of_type (codes "integer")) ∷ [])
+unevaluated_after_contains =
+    obj ((codes "contains", of_type (codes "string")) ∷ (codes "unevaluatedItems", of_type (codes "integer")) ∷ [])
 
 abbrev pub if_else_unevaluated : Value
 if_else_unevaluated = obj (
     (codes "else", requires (codes "b"))
-    ∷ (codes "if", obj ((codes "properties", only (codes "a") (only (codes "const") (num 1))) ∷ (codes "required", arr (str (codes "a") ∷ [])) ∷ []))
+    ∷ (
+      codes "if",
+      obj ((codes "properties", only (codes "a") (only (codes "const") (num 1)))
+          ∷ (codes "required", arr (str (codes "a") ∷ [])) ∷ []),
+    )
     ∷ (codes "unevaluatedProperties", truth false) ∷ [])
 
 abbrev pub then_alone : Value
@@ -139,7 +144,8 @@ any_of_and_maximum = obj (
     ∷ (codes "maximum", num 2) ∷ [])
 
 abbrev pub failing_property : Value
-failing_property = obj ((codes "properties", only (codes "a") (truth false)) ∷ (codes "unevaluatedProperties", truth false) ∷ [])
+failing_property = obj ((codes "properties", only (codes "a") (truth false))
+    ∷ (codes "unevaluatedProperties", truth false) ∷ [])
 
 abbrev pub one_of : Value
 one_of = only (codes "oneOf") (arr (of_type (codes "integer") ∷ only (codes "minimum") (num 2) ∷ []))
@@ -152,21 +158,25 @@ abbrev pub contains_none : Value
 contains_none = obj ((codes "contains", truth false) ∷ (codes "minContains", num 0) ∷ [])
 
 abbrev pub evaluated_by_all_of : Value
-evaluated_by_all_of = obj ((codes "allOf", arr (property (codes "a") (truth true) ∷ [])) ∷ (codes "unevaluatedProperties", truth false) ∷ [])
+evaluated_by_all_of = obj
+    ((codes "allOf", arr (property (codes "a") (truth true) ∷ [])) ∷ (codes "unevaluatedProperties", truth false) ∷ [])
 
 abbrev pub evaluated_below_not : Value
 evaluated_below_not = obj (
     (codes "not", not_of (property (codes "a") (truth true))) ∷ (codes "unevaluatedProperties", truth false) ∷ [])
 
 abbrev pub prefix_then_items : Value
-prefix_then_items = obj ((codes "items", of_type (codes "string")) ∷ (codes "prefixItems", arr (of_type (codes "integer") ∷ [])) ∷ [])
+prefix_then_items = obj ((codes "items", of_type (codes "string"))
+    ∷ (codes "prefixItems", arr (of_type (codes "integer") ∷ [])) ∷ [])
 
 abbrev pub prefix_then_unevaluated : Value
-prefix_then_unevaluated = obj ((codes "prefixItems", arr (truth true ∷ [])) ∷ (codes "unevaluatedItems", truth false) ∷ [])
+prefix_then_unevaluated =
+    obj ((codes "prefixItems", arr (truth true ∷ [])) ∷ (codes "unevaluatedItems", truth false) ∷ [])
 
 abbrev pub evaluated_by_unevaluated : Value
 evaluated_by_unevaluated = obj (
-    (codes "allOf", arr (only (codes "unevaluatedItems") (truth true) ∷ [])) ∷ (codes "unevaluatedItems", truth false) ∷ [])
+    (codes "allOf", arr (only (codes "unevaluatedItems") (truth true) ∷ []))
+    ∷ (codes "unevaluatedItems", truth false) ∷ [])
 
 abbrev pub names_are_a : Value
 names_are_a = only (codes "propertyNames") (only (codes "const") (str (codes "a")))
@@ -182,8 +192,11 @@ tree_schema = obj (
     (codes "$dynamicAnchor", str (codes "node"))
     ∷ (
       codes "properties",
-      obj (
-          (codes "children", obj ((codes "items", only (codes "$dynamicRef") (str (codes "#node"))) ∷ (codes "type", str (codes "array")) ∷ []))
+      obj ((
+        codes "children",
+        obj ((codes "items", only (codes "$dynamicRef") (str (codes "#node")))
+            ∷ (codes "type", str (codes "array")) ∷ []),
+      )
           ∷ (codes "data", truth true) ∷ []),
     )
     ∷ (codes "type", str (codes "object")) ∷ [])
@@ -233,7 +246,8 @@ double_not_result = record {
       (tree (plain_unit false (codes "/not") silent)
       (tree (plain_unit false (codes "/not/not") (error (codes "the subschema holds")))
       (tree (plain_unit true (codes "/not/not") silent)
-      (tree (plain_unit true (codes "/not/not/title") (value (str (codes "t")))) empty empty) empty) empty) empty) empty;
+      (tree (plain_unit true (codes "/not/not/title") (value (str (codes "t")))) empty empty)
+      empty) empty) empty) empty;
 }
 
 -- ---- what the definitions say of them

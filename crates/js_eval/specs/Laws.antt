@@ -21,7 +21,8 @@ use Rattle.js_walk.specs.Note.{are_all_items}
 use Rattle.js_walk.specs.Result.{ResultTree, IsResult, StandsWithin, depth, size}
 use Rattle.js_walk.specs.SchemaSet.{Text, SchemaSet, Step}
 use Rattle.js_walk.specs.Size.{node_total}
-use Rattle.js_walk.specs.Verdict.{Known, within, Settled, gives_names, gives_indexes, evaluated_names, evaluated_indexes}
+use Rattle.js_walk.specs.Verdict.{Known, within, Settled, gives_names, gives_indexes}
+use Rattle.js_walk.specs.Verdict.{evaluated_names, evaluated_indexes}
 use Rattle.js_walk.specs.declared.keywords.kind.Kind.{Kind}
 use Rattle.js_walk.specs.declared.keywords.kind.Kind.TheVariants.{Reference, DynamicReference, PrefixItems, Contains}
 
@@ -39,21 +40,26 @@ module _ {Place : Type 0} (S : SchemaSet Place) (above : List Place) (place : Pl
 
   -- at most one tree is the result
   abbrev pub AtMostOneResult : Type 0
-  AtMostOneResult = (at : Location) (t u : ResultTree) → IsResult S above place at v t → IsResult S above place at v u → t ≡ u
+  AtMostOneResult = (at : Location) (t u : ResultTree) → IsResult S above place at v t
+      → IsResult S above place at v u → t ≡ u
 
   -- there is one exactly if it is settled within some n
   abbrev pub ResultExactlyIfSettled : Type 0
-  ResultExactlyIfSettled = (at : Location) → ((t : ResultTree) × IsResult S above place at v t) ↔ ((n : ℕ) × Settled S n above place v)
+  ResultExactlyIfSettled = (at : Location)
+      → ((t : ResultTree) × IsResult S above place at v t) ↔ ((n : ℕ) × Settled S n above place v)
 
   -- the result is exactly so deep that it is settled within its depth, and within no less
   abbrev pub DepthIsLeast : Type 0
-  DepthIsLeast = (at : Location) (t : ResultTree) → IsResult S above place at v t → (n : ℕ) → Settled S n above place v ↔ (depth t ≤ n)
+  DepthIsLeast = (at : Location) (t : ResultTree) → IsResult S above place at v t → (n : ℕ)
+      → Settled S n above place v ↔ (depth t ≤ n)
 
-  -- the result has as many nodes as are told without it
+  -- the result has as many nodes as are counted without it
   abbrev pub SizeIsTotal : Type 0
-  SizeIsTotal = (at : Location) (t : ResultTree) → IsResult S above place at v t → (n : ℕ) → Settled S n above place v → size t ≡ node_total S n above place v
+  SizeIsTotal = (at : Location) (t : ResultTree) → IsResult S above place at v t → (n : ℕ) → Settled S n above place v
+      → size t ≡ node_total S n above place v
 
-  -- there is a result within the limits exactly if it is settled within the one, and its nodes are no more than the other
+  -- there is a result within the limits exactly if it is settled within the one, and its nodes are no more than the
+  -- other
   abbrev pub LimitsAreExact : Type 0
   LimitsAreExact =
       (at : Location) (deepest most : ℕ)
@@ -69,9 +75,11 @@ module _ {Place : Type 0} (S : SchemaSet Place) (above : List Place) (place : Pl
   abbrev pub NoCircle : Type 0
   NoCircle =
       (known : Known Place)
-      → (flat_map (gives_names S known above place v) (filter (λ k. not (is_unevaluated_properties (kind k.0))) (keywords (S.schema place)))
+      → (flat_map (gives_names S known above place v)
+      (filter (λ k. not (is_unevaluated_properties (kind k.0))) (keywords (S.schema place)))
       ≡ evaluated_names S known above place v)
-      × (flat_map (gives_indexes S known above place v) (filter (λ k. not (is_unevaluated_items (kind k.0))) (keywords (S.schema place)))
+      × (flat_map (gives_indexes S known above place v)
+      (filter (λ k. not (is_unevaluated_items (kind k.0))) (keywords (S.schema place)))
       ≡ evaluated_indexes S known above place v)
 
 -- ---- `true` of every item
@@ -84,17 +92,20 @@ are_each_among (e ∷ es) among = list_all (λ e. among_indexes e.0 among) (e �
 abbrev pub is_every_item : Value → List ℕ → Bool
 is_every_item v among = are_each_among (indexed v) among
 
--- That these are all items of an array that isn't empty is told by their number: of what `prefixItems` was applied to
+-- That these are all items of an array that isn't empty follows from their number: of what `prefixItems` was applied to
 -- (10.3.1.1), and of what matches `contains` (10.3.1.3).
-module _ {Place : Type 0} (S : SchemaSet Place) (path : List Place) (place : Place) (v : Value) (siblings : Named) (condition : Option Bool) (names : List Text) (indexes : List ℕ) (k : Keyword) where
+module _ {Place : Type 0} (S : SchemaSet Place) (path : List Place) (place : Place) (v : Value) (siblings : Named)
+    (condition : Option Bool) (names : List Text) (indexes : List ℕ) (k : Keyword) where
   abbrev asked_of_items : Kind → List (Application Place)
   asked_of_items κ = asks_of S path place siblings v condition names indexes k κ
 
-  pub record TellsEveryItem : Type 0 where
-    pub applied : are_all_items v (indexes_applied (asked_of_items PrefixItems)) ≡ is_every_item v (indexes_applied (asked_of_items PrefixItems))
+  pub record StandsForEveryItem : Type 0 where
+    pub applied : are_all_items v (indexes_applied (asked_of_items PrefixItems))
+        ≡ is_every_item v (indexes_applied (asked_of_items PrefixItems))
     pub matching :
         (holds : Application Place → Bool)
-        → are_all_items v (indexes_applied (filter holds (asked_of_items Contains))) ≡ is_every_item v (indexes_applied (filter holds (asked_of_items Contains)))
+        → are_all_items v (indexes_applied (filter holds (asked_of_items Contains)))
+        ≡ is_every_item v (indexes_applied (filter holds (asked_of_items Contains)))
 
 -- ---- nothing stands in for a place that isn't found
 
@@ -116,12 +127,14 @@ abbrev pub IsOfFound : Documents → List Site → Site → Keyword → Applicat
 IsOfFound documents path place k a = IsFound documents (looked_for documents path place k.0 a.step (kind k.0)) a.place
 
 -- In documents that are accepted, each application that a keyword of a place asks for is of a place that is found,
--- whatever value is judged, and whatever the dynamic scope. It is a place of the documents too, so the same holds there.
--- `schemas_of` answers something else where nothing is found: no judgement comes to that.
+-- whatever value is judged, and whatever the dynamic scope. It is a place of the documents too, so the same holds
+-- there. `schemas_of` answers something else where nothing is found: no judgement comes to that.
 abbrev pub NothingStandsIn : Type 0
 NothingStandsIn =
-    (documents : Documents) → AreRead documents → IsClear (candidates documents) → (n : ℕ) (place : Site) → place_at documents n ≡ Some place
+    (documents : Documents) → AreRead documents → IsClear (candidates documents) → (n : ℕ) (place : Site)
+    → place_at documents n ≡ Some place
     → (path : List Site) (v : Value) (condition : Option Bool) (names : List Text) (indexes : List ℕ)
     → AllByRecursion
-    (λ k. AllByRecursion (IsOfFound documents path place k) (asks_of (schemas_of documents) path place (entries place.schema) v condition names indexes k (kind k.0)))
+    (λ k. AllByRecursion (IsOfFound documents path place k)
+    (asks_of (schemas_of documents) path place (entries place.schema) v condition names indexes k (kind k.0)))
     (keywords place.schema)

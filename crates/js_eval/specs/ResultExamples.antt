@@ -28,7 +28,8 @@ abbrev pub IsResultOf : Documents → Value → ResultTree → Type 0
 IsResultOf documents v t = IsResultAtFirst documents (sites documents) v t
 
 abbrev pub unit : Bool → Text → Text → Text → Note → OutputUnit
-unit valid keyword absolute instance note = record { valid = valid; keyword = keyword; absolute = absolute; instance = instance; note = note }
+unit valid keyword absolute instance note =
+    record { valid = valid; keyword = keyword; absolute = absolute; instance = instance; note = note }
 
 -- ---- short forms
 
@@ -36,7 +37,7 @@ unit valid keyword absolute instance note = record { valid = valid; keyword = ke
 abbrev pub at_s : Value → Documents
 at_s root = document_at (codes "https://a.example/s") root
 
--- a node of that document, without references and escapes on the way
+-- a node of that document, without references and escapes on the state
 abbrev pub unit_in_s : Bool → Text → Text → Note → OutputUnit
 unit_in_s valid keyword instance note = unit valid keyword (codes "https://a.example/s#" ++ keyword) instance note
 
@@ -50,13 +51,16 @@ abbrev pub EscapedName : Type 0
 EscapedName = Gives (at_s (only (codes "properties") (only (codes "a/b %") (only (codes "type") (str (codes "null"))))))
     (only (codes "a/b %") (num 1)) false
     (tree (unit_in_s false (codes "/properties") [] silent)
-    (tree (unit false (codes "/properties/a~1b %") (codes "https://a.example/s#/properties/a~1b%20%25") (codes "/a~1b %") silent)
-    (tree (unit false (codes "/properties/a~1b %/type") (codes "https://a.example/s#/properties/a~1b%20%25/type") (codes "/a~1b %") (error (codes "type is integer"))) empty empty) empty) empty)
+    (tree (unit false (codes "/properties/a~1b %") (codes "https://a.example/s#/properties/a~1b%20%25")
+    (codes "/a~1b %") silent)
+    (tree (unit false (codes "/properties/a~1b %/type") (codes "https://a.example/s#/properties/a~1b%20%25/type")
+    (codes "/a~1b %") (error (codes "type is integer"))) empty empty) empty) empty)
 
 -- ---- members of a failing keyword are not evaluated
 
 abbrev pub FailingProperties : Type 0
-FailingProperties = Gives (at_s (obj ((codes "properties", only (codes "a") (truth false)) ∷ (codes "unevaluatedProperties", only (codes "const") (num 1)) ∷ [])))
+FailingProperties = Gives (at_s (obj ((codes "properties", only (codes "a") (truth false))
+    ∷ (codes "unevaluatedProperties", only (codes "const") (num 1)) ∷ [])))
     (only (codes "a") (num 1)) false
     (tree (unit_in_s false (codes "/properties") [] silent)
     (tree (unit_in_s false (codes "/properties/a") (codes "/a") (error (codes "false schema"))) empty empty)
@@ -67,7 +71,8 @@ FailingProperties = Gives (at_s (obj ((codes "properties", only (codes "a") (tru
 -- ---- `if`, `else`, and a keyword whose name is between theirs
 
 abbrev pub IfBeforeElse : Type 0
-IfBeforeElse = Gives (at_s (obj ((codes "else", only (codes "minimum") (num 2)) ∷ (codes "if", truth false) ∷ (codes "iff", num 1) ∷ [])))
+IfBeforeElse = Gives (at_s
+    (obj ((codes "else", only (codes "minimum") (num 2)) ∷ (codes "if", truth false) ∷ (codes "iff", num 1) ∷ [])))
     (num 1) false
     (tree (unit_in_s true (codes "/if") [] silent)
     (tree (unit_in_s false (codes "/if") [] (error (codes "false schema"))) empty empty)
@@ -79,7 +84,9 @@ IfBeforeElse = Gives (at_s (obj ((codes "else", only (codes "minimum") (num 2)) 
 -- ---- what `if` and `then` evaluate
 
 abbrev pub ThenEvaluates : Type 0
-ThenEvaluates = Gives (at_s (obj ((codes "if", only (codes "properties") (only (codes "a") (truth true))) ∷ (codes "then", only (codes "properties") (only (codes "b") (truth true))) ∷ (codes "unevaluatedProperties", truth false) ∷ [])))
+ThenEvaluates = Gives (at_s (obj ((codes "if", only (codes "properties") (only (codes "a") (truth true)))
+    ∷ (codes "then", only (codes "properties") (only (codes "b") (truth true)))
+    ∷ (codes "unevaluatedProperties", truth false) ∷ [])))
     (obj ((codes "a", num 1) ∷ (codes "b", num 2) ∷ [])) true
     (tree (unit_in_s true (codes "/if") [] silent)
     (tree (unit_in_s true (codes "/if") [] silent)
@@ -102,34 +109,43 @@ ElseAlone = Gives (at_s (obj ((codes "else", truth false) ∷ (codes "then", tru
 -- ---- the keywords for members together
 
 abbrev pub MembersTogether : Type 0
-MembersTogether = Gives (at_s (obj ((codes "additionalProperties", only (codes "type") (str (codes "null"))) ∷ (codes "properties", only (codes "a") (truth true)) ∷ (codes "propertyNames", only (codes "maxLength") (num 1)) ∷ (codes "unevaluatedProperties", truth false) ∷ [])))
+MembersTogether = Gives (at_s (obj ((codes "additionalProperties", only (codes "type") (str (codes "null")))
+    ∷ (codes "properties", only (codes "a") (truth true)) ∷ (codes "propertyNames", only (codes "maxLength") (num 1))
+    ∷ (codes "unevaluatedProperties", truth false) ∷ [])))
     (obj ((codes "a", num 1) ∷ (codes "bc", num 2) ∷ [])) false
     (tree (unit_in_s false (codes "/additionalProperties") [] silent)
     (tree (unit_in_s false (codes "/additionalProperties") (codes "/bc") silent)
-    (tree (unit_in_s false (codes "/additionalProperties/type") (codes "/bc") (error (codes "type is integer"))) empty empty) empty)
+    (tree (unit_in_s false (codes "/additionalProperties/type") (codes "/bc")
+    (error (codes "type is integer"))) empty empty) empty)
     (tree (unit_in_s true (codes "/properties") [] (names (codes "a" ∷ [])))
     (tree (unit_in_s true (codes "/properties/a") (codes "/a") silent) empty empty)
     (tree (unit_in_s false (codes "/propertyNames") [] silent)
     (tree (unit_in_s true (codes "/propertyNames") (codes "/a") silent)
     (tree (unit_in_s true (codes "/propertyNames/maxLength") (codes "/a") silent) empty empty)
     (tree (unit_in_s false (codes "/propertyNames") (codes "/bc") silent)
-    (tree (unit_in_s false (codes "/propertyNames/maxLength") (codes "/bc") (error (codes "2 characters, at most 1"))) empty empty) empty))
+    (tree (unit_in_s false (codes "/propertyNames/maxLength") (codes "/bc")
+    (error (codes "2 characters, at most 1"))) empty empty) empty))
     (tree (unit_in_s false (codes "/unevaluatedProperties") [] silent)
-    (tree (unit_in_s false (codes "/unevaluatedProperties") (codes "/bc") (error (codes "false schema"))) empty empty) empty))))
+    (tree (unit_in_s false (codes "/unevaluatedProperties") (codes "/bc")
+    (error (codes "false schema"))) empty empty) empty))))
 
 -- ---- `dependentSchemas`: a name that a member has, and one that none has
 
 abbrev pub Dependent : Type 0
-Dependent = Gives (at_s (only (codes "dependentSchemas") (obj ((codes "a", only (codes "maxProperties") (num 0)) ∷ (codes "b", truth false) ∷ []))))
+Dependent = Gives (at_s (only (codes "dependentSchemas")
+    (obj ((codes "a", only (codes "maxProperties") (num 0)) ∷ (codes "b", truth false) ∷ []))))
     (only (codes "a") (num 1)) false
     (tree (unit_in_s false (codes "/dependentSchemas") [] silent)
     (tree (unit_in_s false (codes "/dependentSchemas/a") [] silent)
-    (tree (unit_in_s false (codes "/dependentSchemas/a/maxProperties") [] (error (codes "1 members, at most 0"))) empty empty) empty) empty)
+    (tree (unit_in_s false (codes "/dependentSchemas/a/maxProperties") [] (error (codes "1 members, at most 0")))
+    empty empty) empty) empty)
 
 -- ---- the keywords for items together
 
 abbrev pub ItemsAtOnce : Type 0
-ItemsAtOnce = Gives (at_s (obj ((codes "contains", only (codes "const") (num 3)) ∷ (codes "items", only (codes "type") (str (codes "integer"))) ∷ (codes "maxContains", num 0) ∷ (codes "prefixItems", arr ((truth true) ∷ [])) ∷ [])))
+ItemsAtOnce = Gives (at_s (obj
+    ((codes "contains", only (codes "const") (num 3)) ∷ (codes "items", only (codes "type") (str (codes "integer")))
+    ∷ (codes "maxContains", num 0) ∷ (codes "prefixItems", arr ((truth true) ∷ [])) ∷ [])))
     (arr ((num 1) ∷ (str (codes "b")) ∷ (num 3) ∷ [])) false
     (tree (unit_in_s true (codes "/contains") [] (indexes (2 ∷ [])))
     (tree (unit_in_s false (codes "/contains") (codes "/0") silent)
@@ -150,7 +166,8 @@ ItemsAtOnce = Gives (at_s (obj ((codes "contains", only (codes "const") (num 3))
 -- ---- `true` of every item; of an array without items, no note and a list without indexes
 
 abbrev pub every_item_documents : Documents
-every_item_documents = at_s (obj ((codes "contains", truth true) ∷ (codes "minContains", num 0) ∷ (codes "prefixItems", arr ((truth true) ∷ (truth true) ∷ [])) ∷ []))
+every_item_documents = at_s (obj ((codes "contains", truth true) ∷ (codes "minContains", num 0)
+    ∷ (codes "prefixItems", arr ((truth true) ∷ (truth true) ∷ [])) ∷ []))
 
 abbrev pub EveryItem : Type 0
 EveryItem = Gives every_item_documents
@@ -171,7 +188,8 @@ NoItem = Gives every_item_documents
 -- ---- alternatives, and `false`
 
 abbrev pub Alternatives : Type 0
-Alternatives = Gives (at_s (obj ((codes "anyOf", arr ((truth false) ∷ (only (codes "maximum") (num 1)) ∷ [])) ∷ (codes "oneOf", arr ((only (codes "minimum") (num 2)) ∷ (only (codes "title") (str (codes "t"))) ∷ [])) ∷ [])))
+Alternatives = Gives (at_s (obj ((codes "anyOf", arr ((truth false) ∷ (only (codes "maximum") (num 1)) ∷ []))
+    ∷ (codes "oneOf", arr ((only (codes "minimum") (num 2)) ∷ (only (codes "title") (str (codes "t"))) ∷ [])) ∷ [])))
     (num 2) false
     (tree (unit_in_s false (codes "/anyOf") [] (error (codes "no branch holds")))
     (tree (unit_in_s false (codes "/anyOf/0") [] (error (codes "false schema"))) empty
@@ -186,11 +204,13 @@ Alternatives = Gives (at_s (obj ((codes "anyOf", arr ((truth false) ∷ (only (c
 -- ---- a reference into another document
 
 abbrev pub IntoADocument : Type 0
-IntoADocument = Gives (at_s (only (codes "$ref") (str (codes "t#/$defs/i"))) ++ document_at (codes "https://a.example/t") (only (codes "$defs") (only (codes "i") (only (codes "type") (str (codes "integer"))))))
+IntoADocument = Gives (at_s (only (codes "$ref") (str (codes "t#/$defs/i"))) ++ document_at (codes
+    "https://a.example/t") (only (codes "$defs") (only (codes "i") (only (codes "type") (str (codes "integer"))))))
     (str (codes "x")) false
     (tree (unit_in_s false (codes "/$ref") [] silent)
     (tree (unit false (codes "/$ref") (codes "https://a.example/t#/$defs/i") [] silent)
-    (tree (unit false (codes "/$ref/type") (codes "https://a.example/t#/$defs/i/type") [] (error (codes "type is string"))) empty empty) empty) empty)
+    (tree (unit false (codes "/$ref/type") (codes "https://a.example/t#/$defs/i/type") []
+    (error (codes "type is string"))) empty empty) empty) empty)
 
 -- ---- nested `not` schemas, which take exactly 512 nested schema applications
 

@@ -1,7 +1,7 @@
 //! Finished schemas and their patterns, as a walk uses them.
 ghost use Rattle.std.specs.Prelude.{◌≡◌, None, OnOk, Some, map, option_to_list};
 ghost use Rattle.js_walk.specs.Evaluated.{index_in_step, name_in_step};
-ghost use Rattle.js_walk.specs.Walk.Told.{at_step};
+ghost use Rattle.js_walk.specs.Walk.Progress.{at_step};
 ghost use Rattle.js_walk.specs.code.Terms.{instance_of, is_place, numbered_site, schemas_of, step_of};
 
 use crate::cursors::asking::{Asking, next_asked};
@@ -21,12 +21,12 @@ use std::alloc::Global;
 
 /// Finished schemas, and the searchers for their patterns. `'a` is the lifetime of the schemas and of the instance.
 #[derive(Drop)]
-pub(crate) struct Here<'a> {
+pub(crate) struct FinishedSchemas<'a> {
     pub schemas: &'a Schemas,
     pub searchers: Searchers<'a>,
 }
 
-impl<'a> World for Here<'a> {
+impl<'a> World for FinishedSchemas<'a> {
     ghost use Rattle.js_bundle.specs.Schemas.{is_place};
     ghost use Rattle.js_doc.specs.Seen as seen;
     ghost use Rattle.js_eval.specs.code.Applied.{applied_of};
@@ -78,12 +78,12 @@ impl<'a> World for Here<'a> {
 
     ghost is_asking = { λ h a. here.IsAsking h.schemas.now a };
 
-    #[tactic(auto, unfolding(js_walk::specs::Walk::Told::accepts_at))]
+    #[tactic(auto, unfolding(js_walk::specs::Walk::Progress::accepts_at))]
     fn accepts(&self, _place: Place, schema: &'a Doc) -> bool {
         is_accepting(schema)
     }
 
-    #[tactic(auto, unfolding(js_walk::specs::Walk::Visited::AppliesNone, js_walk::specs::Walk::Told::keywords_at))]
+    #[tactic(auto, unfolding(js_walk::specs::Walk::Visited::AppliesNone, js_walk::specs::Walk::Progress::keywords_at))]
     fn may_apply(&self, place: Place, schema: &'a Doc) -> bool {
         Keywords::may_apply(names_at(self.schemas, place), schema)
     }
@@ -102,7 +102,7 @@ impl<'a> World for Here<'a> {
         judge_others(alloc, self.schemas, &self.searchers, place, value, matching)
     }
 
-    #[tactic(auto, unfolding(js_walk::specs::Walk::Told::keywords_at))]
+    #[tactic(auto, unfolding(js_walk::specs::Walk::Progress::keywords_at))]
     fn keywords(&self, place: Place, schema: &'a Doc, quiet: bool) -> Keywords<'a> {
         Keywords::new(names_at(self.schemas, place), schema, quiet)
     }
@@ -111,17 +111,17 @@ impl<'a> World for Here<'a> {
         keywords.next()
     }
 
-    #[tactic(auto, unfolding(js_walk::specs::Walk::Told::kind_at))]
+    #[tactic(auto, unfolding(js_walk::specs::Walk::Progress::kind_at))]
     fn kind(&self, keyword: Keyword<'a>) -> Kind {
         keyword.kind
     }
 
-    #[tactic(auto, unfolding(js_walk::specs::Walk::Told::asked_by))]
+    #[tactic(auto, unfolding(js_walk::specs::Walk::Progress::asked_by))]
     fn asks(&self, keyword: Keyword<'a>) -> bool {
         keyword.kind.is_applicator()
     }
 
-    #[tactic(auto, unfolding(js_walk::specs::Walk::Told::asked_by, js_walk::specs::Walk::Told::IsKeywordAt))]
+    #[tactic(auto, unfolding(js_walk::specs::Walk::Progress::asked_by, js_walk::specs::Walk::Progress::IsKeywordAt))]
     fn asking(
         &self,
         alloc: Global,
@@ -206,7 +206,7 @@ impl<'a> World for Here<'a> {
         )
     }
 
-    #[tactic(auto, unfolding(js_walk::specs::Walk::Told::at_name))]
+    #[tactic(auto, unfolding(js_walk::specs::Walk::Progress::at_name))]
     fn go_to_keyword<H: PointerText + Drop>(
         &self,
         keyword: Keyword<'a>,
@@ -270,7 +270,7 @@ fn item_at<'a>(at: Step<'a>, _doc: Option<&'a Doc>) -> Option<usize>
 }
 
 // Appends the step to the trail.
-#[tactic(auto, unfolding(js_walk::specs::Walk::Told::at_step))]
+#[tactic(auto, unfolding(js_walk::specs::Walk::Progress::at_step))]
 fn go<'a, H: PointerText + Drop>(
     step: Step<'a>,
     _doc: Option<&'a Doc>,

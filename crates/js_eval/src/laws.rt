@@ -6,7 +6,7 @@ ghost use Rattle.js_eval.specs.Collected.{RowsAreCollected, TreeIsCollected, Ver
 ghost use Rattle.js_eval.specs.Examples.{Shown};
 ghost use Rattle.js_eval.specs.Laws.{AtMostOneResult, DepthIsLeast, LimitsAreExact, LocationsGoOn, NoCircle};
 ghost use Rattle.js_eval.specs.Laws.{NothingStandsIn, ResultExactlyIfSettled, SizeIsTotal, StaysSettled};
-ghost use Rattle.js_eval.specs.Laws.{TellsEveryItem};
+ghost use Rattle.js_eval.specs.Laws.{StandsForEveryItem};
 ghost use Rattle.js_walk.specs.Keywords.{Keyword};
 ghost use Rattle.js_eval.specs.ResultExamples.{GiveTheseResults};
 ghost use Rattle.js_walk.specs.SchemaSet.{SchemaSet, Text};
@@ -54,7 +54,7 @@ pub fn no_circle<Place>()
 pub fn every_item<Place>()
     ensures { (S : SchemaSet Place) (path : List Place) (place : Place) (v : JsonValue) (siblings : Named)
         (condition : Option Bool) (names : List Text) (indexes : List ℕ) (k : Keyword)
-        → TellsEveryItem S path place v siblings condition names indexes k }
+        → StandsForEveryItem S path place v siblings condition names indexes k }
 {}
 
 /// In accepted documents no look-up of a schema fails: each application that a keyword asks for is of a schema that

@@ -11,7 +11,7 @@ ghost use Rattle.js_walk.specs.Walk.Reported.{Reported};
 ghost use Rattle.js_eval.specs.Walked.{AreNotedRows, AreResultRows, IsResultWithin, IsVerdict, LeadsTo, NoneStands};
 ghost use Rattle.js_eval.specs.Walked.{OnTooLarge};
 
-use crate::finished_world::Here;
+use crate::finished_world::FinishedSchemas;
 use crate::reporters::collecting::Collecting;
 use crate::reporters::recording::Recording;
 use crate::reporters::silent::Silent;
@@ -44,7 +44,7 @@ pub fn walk_into<'a, C: Collector<'a>>(
     ensures ok { IfOk result (λ d. LeadsTo schemas.now place (value_of value.now) C.takes collector d) }
     ensures too_large { IfErr result (λ e. OnTooLarge (e.0) (NoneStands schemas.now place (value_of value.now))) }
 {
-    let here = Here {
+    let here = FinishedSchemas {
         schemas,
         searchers: Searchers::new(alloc),
     };
@@ -54,7 +54,7 @@ pub fn walk_into<'a, C: Collector<'a>>(
     };
     let schema = schema_at(schemas, place);
     let value = Instance::Doc(value);
-    let done = walk_from::<Here<'a>, HeldText, Collecting<'a, C>>(
+    let done = walk_from::<FinishedSchemas<'a>, HeldText, Collecting<'a, C>>(
         alloc,
         &here,
         &mut collecting,
@@ -222,7 +222,7 @@ pub fn verdict<'a>(
 }
 
 // Evaluates the schema at the place on the value, and reports the result node by node.
-fn walk_to<'a, H: PointerText + Drop, R: Reporter<Here<'a>, H>>(
+fn walk_to<'a, H: PointerText + Drop, R: Reporter<FinishedSchemas<'a>, H>>(
     alloc: Global,
     schemas: &'a Schemas,
     place: Place,
@@ -235,11 +235,11 @@ fn walk_to<'a, H: PointerText + Drop, R: Reporter<Here<'a>, H>>(
         R.takes valid reporter.old reporter.new)
         (λ e. OnTooLarge e (NoneStands schemas.now place (value_of value.now))) }
 {
-    let here = Here {
+    let here = FinishedSchemas {
         schemas,
         searchers: Searchers::new(alloc),
     };
     let schema = schema_at(schemas, place);
     let value = Instance::Doc(value);
-    walk_from::<Here<'a>, H, R>(alloc, &here, reporter, place, schema, value)
+    walk_from::<FinishedSchemas<'a>, H, R>(alloc, &here, reporter, place, schema, value)
 }

@@ -1,5 +1,6 @@
 -- What a run answers, by where it stops.
-use Rattle.std.proofs.Common.{◌≡◌, ℕ, ◌<◌, ◌≤◌, List, [], ◌∷◌, ◌++◌, length, Option, Some, None, Result, Ok, Err, Bool, MatchBool, ◌⊎◌, inl, inr, refl, sym, ap, ◌∙◌, subst, arith, length-append}
+use Rattle.std.proofs.Common.{◌≡◌, ℕ, ◌<◌, ◌≤◌, List, [], ◌∷◌, ◌++◌, length, Option, Some, None, Result, Ok, Err, Bool}
+use Rattle.std.proofs.Common.{MatchBool, ◌⊎◌, inl, inr, refl, sym, ap, ◌∙◌, subst, arith, length-append}
 use Rattle.std.proofs.lemmas.Bool.{lt-ltb, le-ltb}
 use Rattle.std.specs.Io.KnownBytes.{Consumes, IsAtEnd}
 use Rattle.js_doc.specs.Value.{Value}
@@ -9,8 +10,8 @@ use Rattle.js_bundle.specs.Resource.{Site}
 use Rattle.js_output.specs.Cause.{Causes, MayGoOn, IsFirstFault, FailsBy}
 use Rattle.js_output.specs.Device.{Tracked, input_limit, IsLeft, Sends, SendsBeginning}
 use Rattle.js_output.specs.Input.{IsInputFault}
-use Rattle.js_output.specs.Outcome.{output_of, ValueOutcome, telling_output, IsLateOrMemory, IsResultOf, IsWalkFault}
-use Rattle.js_output.specs.Telling.{Telling, Tells, Answers, After, OfInput}
+use Rattle.js_output.specs.Outcome.{output_of, ValueOutcome, output_report, IsLateOrMemory, IsResultOf, IsWalkFault}
+use Rattle.js_output.specs.Report.{Report, Reports, Answers, After, OfInput}
 use Rattle.js_output.proofs.CauseLists.{clear-append, clear-apart, first-append, first-apart, first-later}
 use Rattle.js_output.specs.declared.fault.Fault.{Fault}
 use Rattle.js_output.specs.declared.fault.Fault.TheVariants as fault
@@ -37,76 +38,98 @@ more_left None new taken more h = (taken, tt, more)
 more_left (Some xs) None taken more h = absurd h
 more_left (Some xs) (Some ys) taken more h = (xs, refl, omega (arith, ap length h, length-append taken ys))
 
--- ---- what is told of one outcome, and of another that follows from it
+-- ---- what is reported of one outcome, and of another that follows from it
 
-module _ {O A D : Type 0} (telling : Telling O A) (taken : D → Option (List ℕ)) (old new : Tracked D) where
-  pub tells-map : (P Q : Result O Fault → Type 0) (answer : Result A Fault)
-      → ((outcome : Result O Fault) → P outcome → Q outcome) → Tells telling P taken old new answer → Tells telling Q taken old new answer
-  tells-map P Q (Ok answer) f (output, h, is, sent) = (output, f (Ok output) h, is, sent)
-  tells-map P Q (Err fault.Memory) f h = tt
-  tells-map P Q (Err fault.Read) f h = absurd h
-  tells-map P Q (Err fault.Write) f (output, h, begun) = (output, f (Ok output) h, begun)
-  tells-map P Q (Err e) f h = f (Err e) h
+module _ {O A D : Type 0} (report : Report O A) (taken : D → Option (List ℕ)) (old new : Tracked D) where
+  pub reports-map : (P Q : Result O Fault → Type 0) (answer : Result A Fault)
+      → ((outcome : Result O Fault) → P outcome → Q outcome) → Reports report P taken old new answer
+      → Reports report Q taken old new answer
+  reports-map P Q (Ok answer) f (output, h, is, sent) = (output, f (Ok output) h, is, sent)
+  reports-map P Q (Err fault.Memory) f h = tt
+  reports-map P Q (Err fault.Read) f h = absurd h
+  reports-map P Q (Err fault.Write) f (output, h, begun) = (output, f (Ok output) h, begun)
+  reports-map P Q (Err e) f h = f (Err e) h
 
   -- a cause stands before
-  pub tells-early : (causes : Causes) (Then : Result O Fault → Type 0) (e : Fault) → FailsBy causes e → Tells telling (After causes Then) taken old new (Err e)
-  tells-early causes Then fault.Memory h = tt
-  tells-early causes Then fault.Read h = absurd h
-  tells-early causes Then fault.Write h = absurd h
-  tells-early causes Then e h = inl h
+  pub reports-early : (causes : Causes) (Then : Result O Fault → Type 0) (e : Fault) → FailsBy causes e
+      → Reports report (After causes Then) taken old new (Err e)
+  reports-early causes Then fault.Memory h = tt
+  reports-early causes Then fault.Read h = absurd h
+  reports-early causes Then fault.Write h = absurd h
+  reports-early causes Then e h = inl h
 
 -- ---- an input, by its size
 
-pub input-over : {O : Type 0} (bytes : List ℕ) (Then : Result O Fault → Type 0) → input_limit < length bytes → OfInput bytes Then (Err fault.InputTooLarge)
+pub input-over : {O : Type 0} (bytes : List ℕ) (Then : Result O Fault → Type 0) → input_limit < length bytes
+    → OfInput bytes Then (Err fault.InputTooLarge)
 input-over {O} bytes Then more =
-    subst (λ t. MatchBool t (◌≡◌ {A = Result O Fault} (Err fault.InputTooLarge) (Err fault.InputTooLarge)) (Then (Err fault.InputTooLarge))) (sym (lt-ltb input_limit (length bytes) more)) refl
+    subst (λ t. MatchBool t (◌≡◌ {A = Result O Fault} (Err fault.InputTooLarge) (Err fault.InputTooLarge))
+    (Then (Err fault.InputTooLarge))) (sym (lt-ltb input_limit (length bytes) more)) refl
 
 -- within the limit it alone decides
-pub input-within : {O : Type 0} (bytes : List ℕ) (Then : Result O Fault → Type 0) → length bytes ≤ input_limit → (outcome : Result O Fault) → Then outcome → OfInput bytes Then outcome
+pub input-within : {O : Type 0} (bytes : List ℕ) (Then : Result O Fault → Type 0) → length bytes ≤ input_limit
+    → (outcome : Result O Fault) → Then outcome → OfInput bytes Then outcome
 input-within bytes Then few outcome h =
-    subst (λ t. MatchBool t (outcome ≡ Err fault.InputTooLarge) (Then outcome)) (sym (le-ltb input_limit (length bytes) few)) h
+    subst (λ t. MatchBool t (outcome ≡ Err fault.InputTooLarge) (Then outcome))
+    (sym (le-ltb input_limit (length bytes) few)) h
 
 -- ---- what is answered of an input
 
-pub after-clear : {O : Type 0} (causes : Causes) (Then : Result O Fault → Type 0) → MayGoOn causes → (outcome : Result O Fault) → Then outcome → After causes Then outcome
+pub after-clear : {O : Type 0} (causes : Causes) (Then : Result O Fault → Type 0) → MayGoOn causes
+    → (outcome : Result O Fault) → Then outcome → After causes Then outcome
 after-clear causes Then clear (Ok output) h = (clear, h)
 after-clear causes Then clear (Err e) h = inr (clear, h)
 
-module _ {O A D : Type 0} (telling : Telling O A) (P : List ℕ → Result O Fault → Type 0) (taken : D → Option (List ℕ)) (old new : Tracked D) where
+module _ {O A D : Type 0} (report : Report O A) (P : List ℕ → Result O Fault → Type 0) (taken : D
+    → Option (List ℕ)) (old new : Tracked D) where
   -- it is read whole
-  pub answers-told : (left : Option (List ℕ)) (bytes : List ℕ) (answer : Result A Fault)
-      → IsLeft left bytes → Tells telling (P bytes) taken old new answer → Answers telling P [] left taken old new answer
-  answers-told left bytes (Ok answer) is h = (bytes, is, h)
-  answers-told left bytes (Err fault.Memory) is h = tt
-  answers-told left bytes (Err fault.Read) is h = absurd h
-  answers-told left bytes (Err fault.Write) is h = (bytes, is, h)
-  answers-told left bytes (Err e) is h = (bytes, is, h)
+  pub answers-reported : (left : Option (List ℕ)) (bytes : List ℕ) (answer : Result A Fault)
+      → IsLeft left bytes → Reports report (P bytes) taken old new answer
+      → Answers report P [] left taken old new answer
+  answers-reported left bytes (Ok answer) is h = (bytes, is, h)
+  answers-reported left bytes (Err fault.Memory) is h = tt
+  answers-reported left bytes (Err fault.Read) is h = absurd h
+  answers-reported left bytes (Err fault.Write) is h = (bytes, is, h)
+  answers-reported left bytes (Err e) is h = (bytes, is, h)
 
   -- it isn't
   pub answers-input : (old_left new_left : Option (List ℕ)) (e : Fault)
       → ((bytes : List ℕ) → input_limit < length bytes → P bytes (Err fault.InputTooLarge)) → IsInputFault e
-      → (e ≡ fault.InputTooLarge → (read : List ℕ) × (input_limit < length read) × Consumes old_left new_left read) → Answers telling P [] old_left taken old new (Err e)
+      → (e ≡ fault.InputTooLarge → (read : List ℕ) × (input_limit < length read) × Consumes old_left new_left read)
+      → Answers report P [] old_left taken old new (Err e)
   answers-input old_left new_left fault.Memory over h large = tt
   answers-input old_left new_left fault.Read over h large = tt
   answers-input old_left new_left fault.InputTooLarge over h large =
-      let (read, more, consumed) = large refl in let (bytes, is, many) = more_left old_left new_left read more consumed in (bytes, is, over bytes many)
+      let (read, more, consumed) = large refl in
+      let (bytes, is, many) = more_left old_left new_left read more consumed in (bytes, is, over bytes many)
   answers-input old_left new_left _ over h large = absurd h
 
   module _ (causes : Causes) (left : Option (List ℕ)) where
     -- a cause stands before it
-    pub answers-early : (e : Fault) → FailsBy causes e → Answers telling (λ bytes. After causes (P bytes)) causes left taken old new (Err e)
+    pub answers-early : (e : Fault) → FailsBy causes e
+        → Answers report (λ bytes. After causes (P bytes)) causes left taken old new (Err e)
     answers-early fault.Memory h = tt
     answers-early fault.Read h = absurd h
     answers-early fault.Write h = absurd h
     answers-early e h = let (bytes, is) = some_left left in (bytes, is, inl h)
 
     -- none does
-    pub answers-after : MayGoOn causes → (answer : Result A Fault) → Answers telling P [] left taken old new answer
-        → Answers telling (λ bytes. After causes (P bytes)) causes left taken old new answer
+    pub answers-after : MayGoOn causes → (answer : Result A Fault) → Answers report P [] left taken old new answer
+        → Answers report (λ bytes. After causes (P bytes)) causes left taken old new answer
     answers-after clear (Err fault.Memory) h = tt
     answers-after clear (Err fault.Read) h = clear
-    answers-after clear (Ok answer) (bytes, all, h) = (bytes, all, tells-map telling taken old new (P bytes) (After causes (P bytes)) (Ok answer) (after-clear causes (P bytes) clear) h)
-    answers-after clear (Err fault.Write) (bytes, all, h) = (bytes, all, tells-map telling taken old new (P bytes) (After causes (P bytes)) (Err fault.Write) (after-clear causes (P bytes) clear) h)
+    answers-after clear (Ok answer) (bytes, all, h) = (
+      bytes,
+      all,
+      reports-map report taken old new (P bytes)
+          (After causes (P bytes)) (Ok answer) (after-clear causes (P bytes) clear) h,
+    )
+    answers-after clear (Err fault.Write) (bytes, all, h) = (
+      bytes,
+      all,
+      reports-map report taken old new (P bytes)
+          (After causes (P bytes)) (Err fault.Write) (after-clear causes (P bytes) clear) h,
+    )
     answers-after clear (Err f) (bytes, all, h) = (bytes, all, after-clear causes (P bytes) clear (Err f) h)
 
 -- ---- two parts of the causes, one after another
@@ -130,36 +153,53 @@ module _ {O : Type 0} (xs ys : Causes) (Then : Result O Fault → Type 0) where
   pub after-onto : MayGoOn xs → (outcome : Result O Fault) → After ys Then outcome → After (xs ++ ys) Then outcome
   after-onto clear outcome h = after-together outcome (after-clear xs (After ys Then) clear outcome h)
 
-module _ {O A D : Type 0} (telling : Telling O A) (P : List ℕ → Result O Fault → Type 0) (taken : D → Option (List ℕ)) (old new : Tracked D) (xs ys : Causes) (left : Option (List ℕ)) where
-  pub answers-onto : MayGoOn xs → (answer : Result A Fault) → Answers telling (λ bytes. After ys (P bytes)) ys left taken old new answer
-      → Answers telling (λ bytes. After (xs ++ ys) (P bytes)) (xs ++ ys) left taken old new answer
+module _ {O A D : Type 0} (report : Report O A) (P : List ℕ → Result O Fault → Type 0) (taken : D
+    → Option (List ℕ)) (old new : Tracked D) (xs ys : Causes) (left : Option (List ℕ)) where
+  pub answers-onto : MayGoOn xs → (answer : Result A Fault)
+      → Answers report (λ bytes. After ys (P bytes)) ys left taken old new answer
+      → Answers report (λ bytes. After (xs ++ ys) (P bytes)) (xs ++ ys) left taken old new answer
   answers-onto clear (Err fault.Memory) h = tt
   answers-onto clear (Err fault.Read) h = clear-append xs ys clear h
-  answers-onto clear (Ok answer) (bytes, all, h) = (bytes, all, tells-map telling taken old new (After ys (P bytes)) (After (xs ++ ys) (P bytes)) (Ok answer) (after-onto xs ys (P bytes) clear) h)
-  answers-onto clear (Err fault.Write) (bytes, all, h) = (bytes, all, tells-map telling taken old new (After ys (P bytes)) (After (xs ++ ys) (P bytes)) (Err fault.Write) (after-onto xs ys (P bytes) clear) h)
+  answers-onto clear (Ok answer) (bytes, all, h) = (
+    bytes,
+    all,
+    reports-map report taken old new (After ys (P bytes))
+        (After (xs ++ ys) (P bytes)) (Ok answer) (after-onto xs ys (P bytes) clear) h,
+  )
+  answers-onto clear (Err fault.Write) (bytes, all, h) = (
+    bytes,
+    all,
+    reports-map report taken old new
+        (After ys (P bytes)) (After (xs ++ ys) (P bytes)) (Err fault.Write) (after-onto xs ys (P bytes) clear) h,
+  )
   answers-onto clear (Err f) (bytes, all, h) = (bytes, all, after-onto xs ys (P bytes) clear (Err f) h)
 
--- ---- what is told of a value
+-- ---- what is reported of a value
 
 module _ (docs : bundle.Documents) (entry : Option Site) (v : Value) (format : Format) where
-  module _ (t : ResultTree) (is : IsResultOf docs entry v t) (stands : IsWithinLimits t) {D : Type 0} (taken : D → Option (List ℕ)) (old new : Tracked D) where
+  module _ (t : ResultTree) (is : IsResultOf docs entry v t) (stands : IsWithinLimits t) {D : Type 0} (taken : D
+      → Option (List ℕ)) (old new : Tracked D) where
     -- the form went out
-    pub tells-sent : (valid : Bool) → valid ≡ t.root.valid → Sends taken old new (output_of format t).text → Tells telling_output (ValueOutcome docs entry v format) taken old new (Ok valid)
-    tells-sent valid e sent = (output_of format t, (t, is, stands, refl), sym e, sent)
+    pub reports-sent : (valid : Bool) → valid ≡ t.root.valid → Sends taken old new (output_of format t).text
+        → Reports output_report (ValueOutcome docs entry v format) taken old new (Ok valid)
+    reports-sent valid e sent = (output_of format t, (t, is, stands, refl), sym e, sent)
 
     -- the sink failed
-    pub tells-begun : (e : Fault) → (e ≡ fault.Write) × SendsBeginning taken old new (output_of format t).text → Tells telling_output (ValueOutcome docs entry v format) taken old new (Err e)
-    tells-begun e (write, begun) =
-        subst (λ e. Tells telling_output (ValueOutcome docs entry v format) taken old new (Err e)) (sym write) (output_of format t, (t, is, stands, refl), begun)
+    pub reports-begun : (e : Fault) → (e ≡ fault.Write) × SendsBeginning taken old new (output_of format t).text
+        → Reports output_report (ValueOutcome docs entry v format) taken old new (Err e)
+    reports-begun e (write, begun) =
+        subst (λ e. Reports output_report (ValueOutcome docs entry v format) taken old new (Err e)) (sym write)
+        (output_of format t, (t, is, stands, refl), begun)
 
   -- there is none
-  pub tells-fault : {D : Type 0} (taken : D → Option (List ℕ)) (old new : Tracked D) (e : Fault)
-      → IsWalkFault docs entry v e → Tells telling_output (ValueOutcome docs entry v format) taken old new (Err e)
-  tells-fault taken old new fault.Memory h = tt
-  tells-fault taken old new fault.TooLarge h = (refl, h)
-  tells-fault taken old new _ h = absurd h
+  pub reports-fault : {D : Type 0} (taken : D → Option (List ℕ)) (old new : Tracked D) (e : Fault)
+      → IsWalkFault docs entry v e → Reports output_report (ValueOutcome docs entry v format) taken old new (Err e)
+  reports-fault taken old new fault.Memory h = tt
+  reports-fault taken old new fault.TooLarge h = (refl, h)
+  reports-fault taken old new _ h = absurd h
 
-pub walk-late : (docs : bundle.Documents) (entry : Option Site) (v : Value) (e : Fault) → IsWalkFault docs entry v e → IsLateOrMemory e
+pub walk-late : (docs : bundle.Documents) (entry : Option Site) (v : Value) (e : Fault)
+    → IsWalkFault docs entry v e → IsLateOrMemory e
 walk-late docs entry v fault.Memory h = tt
 walk-late docs entry v fault.TooLarge h = tt
 walk-late docs entry v _ h = absurd h

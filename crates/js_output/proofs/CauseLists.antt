@@ -35,12 +35,14 @@ pub clear-apart : (xs ys : Causes) → MayGoOn (xs ++ ys) → MayGoOn xs × MayG
 clear-apart [] ys h = (tt, h)
 clear-apart (c ∷ xs) ys h = let (p, q) = clear-apart xs ys h.1 in ((h.0, p), q)
 
-later_past : (c : Cause) (xs ys : Causes) (f : Fault) → c.given ≡ true → IsFirstFault xs f ⊎ (MayGoOn xs × IsFirstFault ys f)
+later_past : (c : Cause) (xs ys : Causes) (f : Fault) → c.given ≡ true
+    → IsFirstFault xs f ⊎ (MayGoOn xs × IsFirstFault ys f)
     → IsFirstFault (c ∷ xs) f ⊎ (MayGoOn (c ∷ xs) × IsFirstFault ys f)
 later_past c xs ys f given (inl h) = inl (inr (given, h))
 later_past c xs ys f given (inr h) = inr ((given, h.0), h.1)
 
-pub first-apart : (xs ys : Causes) (f : Fault) → IsFirstFault (xs ++ ys) f → IsFirstFault xs f ⊎ (MayGoOn xs × IsFirstFault ys f)
+pub first-apart : (xs ys : Causes) (f : Fault) → IsFirstFault (xs ++ ys) f
+    → IsFirstFault xs f ⊎ (MayGoOn xs × IsFirstFault ys f)
 first-apart [] ys f h = inr (tt, h)
 first-apart (c ∷ xs) ys f (inl e) = inl (inl e)
 first-apart (c ∷ xs) ys f (inr h) = later_past c xs ys f h.0 (first-apart xs ys f h.1)
@@ -51,7 +53,8 @@ pub decided_itself : (xs : Causes) → DecidedBy xs xs
 decided_itself xs = record { clear = λ h. h; first = λ f h. h }
 
 pub decided_past : (whole xs rest : Causes) → DecidedBy whole (xs ++ rest) → MayGoOn xs → DecidedBy whole rest
-decided_past whole xs rest l p = record { clear = λ h. l.clear (clear-append xs rest p h); first = λ f h. l.first f (first-later xs rest f p h) }
+decided_past whole xs rest l p =
+    record { clear = λ h. l.clear (clear-append xs rest p h); first = λ f h. l.first f (first-later xs rest f p h) }
 
 pub decided_stop : (whole xs rest : Causes) (f : Fault) → DecidedBy whole (xs ++ rest) → FailsBy xs f → FailsBy whole f
 decided_stop whole xs rest fault.Memory l h = tt
@@ -67,5 +70,6 @@ clear_past b f rest e h = subst (λ t. MayGoOn (cause t f ++ rest)) (sym e) h
 pub first_here : (b : Bool) (f : Fault) (rest : Causes) → b ≡ true → IsFirstFault (cause b f ++ rest) f
 first_here b f rest e = subst (λ t. IsFirstFault (cause t f ++ rest) f) (sym e) (inl refl)
 
-pub first_past : (b : Bool) (f : Fault) (rest : Causes) (g : Fault) → b ≡ false → IsFirstFault rest g → IsFirstFault (cause b f ++ rest) g
+pub first_past : (b : Bool) (f : Fault) (rest : Causes) (g : Fault) → b ≡ false → IsFirstFault rest g
+    → IsFirstFault (cause b f ++ rest) g
 first_past b f rest g e h = subst (λ t. IsFirstFault (cause t f ++ rest) g) (sym e) h

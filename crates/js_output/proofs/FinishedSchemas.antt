@@ -8,7 +8,7 @@ use Rattle.js_output.specs.Documents.{DocumentTexts, bundle_of, adding_causes, b
 use Rattle.js_output.specs.Entry.{entry_causes, entry_place}
 use Rattle.js_output.specs.Finished.{AreAddedInTurn, AreFinished}
 use Rattle.js_output.specs.Outcome.{Output, InstanceOutcome, FinishedOutcome, Outcome}
-use Rattle.js_output.specs.Telling.{After}
+use Rattle.js_output.specs.Report.{After}
 use Rattle.js_output.specs.declared.fault.Fault.{Fault}
 use Rattle.js_output.proofs.Answering.{after-apart, after-together, after-onto}
 use Rattle.js_output.proofs.BundleCauses.{added_clear, held_more, taken_more, finish_clear}
@@ -16,33 +16,43 @@ use Rattle.js_output.proofs.CauseLists.{clear-append}
 
 -- ---- the outcome, in two parts: the documents', and what comes over their schemas
 
-module _ (documents : DocumentTexts) (entry : List ℕ) (format : Format) (instance : List ℕ) (outcome : Result Output Fault) where
-  pub outcome_apart : Outcome documents entry format instance outcome → After (documents_causes documents) (FinishedOutcome (bundle_of documents) entry format instance) outcome
-  outcome_apart = after-apart (documents_causes documents) (entry_causes (bundle_of documents) entry) (InstanceOutcome (bundle_of documents) (entry_place (bundle_of documents) entry) format instance) outcome
+module _ (documents : DocumentTexts) (entry : List ℕ) (format : Format) (instance : List ℕ)
+    (outcome : Result Output Fault) where
+  pub outcome_apart : Outcome documents entry format instance outcome
+      → After (documents_causes documents) (FinishedOutcome (bundle_of documents) entry format instance) outcome
+  outcome_apart = after-apart (documents_causes documents) (entry_causes (bundle_of documents) entry)
+      (InstanceOutcome (bundle_of documents) (entry_place (bundle_of documents) entry) format instance) outcome
 
-  pub outcome_together : After (documents_causes documents) (FinishedOutcome (bundle_of documents) entry format instance) outcome → Outcome documents entry format instance outcome
-  outcome_together = after-together (documents_causes documents) (entry_causes (bundle_of documents) entry) (InstanceOutcome (bundle_of documents) (entry_place (bundle_of documents) entry) format instance) outcome
+  pub outcome_together : After (documents_causes documents) (FinishedOutcome (bundle_of documents) entry format
+      instance) outcome → Outcome documents entry format instance outcome
+  outcome_together = after-together (documents_causes documents) (entry_causes (bundle_of documents) entry)
+      (InstanceOutcome (bundle_of documents) (entry_place (bundle_of documents) entry) format instance) outcome
 
   -- nothing stands against the documents
   pub outcome_over : (schemas : bundle.Documents) → schemas ≡ bundle_of documents → MayGoOn (documents_causes documents)
       → FinishedOutcome schemas entry format instance outcome → Outcome documents entry format instance outcome
   outcome_over schemas of clear h =
-      after-onto (documents_causes documents) (entry_causes (bundle_of documents) entry) (InstanceOutcome (bundle_of documents) (entry_place (bundle_of documents) entry) format instance) clear outcome (subst (λ d. FinishedOutcome d entry format instance outcome) of h)
+      after-onto (documents_causes documents) (entry_causes (bundle_of documents) entry)
+      (InstanceOutcome (bundle_of documents) (entry_place (bundle_of documents) entry) format instance) clear
+      outcome (subst (λ d. FinishedOutcome d entry format instance outcome) of h)
 
 -- ---- documents that were added and finished
 
-are_added : (held : bundle.Documents) (n : ℕ) (documents : DocumentTexts) (all : bundle.Documents) → length held ≡ n → AreAddedInTurn held documents all
-    → (all ≡ held ++ bundle_of documents) × MayGoOn (adding_causes n documents)
-are_added held n [] all many is = (is ∙ sym (append-nil held), tt)
-are_added held n (d ∷ ds) all many (more, added, later) =
-    let (is, clear) = are_added more (n + 1) ds all (held_more held more d.0 d.1 n added many) later in (
-      is ∙ taken_more held more d.0 d.1 ds (held ++ bundle_of (d ∷ ds)) added refl,
-      clear-append _ (adding_causes (n + 1) ds) (added_clear held more d.0 d.1 n added many) clear,
+are_added : (before : bundle.Documents) (n : ℕ) (documents : DocumentTexts) (all : bundle.Documents) → length before ≡ n
+    → AreAddedInTurn before documents all
+    → (all ≡ before ++ bundle_of documents) × MayGoOn (adding_causes n documents)
+are_added before n [] all many is = (is ∙ sym (append-nil before), tt)
+are_added before n (d ∷ ds) all many (more, added, later) =
+    let (is, clear) = are_added more (n + 1) ds all (held_more before more d.0 d.1 n added many) later in (
+      is ∙ taken_more before more d.0 d.1 ds (before ++ bundle_of (d ∷ ds)) added refl,
+      clear-append _ (adding_causes (n + 1) ds) (added_clear before more d.0 d.1 n added many) clear,
     )
 
-pub finished_are : (documents : DocumentTexts) (schemas : bundle.Documents) → AreFinished documents schemas → (schemas ≡ bundle_of documents) × MayGoOn (documents_causes documents)
+pub finished_are : (documents : DocumentTexts) (schemas : bundle.Documents) → AreFinished documents schemas
+    → (schemas ≡ bundle_of documents) × MayGoOn (documents_causes documents)
 finished_are documents schemas is =
     let (of, clear) = are_added [] 0 documents schemas refl is.added in (
       of,
-      clear-append (adding_causes 0 documents) (bundle_causes (bundle_of documents)) clear (subst (λ d. MayGoOn (bundle_causes d)) of (finish_clear schemas is.clear)),
+      clear-append (adding_causes 0 documents) (bundle_causes (bundle_of documents)) clear
+          (subst (λ d. MayGoOn (bundle_causes d)) of (finish_clear schemas is.clear)),
     )

@@ -8,5 +8,5 @@ pub mod Sending
 pub mod Answering
 pub mod FinishedSchemas
 pub mod SuiteLists
-pub mod SuiteTold
-pub mod Told
+pub mod SuiteAnswers
+pub mod OutcomeMeaning

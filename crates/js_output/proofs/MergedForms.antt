@@ -11,5 +11,6 @@ pub merged_form : (t : ResultTree) → verbose (merged (kept (pruned t))) ≡ fo
 merged_form t = ap verbose (merged-kept (pruned t))
 
 -- if it changes nothing of that, that is shown
-pub unmerged_form : (t : ResultTree) → merged (kept (pruned t)) ≡ kept (pruned t) → verbose (kept (pruned t)) ≡ form Merged t
+pub unmerged_form : (t : ResultTree) → merged (kept (pruned t)) ≡ kept (pruned t)
+    → verbose (kept (pruned t)) ≡ form Merged t
 unmerged_form t e = ap verbose (sym e ∙ merged-kept (pruned t))

@@ -16,7 +16,8 @@ use Rattle.js_output.proofs.Sites.{result-there}
 
 -- the rows are those of this tree of the result within the limits
 abbrev pub AreRowsBy : (ResultTree → ResultTree) → Documents → Option Site → Value → RelativeRows → Type 0
-AreRowsBy tree docs entry v rows = (t : ResultTree) × IsResultOf docs entry v t × IsWithinLimits t × AreRowsOf rows (tree t)
+AreRowsBy tree docs entry v rows = (t : ResultTree) × IsResultOf docs entry v t × IsWithinLimits t
+    × AreRowsOf rows (tree t)
 
 module _ (docs : Documents) (n : ℕ) (v : Value) (there : is_place docs n ≡ true) (rows : RelativeRows) where
   pub all_there : walked.AreResultRows docs n v rows → AreRowsBy (λ t. t) docs (place_at docs n) v rows
@@ -26,7 +27,13 @@ module _ (docs : Documents) (n : ℕ) (v : Value) (there : is_place docs n ≡ t
   noted_there (t, within, are) = (t, result-there docs n v there t within.is, within.stands, are)
 
   -- what condensing keeps of them
-  pub kept_there : (left : RelativeRows) → ((t : ResultTree) → AreRowsOf rows t → AreRowsOf left (kept (pruned t))) → walked.AreNotedRows docs n v rows
+  pub kept_there : (left : RelativeRows) → ((t : ResultTree) → AreRowsOf rows t → AreRowsOf left (kept (pruned t)))
+      → walked.AreNotedRows docs n v rows
       → AreRowsBy (λ t. kept (pruned t)) docs (place_at docs n) v left
-  kept_there left keeps (t, within, are) =
-      (t, result-there docs n v there t within.is, within.stands, subst (AreRowsOf left) (same_kept t) (keeps (trimmed_tree t) are))
+  kept_there left keeps (t, within, are) = (
+    t,
+    result-there docs n v there t within.is,
+    within.stands,
+    subst (AreRowsOf left) (same_kept t)
+        (keeps (trimmed_tree t) are),
+  )

@@ -1,5 +1,6 @@
 -- A place that is looked up by its number.
-use Rattle.std.proofs.Common.{◌≡◌, ℕ, ◌+◌, ◌<◌, ◌≤◌, append_assoc, List, [], ◌∷◌, ◌++◌, length, get_or, slice_get, drop, Bool, true, Option, Some, None, option_map, refl, sym, ap, ◌∙◌, subst, arith}
+use Rattle.std.proofs.Common.{◌≡◌, ℕ, ◌+◌, ◌<◌, ◌≤◌, append_assoc, List, [], ◌∷◌, ◌++◌, length, get_or, slice_get, drop}
+use Rattle.std.proofs.Common.{Bool, true, Option, Some, None, option_map, refl, sym, ap, ◌∙◌, subst, arith}
 use Rattle.std.proofs.lemmas.Bool.{lt-ltb, ltb-true}
 use Rattle.std.proofs.lemmas.Option.{slice_get_within, get_or_from_slice_get, slice_get-get_or, unwrap_or-slice_get}
 use Rattle.std.proofs.lemmas.List.{append-nil, drop_all, drop_more}
@@ -32,7 +33,7 @@ stands_named docs n found (s, e, at) = at ∙ sym e
 some_is : {A : Type 0} (a b : A) → Some a ≡ Some b → a ≡ b
 some_is a b e = cc
 
--- the place of a number, as the walk tells it
+-- the place of a number, as the walk reports it
 pub site_there : (docs : Documents) (n : ℕ) → is_place docs n ≡ true → place_at docs n ≡ Some (numbered_site docs n)
 site_there docs n there =
     let within : n < length (sites docs) = ltb-true n (length (sites docs)) there in
@@ -40,47 +41,57 @@ site_there docs n there =
 
 -- ---- all places, by their numbers
 
-number_is : (docs : Documents) (items : List ℕ) (i p : ℕ) → items ≡ place_numbers docs → i < length items → p ≡ get_or items i p → (i < length (sites docs)) × (p ≡ i)
+number_is : (docs : Documents) (items : List ℕ) (i p : ℕ) → items ≡ place_numbers docs → i < length items
+    → p ≡ get_or items i p → (i < length (sites docs)) × (p ≡ i)
 number_is docs items i p is within at =
     let n = length (sites docs) in
     let fits : i < n = subst (λ m. i < m) (ap length is ∙ length-range_with_len 0 n) within in
     (fits, omega (arith, at, ap (λ l. get_or l i p) is, get_or-range_with_len 0 n i p fits))
 
-pub place_there : (docs : Documents) (items : List ℕ) (i p : ℕ) → items ≡ place_numbers docs → i < length items → p ≡ get_or items i p → is_place docs p ≡ true
+pub place_there : (docs : Documents) (items : List ℕ) (i p : ℕ) → items ≡ place_numbers docs → i < length items
+    → p ≡ get_or items i p → is_place docs p ≡ true
 place_there docs items i p is within at =
     let n = number_is docs items i p is within at in
     ap (is_place docs) n.1 ∙ lt-ltb i (length (sites docs)) n.0
 
-located : (o : Option Site) (location : List ℕ) → option_map (λ s. absolute_location s []) o ≡ Some location → (s : Site) × (o ≡ Some s) × (absolute_location s [] ≡ location)
+located : (o : Option Site) (location : List ℕ) → option_map (λ s. absolute_location s []) o ≡ Some location
+    → (s : Site) × (o ≡ Some s) × (absolute_location s [] ≡ location)
 located None location e = absurd (cc)
 located (Some s) location e = (s, refl, some_is (absolute_location s []) location e)
 
-one_line : (before location rest : List ℕ) → ((before ++ location) ++ 10 ∷ []) ++ rest ≡ before ++ ((location ++ 10 ∷ []) ++ rest)
+one_line : (before location rest : List ℕ)
+    → ((before ++ location) ++ 10 ∷ []) ++ rest ≡ before ++ ((location ++ 10 ∷ []) ++ rest)
 one_line before location rest =
-    append_assoc (before ++ location) (10 ∷ []) rest ∙ append_assoc before location (10 ∷ rest) ∙ ap (λ l. before ++ l) (sym (append_assoc location (10 ∷ []) rest))
+    append_assoc (before ++ location) (10 ∷ []) rest ∙ append_assoc before location (10 ∷ rest)
+    ∙ ap (λ l. before ++ l) (sym (append_assoc location (10 ∷ []) rest))
 
--- one place more was told
-pub told_more : (docs : Documents) (items : List ℕ) (i p : ℕ) (before location between after : List ℕ) → items ≡ place_numbers docs → i < length items → p ≡ get_or items i p
-    → option_map (λ s. absolute_location s []) (place_at docs p) ≡ Some location → between ≡ before ++ location → after ≡ between ++ 10 ∷ []
-    → before ++ lines_of (drop i (sites docs)) ≡ lines_of (sites docs) → after ++ lines_of (drop (i + 1) (sites docs)) ≡ lines_of (sites docs)
-told_more docs items i p before location between after is within at told grows ends whole =
+-- one place more was reported
+pub reported_more : (docs : Documents) (items : List ℕ) (i p : ℕ) (before location between after : List ℕ)
+    → items ≡ place_numbers docs → i < length items → p ≡ get_or items i p
+    → option_map (λ s. absolute_location s []) (place_at docs p) ≡ Some location → between ≡ before ++ location
+    → after ≡ between ++ 10 ∷ []
+    → before ++ lines_of (drop i (sites docs)) ≡ lines_of (sites docs)
+    → after ++ lines_of (drop (i + 1) (sites docs)) ≡ lines_of (sites docs)
+reported_more docs items i p before location between after is within at reported grows ends whole =
     let n = number_is docs items i p is within at in
-    let l = located (place_at docs p) location told in
+    let l = located (place_at docs p) location reported in
     let s = l.0 in
     let here : slice_get (sites docs) i ≡ Some s = ap (slice_get (sites docs)) (sym n.1) ∙ l.1 in
     let left : drop i (sites docs) ≡ s ∷ drop (i + 1) (sites docs) =
-    drop_more (sites docs) i s n.0 ∙ ap (λ x. x ∷ drop (i + 1) (sites docs)) (get_or_from_slice_get (sites docs) i s s here) in
+    drop_more (sites docs) i s n.0
+    ∙ ap (λ x. x ∷ drop (i + 1) (sites docs)) (get_or_from_slice_get (sites docs) i s s here) in
     let rest = lines_of (drop (i + 1) (sites docs)) in
     ap (λ t. t ++ rest) (ends ∙ ap (λ t. t ++ 10 ∷ []) grows) ∙ one_line before location rest
     ∙ ap (λ t. before ++ ((t ++ 10 ∷ []) ++ rest)) (sym l.2) ∙ ap (λ ss. before ++ lines_of ss) (sym left) ∙ whole
 
--- all were told
-pub told_all : (docs : Documents) (items : List ℕ) (i : ℕ) (told : List ℕ) → items ≡ place_numbers docs → length items ≤ i
-    → told ++ lines_of (drop i (sites docs)) ≡ lines_of (sites docs) → told ≡ lines_of (sites docs)
-told_all docs items i told is end whole =
+-- all were reported
+pub reported_all : (docs : Documents) (items : List ℕ) (i : ℕ) (reported : List ℕ)
+    → items ≡ place_numbers docs → length items ≤ i
+    → reported ++ lines_of (drop i (sites docs)) ≡ lines_of (sites docs) → reported ≡ lines_of (sites docs)
+reported_all docs items i reported is end whole =
     let n = length (sites docs) in
     let past : n ≤ i = subst (λ m. m ≤ i) (ap length is ∙ length-range_with_len 0 n) end in
-    sym (append-nil told) ∙ ap (λ ss. told ++ lines_of ss) (sym (drop_all i (sites docs) past)) ∙ whole
+    sym (append-nil reported) ∙ ap (λ ss. reported ++ lines_of ss) (sym (drop_all i (sites docs) past)) ∙ whole
 
 pub count_is : (docs : Documents) (items : List ℕ) → items ≡ place_numbers docs → length items ≡ length (sites docs)
 count_is docs items is = ap length is ∙ length-range_with_len 0 (length (sites docs))
@@ -93,13 +104,15 @@ module _ (docs : Documents) (n : ℕ) (v : Value) (there : is_place docs n ≡ t
 
   pub none-there : NoneStandsThere docs n v → NoResultStands docs (place_at docs n) v
   none-there none t r stands =
-      let is : r.place ≡ numbered_site docs n = some_is r.place (numbered_site docs n) (sym r.is_entry ∙ site_there docs n there) in
+      let is : r.place ≡ numbered_site docs n =
+      some_is r.place (numbered_site docs n) (sym r.is_entry ∙ site_there docs n there) in
       none t (subst (λ s. IsResult (schemas_of docs) [] s at_root v t) is r.is_result) stands
 
   -- its verdict alone
   pub judged-there : (valid : Bool) → IsVerdict docs n v valid → HasVerdict docs (place_at docs n) v valid
   judged-there valid h = (h.result, result-there h.result h.within.is, h.within.stands, sym h.verdict)
 
-  pub fault-there : (e : WalkFault) → OnTooLarge e (NoneStandsThere docs n v) → IsWalkFault docs (place_at docs n) v (walk_fault_of e)
+  pub fault-there : (e : WalkFault) → OnTooLarge e (NoneStandsThere docs n v)
+      → IsWalkFault docs (place_at docs n) v (walk_fault_of e)
   fault-there walk_fault.Memory h = tt
   fault-there walk_fault.TooLarge h = none-there h

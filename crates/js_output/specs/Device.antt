@@ -1,5 +1,6 @@
 -- A reader or a writer, with what is known of its calls.
-use Rattle.std.specs.Prelude.{◌≡◌, ℕ, ◌+◌, ◌-◌, ◌^◌, ◌≤◌, ◌⊎◌, min, Bool, true, false, List, ◌++◌, length, ⊤, refl, Option, Some, None, Result, Ok, Err}
+use Rattle.std.specs.Prelude.{◌≡◌, ℕ, ◌+◌, ◌-◌, ◌^◌, ◌≤◌, ◌⊎◌, min, Bool, true, false, List, ◌++◌}
+use Rattle.std.specs.Prelude.{length, ⊤, refl, Option, Some, None, Result, Ok, Err}
 use Rattle.std.specs.Coded.{Coded, code_by, coded×, coded_ℕ, coded_bool}
 use Rattle.std.specs.Io.KnownBytes.{Appends}
 use Rattle.js_doc.specs.BytesOut.{Progress}
@@ -19,7 +20,8 @@ abbrev pub tracked_code : {D : Type 0} → Coded D → Coded (Tracked D)
 tracked_code {D} d =
     code_by (D × (Bool × (ℕ × (ℕ × ℕ)))) (coded× d (coded× coded_bool (coded× coded_ℕ (coded× coded_ℕ coded_ℕ))))
     (λ t. (t.device, (t.failed, (t.calls, (t.flushes, t.last_flush)))))
-    (λ p. record { device = p.0; failed = p.1.0; calls = p.1.1.0; flushes = p.1.1.1.0; last_flush = p.1.1.1.1 }) (λ _. refl)
+    (λ p. record { device = p.0; failed = p.1.0; calls = p.1.1.0; flushes = p.1.1.1.0; last_flush = p.1.1.1.1 })
+    (λ _. refl)
 
 -- the most bytes that are read of an input
 abbrev pub input_limit : ℕ
@@ -38,14 +40,17 @@ AppendsBeginning old new bytes = (sent : List ℕ) × (unsent : List ℕ) × (by
 
 -- the text was written, in at most one call for each byte
 abbrev pub Sends : {D : Type 0} → (D → Option (List ℕ)) → Tracked D → Tracked D → List ℕ → Type 0
-Sends taken old new text = Appends (taken old.device) (taken new.device) text × (new.failed ≡ false) × (new.calls ≤ old.calls + length text)
+Sends taken old new text = Appends (taken old.device) (taken new.device) text × (new.failed ≡ false)
+    × (new.calls ≤ old.calls + length text)
 
 -- the sink has failed, and a beginning was written
 abbrev pub SendsBeginning : {D : Type 0} → (D → Option (List ℕ)) → Tracked D → Tracked D → List ℕ → Type 0
-SendsBeginning taken old new text = AppendsBeginning (taken old.device) (taken new.device) text × (new.failed ≡ true) × (new.calls ≤ old.calls + length text)
+SendsBeginning taken old new text = AppendsBeginning (taken old.device) (taken new.device) text × (new.failed ≡ true)
+    × (new.calls ≤ old.calls + length text)
 
 -- one of these, by what is returned
-abbrev pub SendsOrFails : {D T : Type 0} → (D → Option (List ℕ)) → Tracked D → Tracked D → List ℕ → Result T Fault → Type 0
+abbrev pub SendsOrFails : {D T : Type 0} → (D → Option (List ℕ)) → Tracked D → Tracked D → List ℕ
+    → Result T Fault → Type 0
 SendsOrFails taken old new text (Ok _) = Sends taken old new text
 SendsOrFails taken old new text (Err f) = (f ≡ fault.Write) × SendsBeginning taken old new text
 
@@ -57,7 +62,8 @@ Unflushed old new = (new.flushes ≡ old.flushes) × (new.last_flush ≡ old.las
 
 -- flushed once, as the last call; or a call had failed before, so that no flush was made
 abbrev pub FlushedOnce : {D : Type 0} → Tracked D → Tracked D → Type 0
-FlushedOnce old new = ((new.flushes ≡ min (old.flushes + 1) (2 ^ 64 - 1)) × (new.last_flush ≡ new.calls)) ⊎ ((new.failed ≡ true) × Unflushed old new)
+FlushedOnce old new = ((new.flushes ≡ min (old.flushes + 1) (2 ^ 64 - 1)) × (new.last_flush ≡ new.calls))
+    ⊎ ((new.failed ≡ true) × Unflushed old new)
 
 -- how far the bytes have come that were put into it piece by piece
 abbrev pub progress_of : {D : Type 0} → (D → Option (List ℕ)) → Tracked D → Progress

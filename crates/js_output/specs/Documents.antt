@@ -1,6 +1,7 @@
 -- Schema documents that are passed in, each with its URI (JSON Schema Core, section 9.1.1): how they are read, and
 -- what is refused of them, in order.
-use Rattle.std.specs.Prelude.{ℕ, ◌+◌, List, [], ◌∷◌, ◌++◌, length, Option, Some, None, is_none, option_and_then, option_to_list, Result, Ok, Err, not, true, nat_lt, nat_le, map, flat_map, if◌then◌else◌}
+use Rattle.std.specs.Prelude.{ℕ, ◌+◌, List, [], ◌∷◌, ◌++◌, length, Option, Some, None, is_none, option_and_then}
+use Rattle.std.specs.Prelude.{option_to_list, Result, Ok, Err, not, true, nat_lt, nat_le, map, flat_map, if◌then◌else◌}
 use Rattle.std.proofs.Common.{Bor}
 use Rattle.url.specs.Parts.{Parts}
 use Rattle.url.specs.Parser.{parse_url}
@@ -52,28 +53,28 @@ bundle_of documents = flat_map (λ d. option_to_list (taken d)) documents
 -- ---- what is refused of one, after a number of others
 
 abbrev pub refused : ℕ → RefusalKind → Fault
-refused held kind = fault.Refused (record { document = held; place = []; kind = kind })
+refused earlier kind = fault.Refused (record { document = earlier; place = []; kind = kind })
 
 abbrev pub text_causes : ℕ → Result Value ReadFault → Causes
-text_causes held (Ok v) = []
-text_causes held (Err e) = cause true (fault.Refused (refusal_of_read held e))
+text_causes earlier (Ok v) = []
+text_causes earlier (Err e) = cause true (fault.Refused (refusal_of_read earlier e))
 
 -- by its URI
 abbrev pub uri_causes : ℕ → List ℕ → Causes
-uri_causes held uri =
-    cause (nat_le most_documents held) (refused held kind.TooManyDocuments)
-    ++ (cause (nat_lt longest_uri (length uri)) (refused held kind.UriTooLong)
-    ++ cause (is_none (absolute_uri uri)) (refused held kind.BadUri))
+uri_causes earlier uri =
+    cause (nat_le most_documents earlier) (refused earlier kind.TooManyDocuments)
+    ++ (cause (nat_lt longest_uri (length uri)) (refused earlier kind.UriTooLong)
+    ++ cause (is_none (absolute_uri uri)) (refused earlier kind.BadUri))
 
 abbrev pub document_causes : ℕ → List ℕ × List ℕ → Causes
-document_causes held d = uri_causes held d.0 ++ text_causes held (reading d.1)
+document_causes earlier d = uri_causes earlier d.0 ++ text_causes earlier (reading d.1)
 
 -- ---- what is refused of all
 
 -- one after another
 abbrev pub adding_causes : ℕ → DocumentTexts → Causes
-adding_causes held [] = []
-adding_causes held (d ∷ ds) = document_causes held d ++ adding_causes (held + 1) ds
+adding_causes earlier [] = []
+adding_causes earlier (d ∷ ds) = document_causes earlier d ++ adding_causes (earlier + 1) ds
 
 -- of them whole: the refusals of a list of documents, of which a given one may be passed over
 abbrev pub cause_of : Candidate → Cause

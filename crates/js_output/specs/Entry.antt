@@ -1,5 +1,6 @@
 -- The schema that an instance is judged by (JSON Schema Core, section 9.2.1): what is refused of its URI, in order.
-use Rattle.std.specs.Prelude.{◌≡◌, ℕ, List, ◌++◌, length, Option, None, is_none, Ok, Err, Bool, true, false, not, nat_lt}
+use Rattle.std.specs.Prelude.{◌≡◌, ℕ, List, ◌++◌, length, Option, None, is_none, Ok}
+use Rattle.std.specs.Prelude.{Err, Bool, true, false, not, nat_lt}
 use Rattle.url.specs.Parts.{Parts}
 use Rattle.url.specs.Parser.{Parsed, parse_url}
 use Rattle.js_bundle.specs.declared.refusal.EntryFault.{EntryFault}

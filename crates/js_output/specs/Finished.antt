@@ -7,10 +7,11 @@ use Rattle.js_bundle.specs.Document as bundle
 use Rattle.js_bundle.specs.Refusals.{candidates}
 use Rattle.js_output.specs.Documents.{DocumentTexts}
 
--- all are held after these were added, one after another, to what was held
+-- `all` stand after these were added, one after another, behind those before
 abbrev pub AreAddedInTurn : bundle.Documents → DocumentTexts → bundle.Documents → Type 0
-AreAddedInTurn held [] all = all ≡ held
-AreAddedInTurn held (d ∷ ds) all = (more : bundle.Documents) × IsAdded held d.0 d.1 more × AreAddedInTurn more ds all
+AreAddedInTurn before [] all = all ≡ before
+AreAddedInTurn before (d ∷ ds) all = (more : bundle.Documents) × IsAdded before d.0 d.1 more
+    × AreAddedInTurn more ds all
 
 -- they were added to nothing, and finished
 pub record AreFinished (documents : DocumentTexts) (schemas : bundle.Documents) : Type 0 where

@@ -20,8 +20,8 @@ use Rattle.js_output.specs.Device.{Tracked, input_limit, Sends, SendsBeginning}
 use Rattle.js_output.specs.Documents.{DocumentTexts, bundle_of}
 use Rattle.js_output.specs.Entry.{entry_place}
 use Rattle.js_output.specs.Finished.{AreFinished}
-use Rattle.js_output.specs.Outcome.{beginning_causes, FinishedOutcome, Outcome, telling_output}
-use Rattle.js_output.specs.Telling.{Answers, Tells}
+use Rattle.js_output.specs.Outcome.{beginning_causes, FinishedOutcome, Outcome, output_report}
+use Rattle.js_output.specs.Report.{Answers, Reports}
 use Rattle.js_output.specs.Reading.{reading}
 use Rattle.js_output.specs.declared.fault.Fault.{Fault}
 use Rattle.js_output.specs.declared.fault.Fault.TheVariants as fault
@@ -60,31 +60,34 @@ IsStandardResult documents place v t = IsResult (schemas_of (bundle_of documents
 module _ {D : Type 0} (taken : D → Option (List ℕ)) (old new : Tracked D) where
   -- What is returned and written. A fault of the reader, of the writer, or for lack of memory can come; no other but
   -- `TooLarge`, where none of the causes that may be passed over is taken.
-  abbrev pub TellsResult : DocumentTexts → List ℕ → Format → Site → Value → Result Bool Fault → Type 0
-  TellsResult documents entry format place v (Ok valid) =
+  abbrev pub ReportsResult : DocumentTexts → List ℕ → Format → Site → Value → Result Bool Fault → Type 0
+  ReportsResult documents entry format place v (Ok valid) =
       (t : ResultTree) × IsStandardResult documents place v t × IsWithinLimits t × (valid ≡ t.root.valid)
       × ((shown : Value) × Shows format t shown × Sends taken old new (compact shown ++ 10 ∷ []))
-  TellsResult documents entry format place v (Err fault.Write) =
+  ReportsResult documents entry format place v (Err fault.Write) =
       (t : ResultTree) × IsStandardResult documents place v t × IsWithinLimits t
       × ((shown : Value) × Shows format t shown × SendsBeginning taken old new (compact shown ++ 10 ∷ []))
-  TellsResult documents entry format place v (Err fault.Memory) = ⊤
-  TellsResult documents entry format place v (Err fault.Read) = ⊤
-  TellsResult documents entry format place v (Err f) =
+  ReportsResult documents entry format place v (Err fault.Memory) = ⊤
+  ReportsResult documents entry format place v (Err fault.Read) = ⊤
+  ReportsResult documents entry format place v (Err f) =
       IsFirstFault (beginning_causes documents entry) f
       ⊎ ((f ≡ fault.TooLarge) × ((t : ResultTree) → IsStandardResult documents place v t → IsWithinLimits t → ⊥))
 
   abbrev pub Headline : Type 0
   Headline =
-      (documents : DocumentTexts) (entry instance : List ℕ) (format : Format) (place : Site) (v : Value) (answer : Result Bool Fault)
+      (documents : DocumentTexts) (entry instance : List ℕ) (format : Format) (place : Site) (v : Value)
+      (answer : Result Bool Fault)
       → IsAccepted documents entry instance place v
-      → Answers telling_output (Outcome documents entry format) (beginning_causes documents entry) (Some instance) taken old new answer
-      → TellsResult documents entry format place v answer
+      → Answers output_report (Outcome documents entry format) (beginning_causes documents entry)
+      (Some instance) taken old new answer
+      → ReportsResult documents entry format place v answer
 
   -- the same over schemas that are kept
   abbrev pub FinishedHeadline : Type 0
   FinishedHeadline =
-      (documents : DocumentTexts) (schemas : bundle.Documents) (entry instance : List ℕ) (format : Format) (place : Site) (v : Value) (answer : Result Bool Fault)
+      (documents : DocumentTexts) (schemas : bundle.Documents) (entry instance : List ℕ) (format : Format)
+      (place : Site) (v : Value) (answer : Result Bool Fault)
       → AreFinished documents schemas
       → IsAccepted documents entry instance place v
-      → Tells telling_output (FinishedOutcome schemas entry format instance) taken old new answer
-      → TellsResult documents entry format place v answer
+      → Reports output_report (FinishedOutcome schemas entry format instance) taken old new answer
+      → ReportsResult documents entry format place v answer

@@ -3,7 +3,7 @@ pub mod Input
 pub mod Line
 pub mod Reading
 pub mod Cause
-pub mod Telling
+pub mod Report
 pub mod Documents
 pub mod Entry
 pub mod Outcome

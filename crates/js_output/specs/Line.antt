@@ -46,7 +46,8 @@ wants_memory kind.Memory = true
 wants_memory _ = false
 
 abbrev pub refused_at_line : ℕ → Tokens → RefusalKind → List ℕ
-refused_at_line document place kind = codes "refused: document " ++ decimal document ++ codes " at " ++ place_text place ++ codes ": " ++ kind_name kind
+refused_at_line document place kind = codes "refused: document " ++ decimal document ++ codes " at " ++ place_text place
+    ++ codes ": " ++ kind_name kind
 
 abbrev pub refused_line : ℕ → Tokens → RefusalKind → List ℕ
 refused_line document place kind = if wants_memory kind then failed_memory else refused_at_line document place kind

@@ -1,6 +1,7 @@
 -- The outcome of a run: the first of its causes of a fault that applies; else the verdict of the standard's result,
 -- and the text of the form that was asked for.
-use Rattle.std.specs.Prelude.{◌≡◌, ◌≤◌, ℕ, List, [], ◌∷◌, ◌++◌, Option, Some, None, Result, Ok, Err, IfErr, IsErrOf, Bool, true, ◌==◌, ◌+◌, codes, take, drop, position, ⊤}
+use Rattle.std.specs.Prelude.{◌≡◌, ◌≤◌, ℕ, List, [], ◌∷◌, ◌++◌, Option, Some, None, Result, Ok, Err, IfErr}
+use Rattle.std.specs.Prelude.{IsErrOf, Bool, true, ◌==◌, ◌+◌, codes, take, drop, position, ⊤}
 use Rattle.js_doc.specs.Compact.{compact}
 use Rattle.js_doc.specs.Value.{Value}
 use Rattle.js_doc.specs.declared.reading.ReadFault.{ReadFault}
@@ -19,7 +20,7 @@ use Rattle.js_output.specs.Device.{Tracked, input_limit}
 use Rattle.js_output.specs.Documents.{DocumentTexts, documents_causes, bundle_of}
 use Rattle.js_output.specs.Entry.{entry_causes, entry_place}
 use Rattle.js_output.specs.Reading.{reading}
-use Rattle.js_output.specs.Telling.{Telling, After, OfInput}
+use Rattle.js_output.specs.Report.{Report, After, OfInput}
 use Rattle.js_output.specs.declared.fault.Fault.{Fault}
 use Rattle.js_output.specs.declared.fault.Fault.TheVariants as fault
 
@@ -85,7 +86,8 @@ module _ (documents : bundle.Documents) (entry : Option Site) (format : Format) 
 
 abbrev pub Outcome : DocumentTexts → List ℕ → Format → List ℕ → Result Output Fault → Type 0
 Outcome documents entry format instance =
-    After (beginning_causes documents entry) (InstanceOutcome (bundle_of documents) (entry_place (bundle_of documents) entry) format instance)
+    After (beginning_causes documents entry)
+    (InstanceOutcome (bundle_of documents) (entry_place (bundle_of documents) entry) format instance)
 
 -- over finished schemas: what comes of the entry, and then of the instance
 abbrev pub FinishedOutcome : bundle.Documents → List ℕ → Format → List ℕ → Result Output Fault → Type 0
@@ -120,8 +122,8 @@ PairOutcome bytes =
 -- ---- what is returned
 
 -- the verdict; the output's text is written
-abbrev pub telling_output : Telling Output Bool
-telling_output = record { answer = λ output. output.valid; text = λ output. output.text }
+abbrev pub output_report : Report Output Bool
+output_report = record { answer = λ output. output.valid; text = λ output. output.text }
 
 -- if the source has failed: its fault, unless another came before it was needed, or memory failed
 abbrev pub IsReadOrEarly : {A : Type 0} → Result A Fault → Type 0

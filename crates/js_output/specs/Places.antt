@@ -21,9 +21,9 @@ abbrev pub places_text : DocumentTexts → List ℕ
 places_text documents = lines_of (places_of documents)
 
 -- what is returned: their number, if nothing is refused. `Write` only if nothing comes before it
-abbrev pub TellsPlaces : DocumentTexts → Result ℕ Fault → Type 0
-TellsPlaces documents (Ok n) = MayGoOn (documents_causes documents) × (n ≡ length (places_of documents))
-TellsPlaces documents (Err fault.Memory) = ⊤
-TellsPlaces documents (Err fault.Read) = ⊥
-TellsPlaces documents (Err fault.Write) = MayGoOn (documents_causes documents)
-TellsPlaces documents (Err f) = IsFirstFault (documents_causes documents) f
+abbrev pub ReportsPlaces : DocumentTexts → Result ℕ Fault → Type 0
+ReportsPlaces documents (Ok n) = MayGoOn (documents_causes documents) × (n ≡ length (places_of documents))
+ReportsPlaces documents (Err fault.Memory) = ⊤
+ReportsPlaces documents (Err fault.Read) = ⊥
+ReportsPlaces documents (Err fault.Write) = MayGoOn (documents_causes documents)
+ReportsPlaces documents (Err f) = IsFirstFault (documents_causes documents) f

@@ -1,5 +1,6 @@
 -- What a text is read as: its value, or why it has none.
-use Rattle.std.specs.Prelude.{◌≡◌, ℕ, List, Option, Some, None, Result, Ok, Err, Bool, true, false, if◌then◌else◌, ⊤, refl}
+use Rattle.std.specs.Prelude.{◌≡◌, ℕ, List, Option, Some, None, Result, Ok, Err, Bool}
+use Rattle.std.specs.Prelude.{true, false, if◌then◌else◌, ⊤, refl}
 use Rattle.std.specs.Str.{is_utf8}
 use Rattle.std.proofs.Common.{ap}
 use Rattle.std.proofs.lemmas.Str.{is_utf8-from_IsUtf8, IsUtf8-from_is_utf8}
@@ -39,7 +40,8 @@ of_data bytes found (utf8, (d, read, finds)) =
 pub reading-ok : (bytes : List ℕ) (v : Value) → IsReadAs bytes (Ok v) → reading bytes ≡ Ok v
 reading-ok bytes v h = of_data bytes (Ok v) h
 
-not_json : (bytes : List ℕ) (utf8 : Bool) → is_utf8 bytes ≡ utf8 → IsNotJson bytes → (if utf8 then value_read (read_json bytes) else Err NotJson) ≡ Err NotJson
+not_json : (bytes : List ℕ) (utf8 : Bool) → is_utf8 bytes ≡ utf8 → IsNotJson bytes
+    → (if utf8 then value_read (read_json bytes) else Err NotJson) ≡ Err NotJson
 not_json bytes true e h = ap value_read (h (IsUtf8-from_is_utf8 bytes e))
 not_json bytes false e h = refl
 

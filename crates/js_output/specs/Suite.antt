@@ -1,17 +1,19 @@
 -- The outcome of a suite: what comes of each test of each group, in order, and the text that reports it.
-use Rattle.std.specs.Prelude.{◌≡◌, ℕ, ◌+◌, List, [], ◌∷◌, ◌++◌, length, Option, Some, None, option_to_list, Result, Ok, Err, Bool, not, codes, decimal, ⊤}
+use Rattle.std.specs.Prelude.{◌≡◌, ℕ, ◌+◌, List, [], ◌∷◌, ◌++◌, length, Option, Some, None}
+use Rattle.std.specs.Prelude.{option_to_list, Result, Ok, Err, Bool, not, codes, decimal, ⊤}
 use Rattle.js_doc.specs.Value.{Value}
 use Rattle.js_bundle.specs.Document as bundle
 use Rattle.js_bundle.specs.Resource.{Site}
 use Rattle.js_eval.specs.Result.{ResultTree, IsWithinLimits}
 use Rattle.js_output.specs.Cause.{Causes, MayGoOn, IsFirstFault}
 use Rattle.js_output.specs.Device.{Tracked, Sends, SendsBeginning}
-use Rattle.js_output.specs.Documents.{DocumentTexts, absolute_uri, document_under, bundle_of, uri_causes, adding_causes, bundle_causes, documents_causes}
+use Rattle.js_output.specs.Documents.{DocumentTexts, absolute_uri, document_under, bundle_of, uri_causes}
+use Rattle.js_output.specs.Documents.{adding_causes, bundle_causes, documents_causes}
 use Rattle.js_output.specs.Entry.{entry_causes, entry_place}
 use Rattle.js_output.specs.Outcome.{IsResultOf, NoResultStands}
 use Rattle.js_output.specs.SuiteLines.{counts_of, lines_text}
 use Rattle.js_output.specs.SuiteText.{SuiteTest, SuiteGroup, suite_reading}
-use Rattle.js_output.specs.Telling.{Telling, After, OfInput}
+use Rattle.js_output.specs.Report.{Report, After, OfInput}
 use Rattle.js_output.specs.declared.fault.Fault.{Fault}
 use Rattle.js_output.specs.declared.fault.Fault.TheVariants as fault
 use Rattle.js_output.specs.declared.fault.SuiteFault.{SuiteFault}
@@ -44,7 +46,8 @@ abbrev pub whole_causes : bundle.Documents → List ℕ → Causes
 whole_causes documents uri = bundle_causes documents ++ entry_causes documents uri
 
 abbrev pub causes_with : DocumentTexts → List ℕ → Value → Causes
-causes_with documents uri schema = adding_causes_with documents uri ++ whole_causes (documents_with documents uri schema) uri
+causes_with documents uri schema = adding_causes_with documents uri
+    ++ whole_causes (documents_with documents uri schema) uri
 
 abbrev pub group_causes : DocumentTexts → ℕ → Value → Causes
 group_causes documents g schema = causes_with documents (group_uri g) schema
@@ -53,13 +56,15 @@ group_causes documents g schema = causes_with documents (group_uri g) schema
 abbrev pub IsBasis : DocumentTexts → ℕ → Option Value → Option bundle.Documents → Type 0
 IsBasis documents g None basis = basis ≡ None
 IsBasis documents g (Some schema) None = (f : Fault) × IsFirstFault (group_causes documents g schema) f
-IsBasis documents g (Some schema) (Some all) = MayGoOn (group_causes documents g schema) × (all ≡ with_schema documents g schema)
+IsBasis documents g (Some schema) (Some all) = MayGoOn (group_causes documents g schema)
+    × (all ≡ with_schema documents g schema)
 
 -- ---- what comes of a test
 
 -- the verdict on v
 abbrev pub HasVerdict : bundle.Documents → Option Site → Value → Bool → Type 0
-HasVerdict documents entry v valid = (t : ResultTree) × IsResultOf documents entry v t × IsWithinLimits t × (t.root.valid ≡ valid)
+HasVerdict documents entry v valid = (t : ResultTree) × IsResultOf documents entry v t × IsWithinLimits t
+    × (t.root.valid ≡ valid)
 
 abbrev pub IsStatusOn : bundle.Documents → Option Site → Value → Bool → TestStatus → Type 0
 IsStatusOn documents entry v valid Pass = HasVerdict documents entry v valid
@@ -87,13 +92,15 @@ module _ (basis : Option bundle.Documents) (g : ℕ) where
   AreTestLines n (test ∷ tests) (line ∷ lines) = IsLine n test line × AreTestLines (n + 1) tests lines
 
 abbrev pub AreGroupLines : DocumentTexts → ℕ → SuiteGroup → List TestLine → Type 0
-AreGroupLines documents g group lines = (basis : Option bundle.Documents) × IsBasis documents g group.schema basis × AreTestLines basis g 0 group.tests lines
+AreGroupLines documents g group lines = (basis : Option bundle.Documents) × IsBasis documents g group.schema basis
+    × AreTestLines basis g 0 group.tests lines
 
 -- of groups, the first of which has the number g
 abbrev pub AreLines : DocumentTexts → ℕ → List SuiteGroup → List TestLine → Type 0
 AreLines documents g [] lines = lines ≡ []
 AreLines documents g (group ∷ groups) lines =
-    (these : List TestLine) × (later : List TestLine) × (lines ≡ these ++ later) × AreGroupLines documents g group these × AreLines documents (g + 1) groups later
+    (these : List TestLine) × (later : List TestLine) × (lines ≡ these ++ later) × AreGroupLines documents g group these
+    × AreLines documents (g + 1) groups later
 
 -- ---- the outcome
 
@@ -105,13 +112,14 @@ ReadLines documents (Err e) answer = answer ≡ Err (fault.Suite e)
 
 -- the documents alone come first
 abbrev pub SuiteOutcome : DocumentTexts → List ℕ → Result (List TestLine) Fault → Type 0
-SuiteOutcome documents bytes = After (documents_causes documents) (OfInput bytes (ReadLines documents (suite_reading bytes)))
+SuiteOutcome documents bytes =
+    After (documents_causes documents) (OfInput bytes (ReadLines documents (suite_reading bytes)))
 
 -- ---- what is returned
 
 -- the counts; the lines' text is written
-abbrev pub telling_lines : Telling (List TestLine) Counts
-telling_lines = record { answer = counts_of; text = lines_text }
+abbrev pub lines_report : Report (List TestLine) Counts
+lines_report = record { answer = counts_of; text = lines_text }
 
 -- ---- words for the parts
 
@@ -123,7 +131,8 @@ IsSuiteLate fault.Write = ⊤
 IsSuiteLate _ = ⊥
 
 -- these lines are reported, or why they aren't
-abbrev pub SendsLines : {D : Type 0} → (D → Option (List ℕ)) → Tracked D → Tracked D → List TestLine → Result Counts Fault → Type 0
+abbrev pub SendsLines : {D : Type 0} → (D → Option (List ℕ)) → Tracked D → Tracked D → List TestLine
+    → Result Counts Fault → Type 0
 SendsLines taken old new lines (Ok counts) = (counts_of lines ≡ counts) × Sends taken old new (lines_text lines)
 SendsLines taken old new lines (Err fault.Memory) = ⊤
 SendsLines taken old new lines (Err fault.Write) = SendsBeginning taken old new (lines_text lines)

@@ -16,7 +16,8 @@ status_word Skip = codes "skip"
 -- the status, the numbers of the group and of the test in it, and the description as JSON text
 abbrev pub line_text : TestLine → List ℕ
 line_text line =
-    status_word line.status ++ codes " " ++ decimal line.group ++ codes "." ++ decimal line.test ++ codes " " ++ quoted line.description ++ 10 ∷ []
+    status_word line.status ++ codes " " ++ decimal line.group ++ codes "." ++ decimal line.test ++ codes " "
+    ++ quoted line.description ++ 10 ∷ []
 
 -- ---- how many there are of each status
 
@@ -34,7 +35,8 @@ counts_of lines = record { passed = count_of Pass lines; failed = count_of Fail 
 
 abbrev pub counts_text : Counts → List ℕ
 counts_text counts =
-    codes "passed " ++ decimal counts.passed ++ codes ", failed " ++ decimal counts.failed ++ codes ", skipped " ++ decimal counts.skipped ++ 10 ∷ []
+    codes "passed " ++ decimal counts.passed ++ codes ", failed " ++ decimal counts.failed ++ codes ", skipped "
+    ++ decimal counts.skipped ++ 10 ∷ []
 
 -- ---- the whole
 

@@ -1,6 +1,7 @@
 -- What a suite's text is read as: groups, each with a schema and its tests; or else the first value that is missing
 -- or of the wrong kind: groups in order, the members of each ascending by name, its tests in order.
-use Rattle.std.specs.Prelude.{◌≡◌, ℕ, ◌+◌, List, [], ◌∷◌, map, Option, Some, None, option_map, option_and_then, is_some, Result, Ok, Err, Bool, if◌then◌else◌, codes, decimal, ⊤}
+use Rattle.std.specs.Prelude.{◌≡◌, ℕ, ◌+◌, List, [], ◌∷◌, map, Option, Some, None, option_map, option_and_then}
+use Rattle.std.specs.Prelude.{is_some, Result, Ok, Err, Bool, if◌then◌else◌, codes, decimal, ⊤}
 use Rattle.std.specs.Str.{is_utf8}
 use Rattle.serde_json.specs.Data as json
 use Rattle.serde_json.specs.Data.{Data}
@@ -62,7 +63,8 @@ whole_in d = found_value (value_in d)
 -- ---- a suite
 
 abbrev pub suite_test : Data → List ℕ → Bool → SuiteTest
-suite_test instance description valid = record { description = description; instance = whole_in instance; valid = valid }
+suite_test instance description valid =
+    record { description = description; instance = whole_in instance; valid = valid }
 
 -- of what is found of its parts, in order
 abbrev pub test_from : Bool → Found Data → Found (List ℕ) → Found Bool → Found SuiteTest
@@ -71,7 +73,8 @@ test_from object instance description valid =
 
 abbrev pub test_in : Data → Found SuiteTest
 test_in d =
-    test_from (is_json_object d) (member_in Some (codes "data") d) (member_in as_str (codes "description") d) (member_in as_bool (codes "valid") d)
+    test_from (is_json_object d) (member_in Some (codes "data") d) (member_in as_str (codes "description") d)
+    (member_in as_bool (codes "valid") d)
 
 abbrev pub suite_group : Data → List SuiteTest → SuiteGroup
 suite_group schema tests = record { schema = whole_in schema; tests = tests }
@@ -133,7 +136,8 @@ IsMissing name = IsMisfitAt (λ place. place ≡ name ∷ [])
 -- the new one is the old one, as seen from one level further up; no other fault comes of a part
 abbrev pub LiftsMisfit : List ℕ → Fault → Fault → Type 0
 LiftsMisfit token old fault.Memory = ⊤
-LiftsMisfit token old (fault.Suite (suite_fault.BadSuite place)) = (inner : Tokens) × (old ≡ fault.Suite (suite_fault.BadSuite inner)) × (place ≡ token ∷ inner)
+LiftsMisfit token old (fault.Suite (suite_fault.BadSuite place)) = (inner : Tokens)
+    × (old ≡ fault.Suite (suite_fault.BadSuite inner)) × (place ≡ token ∷ inner)
 LiftsMisfit token old new = new ≡ old
 
 -- the value found is kept, where its numbers are whole

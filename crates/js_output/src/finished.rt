@@ -2,8 +2,8 @@
 ghost use Rattle.std.specs.Prelude.{◌≡◌, ◌≢◌, true, IfErr};
 ghost use Rattle.js_bundle.specs.Schemas.{is_place, place_at};
 ghost use Rattle.js_output.specs.Device.{Unflushed};
-ghost use Rattle.js_output.specs.Outcome.{FinishedOutcome, InstanceOutcome, telling_output, IsInstanceFault};
-ghost use Rattle.js_output.specs.Telling.{Tells};
+ghost use Rattle.js_output.specs.Outcome.{FinishedOutcome, InstanceOutcome, output_report, IsInstanceFault};
+ghost use Rattle.js_output.specs.Report.{Reports};
 
 use crate::entry::entry_place;
 use crate::fault::Fault;
@@ -37,7 +37,7 @@ pub fn run_finished<W: Write>(
     out: &mut Sink<W>,
 ) -> Result<bool, Fault>
     // The entry and the instance have this outcome over these schemas, and its text was written.
-    ensures answer { Tells telling_output
+    ensures answer { Reports output_report
         (FinishedOutcome schemas.now entry.now format instance.now) W.contents
         out.old out.new result }
 
@@ -67,7 +67,7 @@ pub fn judge<W: Write>(
     requires { is_place schemas.now place ≡ true }
 
     // The instance has this outcome at the place, and its text was written.
-    ensures answer { Tells telling_output
+    ensures answer { Reports output_report
         (InstanceOutcome schemas.now (place_at schemas.now place) format instance.now) W.contents
         out.old out.new result }
     ensures faults { IfErr result IsInstanceFault }

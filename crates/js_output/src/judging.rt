@@ -3,8 +3,8 @@ ghost use Rattle.std.specs.Prelude.{◌≡◌, ◌≢◌, true, IfErr, IfOk};
 ghost use Rattle.js_doc.specs.Seen.{value_of};
 ghost use Rattle.js_bundle.specs.Schemas.{is_place, place_at};
 ghost use Rattle.js_output.specs.Device.{Unflushed};
-ghost use Rattle.js_output.specs.Outcome.{ValueOutcome, TextOutcome, telling_output, IsLateOrMemory};
-ghost use Rattle.js_output.specs.Telling.{Tells};
+ghost use Rattle.js_output.specs.Outcome.{ValueOutcome, TextOutcome, output_report, IsLateOrMemory};
+ghost use Rattle.js_output.specs.Report.{Reports};
 
 use crate::fault::Fault;
 use crate::prepared::Prepared;
@@ -28,7 +28,7 @@ pub(crate) fn judge_text<W: Write>(
     out: &mut Sink<W>,
 ) -> Result<bool, Fault>
     requires { is_place schemas.now place ≡ true }
-    ensures answer { Tells telling_output (TextOutcome schemas.now
+    ensures answer { Reports output_report (TextOutcome schemas.now
         (place_at schemas.now place) format bytes.now)
         W.contents out.old out.new result }
     ensures late { IfErr result IsLateOrMemory }
@@ -53,7 +53,7 @@ fn judge_value<W: Write>(
     out: &mut Sink<W>,
 ) -> Result<bool, Fault>
     requires { is_place schemas.now place ≡ true }
-    ensures answer { Tells telling_output (ValueOutcome schemas.now
+    ensures answer { Reports output_report (ValueOutcome schemas.now
         (place_at schemas.now place) (value_of instance.now) format)
         W.contents out.old out.new result }
     ensures late { IfErr result IsLateOrMemory }

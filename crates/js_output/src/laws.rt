@@ -7,7 +7,7 @@ ghost use Rattle.js_output.specs.Documents.{DocumentTexts, bundle_of, documents_
 ghost use Rattle.js_output.specs.Finished.{AreFinished};
 ghost use Rattle.js_output.specs.Headline.{FinishedHeadline, Headline};
 ghost use Rattle.js_output.specs.Outcome.{FinishedOutcome, Outcome, Output};
-ghost use Rattle.js_output.specs.Telling.{After};
+ghost use Rattle.js_output.specs.Report.{After};
 ghost use Rattle.js_output.specs.declared.fault.Fault.{Fault};
 
 /// What the clause `answer` of [`crate::run`] says, in the standard's terms (JSON Schema Core,

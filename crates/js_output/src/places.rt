@@ -6,7 +6,7 @@ ghost use Rattle.js_output.specs.Cause.{MayGoOn, FailsBy};
 ghost use Rattle.js_output.specs.Device.{AppendsBeginning, Unflushed};
 ghost use Rattle.js_output.specs.Documents.{documents_of, documents_causes};
 ghost use Rattle.js_output.specs.Outcome.{IsEarlyOrMemory};
-ghost use Rattle.js_output.specs.Places.{lines_of, places_of, places_text, TellsPlaces};
+ghost use Rattle.js_output.specs.Places.{lines_of, places_of, places_text, ReportsPlaces};
 
 use crate::documents::finished;
 use crate::fault::Fault;
@@ -29,7 +29,7 @@ pub fn run_places<W: Write>(
     docs: &[(&str, &[u8])],
     out: &mut Sink<W>,
 ) -> Result<u64, Fault>
-    ensures answer { TellsPlaces (documents_of docs.now) result }
+    ensures answer { ReportsPlaces (documents_of docs.now) result }
 
     // The whole text is written, and nothing else.
     ensures text { OnOk result (Appends (W.contents out.old.device)
@@ -45,9 +45,9 @@ pub fn run_places<W: Write>(
     ensures unflushed { Unflushed out.old out.new }
     ensures sink_stays { out.old.failed ≡ true → out.new ≡ out.old }
 {
-    let told = told_places(alloc, docs)?;
-    out.write_all(told.text.as_bytes())?;
-    Ok(told.count)
+    let report = places_report(alloc, docs)?;
+    out.write_all(report.text.as_bytes())?;
+    Ok(report.count)
 }
 
 /// The absolute location of each place of finished schemas and a line feed, in scan order: the text
@@ -59,17 +59,17 @@ pub fn list_places(alloc: Global, schemas: &Schemas) -> Result<String, Fault>
     ensures text { IfOk result (λ text. string_bytes text ≡ lines_of (sites schemas.now)) }
     ensures memory { IfErr result (λ e. e ≡ Fault.Memory) }
 {
-    Ok(told_of(alloc, schemas)?.text)
+    Ok(report_of_places(alloc, schemas)?.text)
 }
 
 // The list of places, and how many they are.
 #[derive(Drop)]
-struct Told {
+struct PlacesReport {
     text: String,
     count: u64,
 }
 
-fn told_places(alloc: Global, docs: &[(&str, &[u8])]) -> Result<Told, Fault>
+fn places_report(alloc: Global, docs: &[(&str, &[u8])]) -> Result<PlacesReport, Fault>
     ensures text { IfOk result (λ t.
         string_bytes t.text ≡ places_text (documents_of docs.now)) }
     ensures count { IfOk result (λ t. t.count ≡ length (places_of (documents_of docs.now))) }
@@ -78,10 +78,10 @@ fn told_places(alloc: Global, docs: &[(&str, &[u8])]) -> Result<Told, Fault>
     ensures early { IfErr result IsEarlyOrMemory }
 {
     let schemas = finished(alloc, docs)?;
-    told_of(alloc, &schemas)
+    report_of_places(alloc, &schemas)
 }
 
-fn told_of(alloc: Global, schemas: &Schemas) -> Result<Told, Fault>
+fn report_of_places(alloc: Global, schemas: &Schemas) -> Result<PlacesReport, Fault>
     ensures text { IfOk result (λ t. string_bytes t.text ≡ lines_of (sites schemas.now)) }
     ensures count { IfOk result (λ t. t.count ≡ length (sites schemas.now)) }
     ensures memory { IfErr result (λ e. e ≡ Fault.Memory) }
@@ -93,7 +93,7 @@ fn told_of(alloc: Global, schemas: &Schemas) -> Result<Told, Fault>
         text.push_str(location.as_str())?;
         text.push('\n')?;
     }
-    Ok(Told {
+    Ok(PlacesReport {
         text,
         count: places.len() as u64,
     })

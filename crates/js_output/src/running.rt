@@ -3,9 +3,9 @@ ghost use Rattle.std.specs.Prelude.{◌≡◌, ◌≢◌, true, IfErr};
 ghost use Rattle.js_output.specs.Device.{Unflushed};
 ghost use Rattle.js_output.specs.Documents.{documents_of};
 ghost use Rattle.js_output.specs.Entry.{entry_causes};
-ghost use Rattle.js_output.specs.Outcome.{beginning_causes, Outcome, FinishedOutcome, telling_output};
+ghost use Rattle.js_output.specs.Outcome.{beginning_causes, Outcome, FinishedOutcome, output_report};
 ghost use Rattle.js_output.specs.Outcome.{UsesSource};
-ghost use Rattle.js_output.specs.Telling.{Answers};
+ghost use Rattle.js_output.specs.Report.{Answers};
 
 use crate::documents::finished;
 use crate::entry::entry_place;
@@ -39,7 +39,7 @@ pub fn run<R: Read, W: Write>(
     out: &mut Sink<W>,
 ) -> Result<bool, Fault>
     // The instance's bytes have this outcome, and its text was written.
-    ensures answer { Answers telling_output (Outcome (documents_of docs.now) entry.now format)
+    ensures answer { Answers output_report (Outcome (documents_of docs.now) entry.now format)
         (beginning_causes (documents_of docs.now) entry.now)
         (R.remaining instance.old.device) W.contents out.old out.new result }
 
@@ -64,7 +64,7 @@ fn run_read<R: Read, W: Write>(
     format: Format,
     out: &mut Sink<W>,
 ) -> Result<bool, Fault>
-    ensures answer { Answers telling_output (FinishedOutcome schemas.now entry.now format)
+    ensures answer { Answers output_report (FinishedOutcome schemas.now entry.now format)
         (entry_causes schemas.now entry.now)
         (R.remaining instance.old.device) W.contents out.old out.new result }
     ensures source { UsesSource instance.old instance.new result }

@@ -3,9 +3,9 @@ ghost use Rattle.std.specs.Prelude.{◌≡◌, ◌≢◌, true, IfErr};
 ghost use Rattle.js_output.specs.Device.{Unflushed};
 ghost use Rattle.js_output.specs.Documents.{documents_of, documents_causes};
 ghost use Rattle.js_output.specs.Outcome.{UsesSource};
-ghost use Rattle.js_output.specs.Suite.{ReadLines, SuiteOutcome, telling_lines, SendsLines, IsSuiteLate};
+ghost use Rattle.js_output.specs.Suite.{ReadLines, SuiteOutcome, lines_report, SendsLines, IsSuiteLate};
 ghost use Rattle.js_output.specs.SuiteText.{suite_reading};
-ghost use Rattle.js_output.specs.Telling.{Answers, Tells};
+ghost use Rattle.js_output.specs.Report.{Answers, Reports};
 
 use crate::documents::finished;
 use crate::fault::Fault;
@@ -43,7 +43,7 @@ pub fn run_suite<R: Read, W: Write>(
     out: &mut Sink<W>,
 ) -> Result<Counts, Fault>
     // The suite's bytes have these lines, and their text was written.
-    ensures answer { Answers telling_lines (SuiteOutcome (documents_of docs.now))
+    ensures answer { Answers lines_report (SuiteOutcome (documents_of docs.now))
         (documents_causes (documents_of docs.now)) (R.remaining suite.old.device)
         W.contents out.old out.new result }
 
@@ -67,7 +67,7 @@ fn write_suite<W: Write>(
     bytes: &[u8],
     out: &mut Sink<W>,
 ) -> Result<Counts, Fault>
-    ensures answer { Tells telling_lines
+    ensures answer { Reports lines_report
         (ReadLines (documents_of docs.now) (suite_reading bytes.now)) W.contents
         out.old out.new result }
     ensures late { IfErr result IsSuiteLate }

@@ -1,5 +1,6 @@
 -- How the code finds places: by their numbers in the list.
-use Rattle.std.specs.Prelude.{ℕ, List, [], ◌∷◌, Bool, not, ◌||◌, is_some, Option, Some, None, option_and_then, slice_get}
+use Rattle.std.specs.Prelude.{ℕ, List, [], ◌∷◌, Bool, not, ◌||◌, is_some, Option, Some}
+use Rattle.std.specs.Prelude.{None, option_and_then, slice_get}
 use Rattle.std.specs.Borrow.{Bor}
 use Rattle.std.specs.List.{position_from}
 use Rattle.url.specs.Parts.{Parts}

@@ -5,7 +5,15 @@ use Rattle.js_doc.specs.Members.{name_cmp}
 use Rattle.js_doc.specs.Parts.{members_of}
 use Rattle.js_assert.specs.Keyword.{keyword_named}
 use Rattle.js_places.specs.declared.keyword_name.KeywordName.{KeywordName}
-use Rattle.js_places.specs.declared.keyword_name.KeywordName.TheVariants.{Ref, DynamicRef, AllOf, AnyOf, OneOf, Not, If, Then, Else, DependentSchemas, PrefixItems, Items, Contains, Properties, PatternProperties, AdditionalProperties, PropertyNames, UnevaluatedItems, UnevaluatedProperties, AssertionUpToIf, AssertionBehindIf, Schema, Id, Anchor, DynamicAnchor, Vocabulary, Comment, Defs, Definitions, OtherUpToIf, OtherBehindIf}
+use Rattle.js_places.specs.declared.keyword_name.KeywordName.TheVariants.{Ref, DynamicRef, AllOf, AnyOf, OneOf, Not, If}
+use Rattle.js_places.specs.declared.keyword_name.KeywordName.TheVariants.{Then, Else, DependentSchemas, PrefixItems}
+use Rattle.js_places.specs.declared.keyword_name.KeywordName.TheVariants.{Items, Contains, Properties}
+use Rattle.js_places.specs.declared.keyword_name.KeywordName.TheVariants.{PatternProperties, AdditionalProperties}
+use Rattle.js_places.specs.declared.keyword_name.KeywordName.TheVariants.{PropertyNames, UnevaluatedItems}
+use Rattle.js_places.specs.declared.keyword_name.KeywordName.TheVariants.{UnevaluatedProperties, AssertionUpToIf}
+use Rattle.js_places.specs.declared.keyword_name.KeywordName.TheVariants.{AssertionBehindIf, Schema, Id, Anchor}
+use Rattle.js_places.specs.declared.keyword_name.KeywordName.TheVariants.{DynamicAnchor, Vocabulary, Comment, Defs}
+use Rattle.js_places.specs.declared.keyword_name.KeywordName.TheVariants.{Definitions, OtherUpToIf, OtherBehindIf}
 use Rattle.js_places.specs.Keyword.{Text}
 use Rattle.js_places.specs.Resource.{Site}
 
@@ -17,8 +25,9 @@ TableOfNames = List (Text × KeywordName)
 abbrev pub applying : TableOfNames
 applying =
     (codes "$ref", Ref) ∷ (codes "$dynamicRef", DynamicRef)
-    ∷ (codes "allOf", AllOf) ∷ (codes "anyOf", AnyOf) ∷ (codes "oneOf", OneOf) ∷ (codes "not", Not)
-    ∷ (codes "if", If) ∷ (codes "then", Then) ∷ (codes "else", Else) ∷ (codes "dependentSchemas", DependentSchemas)
+    ∷ (codes "allOf", AllOf) ∷ (codes "anyOf", AnyOf) ∷ (codes "oneOf", OneOf)
+    ∷ (codes "not", Not) ∷ (codes "if", If) ∷ (codes "then", Then) ∷ (codes "else", Else)
+    ∷ (codes "dependentSchemas", DependentSchemas)
     ∷ (codes "prefixItems", PrefixItems) ∷ (codes "items", Items) ∷ (codes "contains", Contains)
     ∷ (codes "properties", Properties) ∷ (codes "patternProperties", PatternProperties)
     ∷ (codes "additionalProperties", AdditionalProperties) ∷ (codes "propertyNames", PropertyNames)
@@ -28,7 +37,8 @@ applying =
 abbrev pub identifying : TableOfNames
 identifying =
     (codes "$schema", Schema) ∷ (codes "$id", Id) ∷ (codes "$anchor", Anchor) ∷ (codes "$dynamicAnchor", DynamicAnchor)
-    ∷ (codes "$vocabulary", Vocabulary) ∷ (codes "$comment", Comment) ∷ (codes "$defs", Defs) ∷ (codes "definitions", Definitions) ∷ []
+    ∷ (codes "$vocabulary", Vocabulary) ∷ (codes "$comment", Comment) ∷ (codes "$defs", Defs)
+    ∷ (codes "definitions", Definitions) ∷ []
 
 -- what the row with the name has, if there is one
 abbrev pub found_in : TableOfNames → Text → Option KeywordName

@@ -1,6 +1,7 @@
 -- Which place a URI names (JSON Schema Core, sections 8.2.1, 8.2.2 and 9.2.1): the URI without its fragment is that of
 -- a resource, and the fragment is a pointer from the resource's root, or a name that a place of the resource makes.
-use Rattle.std.specs.Prelude.{ℕ, List, [], ◌∷◌, ◌++◌, Bool, true, false, ◌&&◌, ◌||◌, ◌==◌, nat_le, not, Option, is_some, codes, bytes_eq, find, if◌then◌else◌}
+use Rattle.std.specs.Prelude.{ℕ, List, [], ◌∷◌, ◌++◌, Bool, true, false, ◌&&◌, ◌||◌, ◌==◌, nat_le, not}
+use Rattle.std.specs.Prelude.{Option, is_some, codes, bytes_eq, find, if◌then◌else◌}
 use Rattle.std.specs.List.{list_any, list_all}
 use Rattle.std.specs.Option.{option_map_or}
 use Rattle.std.specs.Str.{is_utf8}
@@ -50,7 +51,8 @@ makes keyword name place = option_map_or (bytes_eq name) (text_argument keyword 
 
 -- the fragment is a pointer from the resource's root; it may cross into a resource within
 abbrev pub by_pointer : Site → Text → Site → Bool
-by_pointer root f = option_map_or (λ tokens. stands_at root.document (root.pointer ++ tokens)) (pointer_of f) (λ _. false)
+by_pointer root f = option_map_or (λ tokens. stands_at root.document (root.pointer ++ tokens))
+    (pointer_of f) (λ _. false)
 
 abbrev pub by_anchor : Site → Text → Site → Bool
 by_anchor root f place = belongs_to root.document root.pointer place && makes (codes "$anchor") f place
@@ -68,7 +70,8 @@ abbrev pub is_read : Text → Bool
 is_read f = is_utf8 f && (not (is_pointer f) || is_some (pointer_of f))
 
 abbrev pub is_named_by : Site → Text → Site → Bool
-is_named_by root f = if is_pointer f then by_pointer root f else (λ place. by_anchor root f place || by_dynamic_anchor root f place)
+is_named_by root f = if is_pointer f then by_pointer root f else
+    (λ place. by_anchor root f place || by_dynamic_anchor root f place)
 
 -- ---- the relation
 

@@ -1,6 +1,7 @@
 -- Where schemas stand: the places of a document (JSON Schema Core, sections 4.3.5, 8.2.4, 10 and 11).
 -- A document's root is a place, and so is each schema that a keyword of a place holds; nothing else is one.
-use Rattle.std.specs.Prelude.{◌≡◌, ℕ, suc, List, [], ◌∷◌, ◌++◌, Some, decimal, codes, bytes_eq, slice_get, if◌then◌else◌}
+use Rattle.std.specs.Prelude.{◌≡◌, ℕ, suc, List, [], ◌∷◌, ◌++◌, Some, decimal, codes}
+use Rattle.std.specs.Prelude.{bytes_eq, slice_get, if◌then◌else◌}
 use Rattle.std.specs.List.{list_any, IsAmong}
 use Rattle.url.specs.Parts.{Parts}
 use Rattle.js_doc.specs.Pointer.{Tokens}
@@ -13,10 +14,12 @@ use Rattle.js_places.specs.Keyword.{Text}
 
 -- ---- which keywords hold schemas
 
--- the argument is a schema (sections 10.2.1.4, 10.2.2.1 to 10.2.2.3, 10.3.1.2, 10.3.1.3, 10.3.2.3, 10.3.2.4, 11.2, 11.3)
+-- the argument is a schema (sections 10.2.1.4, 10.2.2.1 to 10.2.2.3, 10.3.1.2, 10.3.1.3, 10.3.2.3, 10.3.2.4, 11.2,
+-- 11.3)
 abbrev pub one_schema : List Text
 one_schema =
-    codes "not" ∷ codes "if" ∷ codes "then" ∷ codes "else" ∷ codes "items" ∷ codes "contains" ∷ codes "additionalProperties" ∷ codes "propertyNames"
+    codes "not" ∷ codes "if" ∷ codes "then" ∷ codes "else" ∷ codes "items" ∷ codes "contains"
+    ∷ codes "additionalProperties" ∷ codes "propertyNames"
     ∷ codes "unevaluatedItems" ∷ codes "unevaluatedProperties" ∷ []
 
 -- its items are schemas (sections 10.2.1.1 to 10.2.1.3, 10.3.1.1)
@@ -25,7 +28,8 @@ list_of_schemas = codes "allOf" ∷ codes "anyOf" ∷ codes "oneOf" ∷ codes "p
 
 -- its members are schemas (sections 8.2.4, 10.2.2.4, 10.3.2.1, 10.3.2.2; `definitions` is taken as `$defs`)
 abbrev pub object_of_schemas : List Text
-object_of_schemas = codes "$defs" ∷ codes "definitions" ∷ codes "properties" ∷ codes "patternProperties" ∷ codes "dependentSchemas" ∷ []
+object_of_schemas = codes "$defs" ∷ codes "definitions" ∷ codes "properties" ∷ codes "patternProperties"
+    ∷ codes "dependentSchemas" ∷ []
 
 unfoldable pub holding : Text → Holding
 holding keyword =
@@ -49,9 +53,11 @@ pub data IsPlace (root : Value) : Tokens → Value → Type 0 where
   in_keyword : (p : Tokens) (v : Value) (k : Text) (u : Value) (q : Tokens)
       → IsPlace root p v → holding k ≡ One → IsAmong (members_of v) (k, u) → q ≡ p ++ k ∷ [] → IsPlace root q u
   in_list : (p : Tokens) (v : Value) (k : Text) (l : Value) (i : ℕ) (u : Value) (q : Tokens)
-      → IsPlace root p v → holding k ≡ Listed → IsAmong (members_of v) (k, l) → slice_get (items_in l) i ≡ Some u → q ≡ p ++ k ∷ decimal i ∷ [] → IsPlace root q u
+      → IsPlace root p v → holding k ≡ Listed → IsAmong (members_of v) (k, l) → slice_get (items_in l) i ≡ Some u
+      → q ≡ p ++ k ∷ decimal i ∷ [] → IsPlace root q u
   in_object : (p : Tokens) (v : Value) (k : Text) (l : Value) (n : Text) (u : Value) (q : Tokens)
-      → IsPlace root p v → holding k ≡ Named → IsAmong (members_of v) (k, l) → IsAmong (members_of l) (n, u) → q ≡ p ++ k ∷ n ∷ [] → IsPlace root q u
+      → IsPlace root p v → holding k ≡ Named → IsAmong (members_of v) (k, l) → IsAmong (members_of l) (n, u)
+      → q ≡ p ++ k ∷ n ∷ [] → IsPlace root q u
 
 -- ---- the places in scan order
 
@@ -80,12 +86,14 @@ module _ (number : ℕ) (uri : Parts) where
     places_at above p (object ms) =
         record { document = number; uri = uri; above = above; spot = record { pointer = p; schema = object ms } }
         ∷ places_of_keywords (above ++ record { pointer = p; schema = object ms } ∷ []) p ms
-    places_at above p v = record { document = number; uri = uri; above = above; spot = record { pointer = p; schema = v } } ∷ []
+    places_at above p v = record
+        { document = number; uri = uri; above = above; spot = record { pointer = p; schema = v } } ∷ []
 
     pub places_of_keywords : List Located → Tokens → Members → List SchemaPlace
     places_of_keywords above p no_members = []
     places_of_keywords above p (member k v ms) =
-        places_held (holding k) (places_at above (p ++ k ∷ []) v) (places_in_list above (p ++ k ∷ []) v) (places_in_object above (p ++ k ∷ []) v)
+        places_held (holding k) (places_at above (p ++ k ∷ []) v) (places_in_list above (p ++ k ∷ []) v)
+        (places_in_object above (p ++ k ∷ []) v)
         ++ places_of_keywords above p ms
 
     pub places_in_list : List Located → Tokens → Value → List SchemaPlace
@@ -94,7 +102,8 @@ module _ (number : ℕ) (uri : Parts) where
 
     pub places_of_items : List Located → Tokens → ℕ → Items → List SchemaPlace
     places_of_items above p i no_items = []
-    places_of_items above p i (item v vs) = places_at above (p ++ decimal i ∷ []) v ++ places_of_items above p (suc i) vs
+    places_of_items above p i (item v vs) = places_at above (p ++ decimal i ∷ []) v
+        ++ places_of_items above p (suc i) vs
 
     pub places_in_object : List Located → Tokens → Value → List SchemaPlace
     places_in_object above p (object ms) = places_of_members above p ms

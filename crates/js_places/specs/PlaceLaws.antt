@@ -31,14 +31,16 @@ ListsThePlaces = (number : ℕ) (uri : Parts) (root : Value) → IsListOf root (
 -- ---- each once, in a value as it is read: the names of each object ascend, and no list has 2^64 items
 
 abbrev pub ListsEachOnce : Type 0
-ListsEachOnce = (number : ℕ) (uri : Parts) (root : Value) → NamesAscend root → IsShort root → AreApart (places_at number uri [] [] root)
+ListsEachOnce = (number : ℕ) (uri : Parts) (root : Value) → NamesAscend root → IsShort root
+    → AreApart (places_at number uri [] [] root)
 
 -- ---- over a whole bundle
 
 -- the place is one of the document that has its number
 abbrev pub IsPlaceOf : Documents → SchemaPlace → Type 0
 IsPlaceOf documents t =
-    (d : Document) × (slice_get documents t.document ≡ Some d) × (t.uri ≡ d.uri) × IsPlace d.root t.spot.pointer t.spot.schema
+    (d : Document) × (slice_get documents t.document ≡ Some d) × (t.uri ≡ d.uri)
+    × IsPlace d.root t.spot.pointer t.spot.schema
 
 -- the list has a place of the document with this number at the pointer, with this schema
 abbrev pub ListsIn : ℕ → Tokens → Value → List SchemaPlace → Type 0
@@ -55,7 +57,8 @@ AreDistinct (t ∷ ts) = AllByRecursion (λ s. Differ t s) ts × AreDistinct ts
 
 pub record ListsAll (documents : Documents) : Type 0 where
   pub sound : AllByRecursion (IsPlaceOf documents) (all_places documents)
-  pub complete : (n : ℕ) (d : Document) (p : Tokens) (v : Value) → slice_get documents n ≡ Some d → IsPlace d.root p v → ListsIn n p v (all_places documents)
+  pub complete : (n : ℕ) (d : Document) (p : Tokens) (v : Value) → slice_get documents n ≡ Some d → IsPlace d.root p v
+      → ListsIn n p v (all_places documents)
 
 abbrev pub ListsTheirPlaces : Type 0
 ListsTheirPlaces = (documents : Documents) → ListsAll documents

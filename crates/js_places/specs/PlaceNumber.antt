@@ -1,4 +1,4 @@
--- Places told by their numbers in scan order.
+-- Places recorded by their numbers in scan order.
 use Rattle.std.specs.Prelude.{ℕ, List, [], ◌∷◌, ◌++◌, Bool, Option, slice_get, nat_lt, option_to_list, length}
 use Rattle.js_places.specs.Document.{Documents}
 use Rattle.js_places.specs.Resource.{Site, sites}

@@ -1,13 +1,14 @@
 -- Resources and their base URIs (JSON Schema Core, sections 4.3.5, 8.2.1 and 9.1.1; RFC 3986, section 5.1).
--- A document is handed in under a URI, the base of its root. An `$id` begins a resource of its own: it is joined
+-- A document is passed in under a URI, the base of its root. An `$id` begins a resource of its own: it is joined
 -- with the base above it, and what it gives, without its fragment, is the base from there on down.
-use Rattle.std.specs.Prelude.{ℕ, List, [], Bool, Option, Some, None, is_some, length, nat_lt, map, option_map, option_and_then, codes, if◌then◌else◌}
+use Rattle.std.specs.Prelude.{ℕ, List, [], Bool, Option, Some, None, is_some, length, nat_lt, map}
+use Rattle.std.specs.Prelude.{option_map, option_and_then, codes, if◌then◌else◌}
 use Rattle.std.specs.List.{fold}
 use Rattle.url.specs.Parts.{Parts}
 use Rattle.url.specs.Parser.{parse_url}
 use Rattle.js_doc.specs.Pointer.{Tokens}
 use Rattle.js_doc.specs.Value.{Value}
-use Rattle.js_places.specs.declared.scan.scope.Scope.{Scope}
+use Rattle.js_places.specs.declared.scan.base_scope.BaseScope.{BaseScope}
 use Rattle.js_places.specs.Keyword.{Text, argument, as_text, has_argument}
 use Rattle.js_places.specs.Document.{Documents}
 use Rattle.js_places.specs.Place.{SchemaPlace, Located, all_places}
@@ -25,22 +26,22 @@ identified_by base id = option_map without_fragment (option_and_then (joined bas
 abbrev pub identified : Parts → Value → Option Parts
 identified base schema = option_and_then (identified_by base) (argument (codes "$id") schema)
 
--- a scope: the pointer of the root of a resource, and the resource's base
+-- a base scope: the pointer of the root of a resource, and the resource's base
 
--- what stands below a schema is in its own resource, if its `$id` makes one, or else in the scope that the schema is in
-abbrev pub scope_or : Option Parts → Tokens → Scope → Scope
+-- what stands below a schema is in its own resource, if its `$id` makes one, or else in the schema's base scope
+abbrev pub scope_or : Option Parts → Tokens → BaseScope → BaseScope
 scope_or None p scope = scope
 scope_or (Some base) p scope = record { resource = p; base = base }
 
-abbrev pub scope_below : Scope → Located → Scope
+abbrev pub scope_below : BaseScope → Located → BaseScope
 scope_below scope s = scope_or (identified scope.base s.schema) s.pointer scope
 
--- the scope of a whole document: its root's resource, under its URI
-abbrev pub root_scope : Parts → Scope
+-- the base scope of a whole document: its root's resource, under its URI
+abbrev pub root_scope : Parts → BaseScope
 root_scope uri = record { resource = []; base = uri }
 
--- the scope that a place is in: the places above it, from the root on, make it
-abbrev pub scope_above : SchemaPlace → Scope
+-- the base scope that a place is in: the places above it, from the root on, make it
+abbrev pub scope_above : SchemaPlace → BaseScope
 scope_above place = fold scope_below (root_scope place.uri) place.above
 
 -- the base of a place (section 8.2.1)
@@ -55,13 +56,13 @@ resource_root place =
 
 -- ---- what the rules look at of a place
 
--- a site: where a place stands, the scope that it is in (of a root, the document's own, under its URI), its own scope,
--- whether its `$id` makes a base, and the schema there
+-- a site: where a place stands, the base scope that it is in (of a root, the document's own, under its URI), its own
+-- base scope, whether its `$id` makes a base, and the schema there
 pub record Site : Type 0 where
   pub document : ℕ
   pub pointer : Tokens
-  pub above : Scope
-  pub own : Scope
+  pub above : BaseScope
+  pub own : BaseScope
   pub identifies : Bool
   pub schema : Value
 

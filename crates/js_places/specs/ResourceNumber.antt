@@ -1,6 +1,7 @@
--- The numbers of resources, and dynamic references in a scope that is told by them (JSON Schema Core, sections 7.1, 8.2.1
--- and 8.2.3.2).
-use Rattle.std.specs.Prelude.{◌≡◌, ℕ, List, [], ◌∷◌, ◌++◌, length, Bool, Option, filter, flat_map, slice_get, nat_eq, Some, option_and_then, option_to_list}
+-- The numbers of resources, and dynamic references in a dynamic scope that is recorded by them (JSON Schema Core,
+-- sections 7.1, 8.2.1 and 8.2.3.2).
+use Rattle.std.specs.Prelude.{◌≡◌, ℕ, List, [], ◌∷◌, ◌++◌, length, Bool, Option, filter, flat_map}
+use Rattle.std.specs.Prelude.{slice_get, nat_eq, Some, option_and_then, option_to_list}
 use Rattle.std.specs.List.{dedup, position_from}
 use Rattle.js_places.specs.Document.{Documents}
 use Rattle.js_places.specs.Names.{same_tokens, stands_at}
@@ -30,8 +31,8 @@ abbrev pub roots_at : List Site → List ℕ → List Site
 roots_at all [] = []
 roots_at all (n ∷ numbers) = option_to_list (slice_get (roots all) n) ++ roots_at all numbers
 
--- What a place's `$dynamicRef` leads to: where its first target has the name by `$dynamicAnchor`, the first of the numbers
--- whose resource has it so gives the target.
+-- What a place's `$dynamicRef` leads to: where its first target has the name by `$dynamicAnchor`, the first of the
+-- numbers whose resource has it so gives the target.
 abbrev pub dynamic_ref_target_in : List Site → List ℕ → Site → Option Site
 dynamic_ref_target_in all numbers place = dynamic_ref_target all (roots_at all numbers) place
 
@@ -44,10 +45,13 @@ numbers_on all path = dedup nat_eq (flat_map (λ place. option_to_list (number_o
 -- each place has the number of its resource, and two have the same number exactly where they are of one resource: their
 -- document is the same, and the root in it
 pub record IsNumbering (all : List Site) : Type 0 where
-  pub numbered : (n : ℕ) (place : Site) → slice_get all n ≡ Some place → (m : ℕ) × (number_of_resource all place ≡ Some m)
-  pub apart : (n m : ℕ) (s t : Site) → slice_get all n ≡ Some s → slice_get all m ≡ Some t → number_of_resource all s ≡ number_of_resource all t
+  pub numbered : (n : ℕ) (place : Site) → slice_get all n ≡ Some place
+      → (m : ℕ) × (number_of_resource all place ≡ Some m)
+  pub apart : (n m : ℕ) (s t : Site) → slice_get all n ≡ Some s → slice_get all m ≡ Some t
+      → number_of_resource all s ≡ number_of_resource all t
       → (s.document ≡ t.document) × (s.own.resource ≡ t.own.resource)
-  pub together : (s t : Site) → s.document ≡ t.document → s.own.resource ≡ t.own.resource → number_of_resource all s ≡ number_of_resource all t
+  pub together : (s t : Site) → s.document ≡ t.document → s.own.resource ≡ t.own.resource
+      → number_of_resource all s ≡ number_of_resource all t
 
 abbrev pub NumbersResources : Type 0
 NumbersResources = (documents : Documents) → IsNumbering (sites documents)
@@ -57,5 +61,6 @@ NumbersResources = (documents : Documents) → IsNumbering (sites documents)
 abbrev pub ScopeByNumbers : Type 0
 ScopeByNumbers =
     (documents : Documents) (path : List ℕ) (place : ℕ)
-    → option_and_then (dynamic_ref_target_in (sites documents) (numbers_on (sites documents) (path_at documents path))) (place_at documents place)
+    → option_and_then (dynamic_ref_target_in (sites documents)
+    (numbers_on (sites documents) (path_at documents path))) (place_at documents place)
     ≡ option_and_then (dynamic_ref_target (sites documents) (path_at documents path)) (place_at documents place)

@@ -1,5 +1,6 @@
 -- What is kept of resources: the number of each place's, and of each resource what `$dynamicAnchor` names in it.
-use Rattle.std.specs.Prelude.{◌≡◌, ℕ, ◌+◌, List, [], ◌∷◌, length, Bool, true, Some, filter, map, slice_get, unwrap_or, option_and_then, option_to_list, codes, if◌then◌else◌}
+use Rattle.std.specs.Prelude.{◌≡◌, ℕ, ◌+◌, List, [], ◌∷◌, length, Bool, true, Some, filter, map, slice_get}
+use Rattle.std.specs.Prelude.{unwrap_or, option_and_then, option_to_list, codes, if◌then◌else◌}
 use Rattle.std.specs.List.{list_any, position_from, AllByRecursion}
 use Rattle.js_places.specs.declared.index.numbering.Numbering.{Numbering}
 use Rattle.js_places.specs.declared.index.resource_table.Resources.{Resources}
@@ -11,12 +12,14 @@ use Rattle.js_places.specs.ResourceNumber.{begins_resource, roots, number_of_res
 
 -- the names that `$dynamicAnchor` makes at a place, in the resource with this root
 abbrev pub dynamic_names : Site → Site → List Text
-dynamic_names root place = if belongs_to root.document root.own.resource place then option_to_list (text_argument (codes "$dynamicAnchor") place.schema) else []
+dynamic_names root place = if belongs_to root.document root.own.resource place then option_to_list
+    (text_argument (codes "$dynamicAnchor") place.schema) else []
 
 -- of each resource: under each name the number of the first place that makes it
 pub record AreAnchors (roots : List Site) (anchors : List Numbering) (places : List Site) : Type 0 where
   pub many : length anchors ≡ length roots
-  pub first : (n : ℕ) (root : Site) (names : Numbering) → slice_get roots n ≡ Some root → slice_get anchors n ≡ Some names → FindsFirst (dynamic_names root) names places
+  pub first : (n : ℕ) (root : Site) (names : Numbering) → slice_get roots n ≡ Some root
+      → slice_get anchors n ≡ Some names → FindsFirst (dynamic_names root) names places
 
 pub record IsResourceTable (table : Resources) (all : List Site) : Type 0 where
   pub numbers : map Some table.numbers.items ≡ map (number_of_resource all) all
@@ -24,21 +27,22 @@ pub record IsResourceTable (table : Resources) (all : List Site) : Type 0 where
 
 -- ---- words for how it is made
 
--- It is told of each place whether it is a root: before each so many roots stand, and n before the first.
+-- Marks say of each place whether it is a root: how many roots stand before each, and n before the first.
 abbrev pub ranks_by : ℕ → List Bool → List ℕ
 ranks_by n [] = []
-ranks_by n (begins ∷ told) = n ∷ ranks_by (if begins then n + 1 else n) told
+ranks_by n (begins ∷ marks) = n ∷ ranks_by (if begins then n + 1 else n) marks
 
 abbrev pub ranks_from : ℕ → List Site → List ℕ
 ranks_from n places = ranks_by n (map begins_resource places)
 
 -- how many are roots
 abbrev pub count_begun : List Bool → ℕ
-count_begun told = length (filter (λ begins. begins) told)
+count_begun marks = length (filter (λ begins. begins) marks)
 
 -- how many roots stand before the root of a place's resource
 abbrev pub rank_of_root : List Site → Site → ℕ
-rank_of_root all place = unwrap_or (option_and_then (slice_get (ranks_from 0 all)) (position_from (stands_at place.document place.own.resource) 0 all)) 0
+rank_of_root all place = unwrap_or (option_and_then (slice_get (ranks_from 0 all))
+    (position_from (stands_at place.document place.own.resource) 0 all)) 0
 
 abbrev pub AreEmpty : List Numbering → Type 0
 AreEmpty anchors = AllByRecursion (λ names. names.first.entries ≡ []) anchors
@@ -57,7 +61,8 @@ pub record AreNamed (old : List Numbering) (n : ℕ) (names : List Text) (place 
 -- no two places stand at one pointer of one document
 abbrev pub StandApart : List Site → Type 0
 StandApart [] = Unit {0}
-StandApart (place ∷ places) = AllByRecursion (λ s. ¬ (stands_at place.document place.pointer s ≡ true)) places × StandApart places
+StandApart (place ∷ places) =
+    AllByRecursion (λ s. ¬ (stands_at place.document place.pointer s ≡ true)) places × StandApart places
 
 -- each place's resource has its root among them
 pub record AreRooted (all : List Site) : Type 0 where

@@ -1,5 +1,6 @@
 -- What references lead to (JSON Schema Core, section 8.2.3).
-use Rattle.std.specs.Prelude.{List, [], ◌∷◌, Bool, false, ◌&&◌, Option, None, option_map, option_and_then, unwrap_or, codes, find, if◌then◌else◌}
+use Rattle.std.specs.Prelude.{List, [], ◌∷◌, Bool, false, ◌&&◌, Option, None, option_map}
+use Rattle.std.specs.Prelude.{option_and_then, unwrap_or, codes, find, if◌then◌else◌}
 use Rattle.std.specs.Option.{option_or, option_map_or}
 use Rattle.url.specs.Parts.{Parts}
 use Rattle.js_places.specs.Keyword.{Text, text_argument}
@@ -25,7 +26,8 @@ ref_target all place = first_target all (codes "$ref") place
 
 -- the place to which `$dynamicAnchor` gives the name, in the resource of a place
 abbrev pub dynamic_anchor : List Site → Text → Site → Option Site
-dynamic_anchor all name place = find (λ t. belongs_to place.document place.own.resource t && makes (codes "$dynamicAnchor") name t) all
+dynamic_anchor all name place =
+    find (λ t. belongs_to place.document place.own.resource t && makes (codes "$dynamicAnchor") name t) all
 
 -- the first of the path's resources that has the name gives it
 abbrev pub outermost : List Site → Text → List Site → Option Site
@@ -45,4 +47,5 @@ dynamic_of all path uri first =
 
 abbrev pub dynamic_ref_target : List Site → List Site → Site → Option Site
 dynamic_ref_target all path place =
-    option_map (dynamic_of all path (reference (codes "$dynamicRef") place)) (first_target all (codes "$dynamicRef") place)
+    option_map (dynamic_of all path (reference (codes "$dynamicRef") place))
+    (first_target all (codes "$dynamicRef") place)

@@ -2,7 +2,7 @@
 pub mod Scan
 pub mod Index
 pub mod Edges
-pub mod KeptLocation
+pub mod StoredLocation
 pub mod TextPrefix
 pub mod Positions
 pub mod PartsByPlace

@@ -5,7 +5,6 @@ ghost use Rattle.js_places.specs.code.Index.{root_uris, made_uris};
 ghost use Rattle.js_places.specs.code.Scan.{site_of};
 
 pub(crate) mod edges;
-pub(crate) mod kept_location;
 pub(crate) mod keys;
 pub(crate) mod keyword_table;
 pub(crate) mod location;
@@ -15,6 +14,7 @@ pub(crate) mod place_by_uri;
 pub(crate) mod positions;
 pub(crate) mod resource_table;
 pub(crate) mod sparse_list;
+pub(crate) mod stored_location;
 pub(crate) mod text_prefix;
 
 use crate::index::keys::name_key;

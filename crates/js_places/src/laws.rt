@@ -25,12 +25,12 @@ pub fn the_list_has_each_of_all_once()
 
 /// Each place has the number of its resource, and two places have the same number exactly where they are of one
 /// resource (JSON Schema Core, section 8.2.1).
-pub fn a_number_tells_a_resource()
+pub fn a_number_determines_a_resource()
     ensures { NumbersResources }
 {}
 
 /// A dynamic scope given by the numbers of its resources, repeated neighbours left out, leads to what the path of all
 /// places leads to (JSON Schema Core, sections 7.1 and 8.2.3.2).
-pub fn numbers_tell_the_dynamic_scope()
+pub fn numbers_determine_the_dynamic_scope()
     ensures { ScopeByNumbers }
 {}

@@ -2,20 +2,20 @@
 ghost use Rattle.std.specs.Prelude.{◌≡◌, [], ◌∷◌, ◌++◌, OnOk, IfOk, map};
 ghost use Rattle.js_doc.specs.Seen.{value_of};
 ghost use Rattle.js_doc.specs.Value as spec;
-ghost use Rattle.js_places.specs.code.Scan.{SameFront, site_of, site_scanned, handed_down, sites_at, sites_of_items};
+ghost use Rattle.js_places.specs.code.Scan.{SameFront, site_of, site_scanned, passed_down, sites_at, sites_of_items};
 ghost use Rattle.js_places.specs.code.Scan.{sites_of_member, sites_of_members, scanned};
 ghost use Rattle.js_places.specs.Resource.{root_scope};
 ghost use Rattle.js_places.specs.Seen.{document_of};
 
+pub(crate) mod base_scope;
 pub(crate) mod holding;
 pub(crate) mod pointers;
-pub(crate) mod scope;
 pub(crate) mod site;
 
 use crate::document::Document;
+use crate::scan::base_scope::{BaseScope, BaseScopes, base_scopes_at};
 use crate::scan::holding::{Holding, Role, holding_as};
 use crate::scan::pointers::shared_further;
-use crate::scan::scope::{Scope, Scopes, scopes_at};
 use crate::scan::site::Site;
 use js_doc::{Doc, Members, Memory, Pointer};
 use std::alloc::Global;
@@ -28,33 +28,33 @@ const MOST_SITES: usize = 100_001;
 #[derive(Clone, Copy)]
 struct Position<'p> {
     document: usize,
-    /// The scope that it is in.
-    above: &'p Arc<Scope>,
+    /// The base scope that it is in.
+    above: &'p Arc<BaseScope>,
     pointer: &'p Arc<Pointer>,
     /// How many members stand before it in its object. In a list it is 0.
     rank: u32,
 }
 
-// Lists one place, and answers the scope of what stands below it.
+// Lists one place, and answers the base scope of what stands below it.
 fn add_site<'a>(
     out: &mut Vec<Site<'a>>,
     at: Position<'_>,
     schema: &'a Doc,
-) -> Result<Arc<Scope>, Memory>
+) -> Result<Arc<BaseScope>, Memory>
     ensures added { OnOk result (map site_of out.new.items ≡ map site_of out.old.items
         ++ site_scanned at.entry.document at.entry.above.now.value at.entry.pointer.now.value
         (value_of schema.now) ∷ []) }
     ensures below { IfOk result (λ s. s.value
-        ≡ handed_down at.entry.above.now.value at.entry.pointer.now.value (value_of schema.now)) }
+        ≡ passed_down at.entry.above.now.value at.entry.pointer.now.value (value_of schema.now)) }
 {
     let pointer = at.pointer.clone()?;
     let above = at.above.clone()?;
-    let Scopes {
+    let BaseScopes {
         own,
         below,
         identifies,
         bare,
-    } = scopes_at(*out.allocator(), at.above, at.pointer, schema)?;
+    } = base_scopes_at(*out.allocator(), at.above, at.pointer, schema)?;
     out.push(Site {
         document: at.document,
         pointer,
@@ -171,7 +171,7 @@ fn scan_document<'a>(
     ensures { OnOk result (SameFront (map site_of out.new.items) (map site_of out.old.items
         ++ sites_at number (root_scope document.now.uri) [] (value_of document.now.root))) }
 {
-    let above = Scope::new(Pointer::new(alloc), document.uri.clone()?, alloc)?;
+    let above = BaseScope::new(Pointer::new(alloc), document.uri.clone()?, alloc)?;
     let pointer = Arc::new(alloc, Pointer::new(alloc))?;
     let root = Position {
         document: number,

@@ -13,7 +13,7 @@ use Rattle.js_tree.proofs.MergedTest.{not_true}
 use Rattle.js_rows.specs.RelativeState.{part}
 use Rattle.js_rows.proofs.UndoneEscapes.{from_escaped}
 
--- ---- what a comparison tells
+-- ---- what a comparison says
 
 pub equal : (r : Bool) (a b : List ℕ) → r ≡ pointwise nat_eq a b → r ≡ true → a ≡ b
 equal r a b e y = (bytes_decides a b).0 (sym e ∙ y)

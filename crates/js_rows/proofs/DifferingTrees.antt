@@ -9,11 +9,11 @@ use Rattle.js_tree.specs.Merged.{all_merged, has_alike, none_alike}
 use Rattle.js_tree.specs.MergedResult.{merged}
 use Rattle.js_tree.specs.OutputUnit.{OutputUnit, noted}
 use Rattle.js_tree.specs.Result.{Normal, ResultTree}
-use Rattle.js_tree.specs.Step.{all_stand, node_stands}
+use Rattle.js_tree.specs.Rewrite.{all_stand, node_stands}
 use Rattle.js_tree.proofs.AlikeUnits.{same_but_keyword_decides}
 use Rattle.js_tree.proofs.MergedLaws.{normal_of_three-merged}
 use Rattle.js_tree.proofs.MergedTest.{not_true, tests_normal}
-use Rattle.js_tree.proofs.Steps.{and_left, and_right, normal-all_stand}
+use Rattle.js_tree.proofs.Rewrites.{and_left, and_right, normal-all_stand}
 use Rattle.js_rows.specs.Relative.{escaped, escaped_tree, escaped_unit, relative, relative_tree, relative_unit}
 use Rattle.js_rows.specs.code.Differing.{none_there, same_places, siblings_differ}
 

@@ -1,5 +1,6 @@
 -- A keyword's leaf, which opens and closes at once: its row is added, unless it goes.
-use Rattle.std.specs.Prelude.{◌≡◌, ℕ, ◌-◌, ◌≤◌, Bool, true, false, List, [], ◌∷◌, ◌++◌, Some, drop, length, map, slice_get, suc, refl}
+use Rattle.std.specs.Prelude.{◌≡◌, ℕ, ◌-◌, ◌≤◌, Bool, true, false, List, [], ◌∷◌, ◌++◌, Some}
+use Rattle.std.specs.Prelude.{drop, length, map, slice_get, suc, refl}
 use Rattle.std.proofs.Common.{arith, ap, sym, ◌∙◌}
 use Rattle.std.proofs.Math.Seq.{drop-append_seam, take-append_seam}
 use Rattle.std.proofs.lemmas.List.{drop_all, length-append, map-append}
@@ -10,11 +11,13 @@ use Rattle.js_doc.specs.Escapes.{stands}
 use Rattle.js_tree.specs.Events.{closing, opening}
 use Rattle.js_tree.specs.FlatState.{FlatRow, closed_row, opening_row, with_closed}
 use Rattle.js_tree.specs.Note.{Note}
-use Rattle.js_rows.specs.RelativeState.{HasLeaf, OpenNode, TakesLeafAt, escaped_row, open_node, open_nodes, relative_after, relative_opened, relative_row, relative_state, row_goes, rows_closed}
+use Rattle.js_rows.specs.RelativeState.{HasLeaf, OpenNode, TakesLeafAt, escaped_row, open_node}
+use Rattle.js_rows.specs.RelativeState.{open_nodes, relative_after, relative_opened, relative_row}
+use Rattle.js_rows.specs.RelativeState.{relative_state, row_goes, rows_closed}
 use Rattle.js_rows.specs.declared.rows.OpenNode.{OpenNode as DeclaredOpen}
 use Rattle.js_rows.specs.declared.rows.RelativeRow.{RelativeRow}
 use Rattle.js_rows.specs.declared.rows.RelativeRows.{RelativeRows}
-use Rattle.js_rows.proofs.RelativeTold.{at, opened_below, token_stands}
+use Rattle.js_rows.proofs.RelativeRowsCollected.{at, opened_below, token_stands}
 use Rattle.js_rows.proofs.SilentLeaves.{opened_with}
 
 -- ---- which node is the innermost
@@ -25,11 +28,14 @@ last_open x [] nodes e = absurd cc
 last_open x (y ∷ []) nodes e = (nodes, cc)
 last_open x (y ∷ z ∷ ys) nodes e =
     last_open x (z ∷ ys) (open_node y ∷ nodes)
-    (e ∙ ap (slice_get (y ∷ z ∷ ys)) (let a : suc (suc (length ys)) - 1 ≡ suc (suc (length ys) - 1) = omega (arith) in a))
+    (e ∙ ap (slice_get (y ∷ z ∷ ys))
+    (let a : suc (suc (length ys)) - 1 ≡ suc (suc (length ys) - 1) = omega (arith) in a))
 
-pub innermost_at : (x : DeclaredOpen) (xs : List DeclaredOpen) (keyword instance : ℕ) → Some x ≡ slice_get xs (length xs - 1)
+pub innermost_at : (x : DeclaredOpen) (xs : List DeclaredOpen) (keyword instance : ℕ)
+    → Some x ≡ slice_get xs (length xs - 1)
     → x.keyword ≡ keyword → instance ≤ x.instance
-    → (o : OpenNode) × (others : List OpenNode) × (open_nodes xs [] ≡ o ∷ others) × (o.keyword ≡ keyword) × (instance ≤ o.instance)
+    → (o : OpenNode) × (others : List OpenNode) × (open_nodes xs [] ≡ o ∷ others) × (o.keyword ≡ keyword)
+    × (instance ≤ o.instance)
 innermost_at x xs keyword instance e k i =
     let found = last_open x xs [] e in
     (open_node x, found.0, found.1, k, i)
@@ -53,16 +59,20 @@ last_closed : (goes : Bool) (rows : List FlatRow) (row : FlatRow) (valid : Bool)
     → rows_closed goes (length rows) valid note (rows ++ row ∷ []) ≡ rows_left goes rows row valid note
 last_closed true rows row valid note = take-append_seam rows (row ∷ [])
 last_closed false rows row valid note =
-    ap (λ n. with_closed (length rows) valid note n (rows ++ row ∷ [])) (one_more rows row) ∙ closed_last rows row valid note
+    ap (λ n. with_closed (length rows) valid note n (rows ++ row ∷ [])) (one_more rows row)
+    ∙ closed_last rows row valid note
 
-comes_and_closes : (trims goes : Bool) (rows : List FlatRow) (o : OpenNode) (nodes : List OpenNode) (keyword absolute instance : List ℕ) (valid : Bool) (note : Note)
+comes_and_closes : (trims goes : Bool) (rows : List FlatRow) (o : OpenNode) (nodes : List OpenNode)
+    (keyword absolute instance : List ℕ) (valid : Bool) (note : Note)
     → goes ≡ row_goes trims note 1
     → relative_after (relative_opened trims rows (o ∷ nodes) keyword absolute instance) (closing valid note)
-    ≡ at trims (rows_left goes rows (escaped_row (drop o.keyword keyword) absolute (drop o.instance instance)) valid note) (o ∷ nodes)
+    ≡ at trims (rows_left goes rows (escaped_row (drop o.keyword keyword) absolute (drop o.instance instance))
+    valid note) (o ∷ nodes)
 comes_and_closes trims goes rows o nodes keyword absolute instance valid note g =
     let row : FlatRow = escaped_row (drop o.keyword keyword) absolute (drop o.instance instance) in
     ap (λ s. relative_after s (closing valid note)) (opened_below rows o nodes keyword absolute instance)
-    ∙ (ap (λ n. at trims (rows_closed (row_goes trims note n) (length rows) valid note (rows ++ row ∷ [])) (o ∷ nodes)) (one_more rows row)
+    ∙ (ap (λ n. at trims (rows_closed (row_goes trims note n) (length rows) valid note (rows ++ row ∷ []))
+    (o ∷ nodes)) (one_more rows row)
     ∙ (ap (λ b. at trims (rows_closed b (length rows) valid note (rows ++ row ∷ [])) (o ∷ nodes)) (sym g)
     ∙ ap (λ zs. at trims zs (o ∷ nodes)) (last_closed goes rows row valid note)))
 
@@ -71,10 +81,16 @@ comes_and_closes trims goes rows o nodes keyword absolute instance valid note g 
 -- the row has a slash and the name in both places
 pub leaf_row : (o : OpenNode) (keyword schema name instance : List ℕ) (valid : Bool) (note : Note)
     → o.keyword ≡ length keyword → length instance ≤ o.instance → list_all stands name ≡ true
-    → ◌≡◌ {A = FlatRow} (record { valid = valid; keyword = 47 ∷ name; absolute = escape schema ++ 47 ∷ name; instance = []; note = note }, 1)
-    (closed_row (escaped_row (drop o.keyword (keyword ++ 47 ∷ name)) (schema ++ 47 ∷ name) (drop o.instance instance)) valid note 1)
+    → ◌≡◌ {A = FlatRow} (
+      record
+          { valid = valid; keyword = 47 ∷ name; absolute = escape schema ++ 47 ∷ name; instance = []; note = note },
+      1,
+    )
+    (closed_row (escaped_row (drop o.keyword (keyword ++ 47 ∷ name)) (schema ++ 47 ∷ name)
+    (drop o.instance instance)) valid note 1)
 leaf_row o keyword schema name instance valid note k i n =
-    let added : drop o.keyword (keyword ++ 47 ∷ name) ≡ 47 ∷ name = ap (λ m. drop m (keyword ++ 47 ∷ name)) k ∙ drop-append_seam keyword (47 ∷ name) in
+    let added : drop o.keyword (keyword ++ 47 ∷ name) ≡ 47 ∷ name = ap (λ m. drop m (keyword ++ 47 ∷ name)) k
+    ∙ drop-append_seam keyword (47 ∷ name) in
     let none : drop o.instance instance ≡ [] = drop_all o.instance instance i in
     let plain : escape (47 ∷ name) ≡ 47 ∷ name = token_stands name n in
     let whole : escape (schema ++ 47 ∷ name) ≡ escape schema ++ 47 ∷ name =
@@ -87,39 +103,53 @@ leaf_row o keyword schema name instance valid note k i n =
 -- the events lead there
 there : (old new : RelativeRows) (keyword schema name instance : List ℕ) (valid : Bool) (note : Note)
     → TakesLeafAt old keyword instance
-    → relative_state new ≡ relative_after (relative_after (relative_state old) (opening (keyword ++ 47 ∷ name) (schema ++ 47 ∷ name) instance)) (closing valid note)
+    → relative_state new ≡ relative_after (relative_after (relative_state old)
+    (opening (keyword ++ 47 ∷ name) (schema ++ 47 ∷ name) instance)) (closing valid note)
     → HasLeaf keyword schema name instance valid note old new
 there old new keyword schema name instance valid note t e =
-    let m = opened_with old old.rows.items old.nodes.items (keyword ++ 47 ∷ name) (schema ++ 47 ∷ name) instance t.few t.shallow in
+    let m = opened_with old old.rows.items old.nodes.items (keyword ++ 47 ∷ name) (schema ++ 47 ∷ name)
+    instance t.few t.shallow in
     (m.0, m.1, (new, e ∙ ap (λ s. relative_after s (closing valid note)) (sym m.1), refl))
 
 closed_at_once : (old : RelativeRows) (goes : Bool) (keyword schema name instance : List ℕ) (valid : Bool) (note : Note)
     → (t : TakesLeafAt old keyword instance) → goes ≡ row_goes old.trims note 1
-    → at old.trims (rows_left goes (map relative_row old.rows.items) (escaped_row (drop t.node.keyword (keyword ++ 47 ∷ name)) (schema ++ 47 ∷ name) (drop t.node.instance instance)) valid note) (open_nodes old.nodes.items [])
-    ≡ relative_after (relative_after (relative_state old) (opening (keyword ++ 47 ∷ name) (schema ++ 47 ∷ name) instance)) (closing valid note)
+    → at old.trims (rows_left goes (map relative_row old.rows.items) (escaped_row (drop t.node.keyword (keyword ++ 47
+    ∷ name)) (schema ++ 47 ∷ name) (drop t.node.instance instance)) valid note) (open_nodes old.nodes.items [])
+    ≡ relative_after (relative_after (relative_state old)
+    (opening (keyword ++ 47 ∷ name) (schema ++ 47 ∷ name) instance)) (closing valid note)
 closed_at_once old goes keyword schema name instance valid note t g =
     let rows = map relative_row old.rows.items in
-    let row : FlatRow = escaped_row (drop t.node.keyword (keyword ++ 47 ∷ name)) (schema ++ 47 ∷ name) (drop t.node.instance instance) in
+    let row : FlatRow = escaped_row (drop t.node.keyword (keyword ++ 47 ∷ name)) (schema ++ 47 ∷ name)
+    (drop t.node.instance instance) in
     ap (λ os. at old.trims (rows_left goes rows row valid note) os) t.open_are
-    ∙ (sym (comes_and_closes old.trims goes rows t.node t.others (keyword ++ 47 ∷ name) (schema ++ 47 ∷ name) instance valid note g)
-    ∙ ap (λ os. relative_after (relative_opened old.trims rows os (keyword ++ 47 ∷ name) (schema ++ 47 ∷ name) instance) (closing valid note)) (sym t.open_are))
+    ∙ (sym (comes_and_closes old.trims goes rows t.node t.others (keyword ++ 47 ∷ name)
+    (schema ++ 47 ∷ name) instance valid note g)
+    ∙ ap (λ os. relative_after (relative_opened old.trims rows os (keyword ++ 47 ∷ name) (schema ++ 47 ∷ name)
+    instance) (closing valid note)) (sym t.open_are))
 
 -- a leaf that goes leaves the rows
 pub leaf_goes : (old : RelativeRows) (keyword schema name instance : List ℕ) (valid : Bool) (note : Note)
     → TakesLeafAt old keyword instance → true ≡ row_goes old.trims note 1
     → HasLeaf keyword schema name instance valid note old old
 leaf_goes old keyword schema name instance valid note t g =
-    there old old keyword schema name instance valid note t (closed_at_once old true keyword schema name instance valid note t g)
+    there old old keyword schema name instance valid note t
+    (closed_at_once old true keyword schema name instance valid note t g)
 
 -- any other is the last row
-pub leaf_stays : (old new : RelativeRows) (r : RelativeRow) (keyword schema name instance : List ℕ) (valid : Bool) (note : Note)
+pub leaf_stays : (old new : RelativeRows) (r : RelativeRow) (keyword schema name instance : List ℕ)
+    (valid : Bool) (note : Note)
     → TakesLeafAt old keyword instance → list_all stands name ≡ true → false ≡ row_goes old.trims note 1
     → new.rows.items ≡ old.rows.items ++ r ∷ [] → new.nodes.items ≡ old.nodes.items → new.trims ≡ old.trims
-    → relative_row r ≡ (record { valid = valid; keyword = 47 ∷ name; absolute = escape schema ++ 47 ∷ name; instance = []; note = note }, 1)
+    → relative_row r ≡ (
+      record
+          { valid = valid; keyword = 47 ∷ name; absolute = escape schema ++ 47 ∷ name; instance = []; note = note },
+      1,
+    )
     → HasLeaf keyword schema name instance valid note old new
 leaf_stays old new r keyword schema name instance valid note t n g rows nodes trims is =
     let row = leaf_row t.node keyword schema name instance valid note t.keyword_is t.instance_is n in
-    let all = ap (map relative_row) rows ∙ (map-append relative_row old.rows.items (r ∷ []) ∙ ap (λ q. map relative_row old.rows.items ++ q ∷ []) (is ∙ row)) in
+    let all = ap (map relative_row) rows ∙ (map-append relative_row old.rows.items (r ∷ [])
+    ∙ ap (λ q. map relative_row old.rows.items ++ q ∷ []) (is ∙ row)) in
     there old new keyword schema name instance valid note t
     (ap (λ b. at b (map relative_row new.rows.items) (open_nodes new.nodes.items [])) trims
     ∙ (ap (λ os. at old.trims (map relative_row new.rows.items) (open_nodes os [])) nodes

@@ -17,11 +17,11 @@ pub mod PlacedRows
 pub mod Placing
 pub mod QuotedParts
 pub mod RelativeTexts
-pub mod RelativeTold
+pub mod RelativeRowsCollected
 pub mod RoomLeft
 pub mod RootBack
 pub mod SiblingsDiffer
 pub mod SilentLeaves
 pub mod SilentNodes
-pub mod TrimmedTold
+pub mod TrimmedRowsCollected
 pub mod UndoneEscapes

@@ -13,7 +13,7 @@ use Rattle.js_tree.specs.Flat.{flat_of}
 use Rattle.js_tree.specs.Forest.{Forest, empty, tree, node_count}
 use Rattle.js_tree.specs.OutputUnit.{OutputUnit}
 use Rattle.js_tree.proofs.FlatRows.{FirstTree, all_gone, first_tree}
-use Rattle.js_tree.proofs.Steps.{and_left, and_right}
+use Rattle.js_tree.proofs.Rewrites.{and_left, and_right}
 use Rattle.js_rows.specs.RelativeState.{relative_row}
 use Rattle.js_rows.specs.code.Differing.{AreTrees, none_there, same_places, siblings_differ}
 use Rattle.js_rows.specs.code.PartOrder.{ascend_behind, differ_below, part_order, part_rank, rank_of, ranked}
@@ -98,7 +98,8 @@ pub record LeftToSee (rows : List RelativeRow) (next : ℕ) (rest : Forest Outpu
   pub decides : rest left ≡ true → whole ≡ true
 
 -- so for each forest that these rows are of; and the rows from the next on are those of trees
-abbrev pub SeesUpTo : List RelativeRow → ℕ → List RelativeRow → (Forest OutputUnit → Bool) → (Forest OutputUnit → Bool) → Type 0
+abbrev pub SeesUpTo : List RelativeRow → ℕ → List RelativeRow → (Forest OutputUnit → Bool)
+    → (Forest OutputUnit → Bool) → Type 0
 SeesUpTo rows next these rest whole =
     AreTrees (drop next rows)
     × ((f : Forest OutputUnit) → map relative_row these ≡ flat_of f → LeftToSee rows next rest (whole f))
@@ -114,14 +115,17 @@ pub tree_there : {rest : Forest OutputUnit → Bool} {whole : Bool} (rows : List
 tree_there rows next x l h is = first_tree relative_row rows next l.left x l.left_is h is
 
 pub more_at : (rows : List RelativeRow) (next end : ℕ) (f : Forest OutputUnit) (x : RelativeRow)
-    (t : FirstTree relative_row rows next f x) → end ≡ next + x.size → map relative_row (drop end rows) ≡ flat_of t.after
+    (t : FirstTree relative_row rows next f x) → end ≡ next + x.size
+    → map relative_row (drop end rows) ≡ flat_of t.after
 more_at rows next end f x t e = ap (λ n. map relative_row (drop n rows)) e ∙ t.more
 
 pub see_next : {rest now : Forest OutputUnit → Bool} {whole : Bool} (rows : List RelativeRow) (next end : ℕ)
     (x : RelativeRow) (l : LeftToSee rows next rest whole) (t : FirstTree relative_row rows next l.left x)
-    → end ≡ next + x.size → (now t.after ≡ true → rest (tree t.unit t.below t.after) ≡ true) → LeftToSee rows end now whole
+    → end ≡ next + x.size → (now t.after ≡ true → rest (tree t.unit t.below t.after) ≡ true)
+    → LeftToSee rows end now whole
 see_next {rest} rows next end x l t e d =
-    record { left = t.after; left_is = more_at rows next end l.left x t e; decides = λ h. l.decides (ap rest t.is ∙ d h) }
+    record
+    { left = t.after; left_is = more_at rows next end l.left x t e; decides = λ h. l.decides (ap rest t.is ∙ d h) }
 
 pub see_end : {rest : Forest OutputUnit → Bool} {whole : Bool} (rows : List RelativeRow) (next : ℕ)
     → LeftToSee rows next rest whole → length rows ≤ next → rest empty ≡ true → whole ≡ true

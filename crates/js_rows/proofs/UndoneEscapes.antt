@@ -29,13 +29,15 @@ pub without_escapes : (start : List ℕ) (slash : Bool) (bytes text : List ℕ) 
 without_escapes start slash bytes text h e =
     let rest = part slash bytes in
     from_escaped (start ++ rest) text
-    (flat_map-append escape_byte start rest ∙ (ap (λ l. escape start ++ l) (nothing_escaped rest (part_stands slash bytes h)) ∙ e))
+    (flat_map-append escape_byte start rest
+    ∙ (ap (λ l. escape start ++ l) (nothing_escaped rest (part_stands slash bytes h)) ∙ e))
 
 same_string : (s t : List ℕ) (more rest : List Token) → string s ∷ more ≡ string t ∷ rest → s ≡ t
 same_string s t more rest e = cc
 
 -- what a reader gives for a quoted text
-pub read_back : (json s text : List ℕ) (more : List Token) → tokens json ≡ string s ∷ more → json ≡ quoted text → s ≡ text
+pub read_back : (json s text : List ℕ) (more : List Token) → tokens json ≡ string s ∷ more
+    → json ≡ quoted text → s ≡ text
 unfolding print_from ArePrintable
 read_back json s text more is e =
     same_string s text more []

@@ -3,7 +3,8 @@ use Rattle.std.specs.Prelude.{◌≡◌}
 use Rattle.js_tree.specs.Events.{events, Passes}
 use Rattle.js_tree.specs.Result.{ResultTree}
 use Rattle.js_rows.specs.Relative.{IsLocated}
-use Rattle.js_rows.specs.RelativeState.{AreRowsOf, AreTrimmedOf, relative_after, relative_start, relative_state, trimming_start}
+use Rattle.js_rows.specs.RelativeState.{AreRowsOf, AreTrimmedOf, relative_after, relative_start}
+use Rattle.js_rows.specs.RelativeState.{relative_state, trimming_start}
 use Rattle.js_rows.specs.declared.rows.RelativeRows.{RelativeRows}
 
 -- if each node's locations begin with those of the node above

@@ -5,7 +5,7 @@ use Rattle.js_tree.specs.Kept.{noted_trees}
 use Rattle.js_tree.specs.OutputUnit.{OutputUnit, noted}
 use Rattle.js_tree.specs.Pruned.{pruned_below}
 use Rattle.js_tree.specs.Result.{ResultTree, has_verdict}
-use Rattle.js_tree.specs.Step.{at_least_one, at_least_two}
+use Rattle.js_tree.specs.Rewrite.{at_least_one, at_least_two}
 use Rattle.js_rows.specs.Relative.{relative_tree}
 use Rattle.js_rows.specs.RelativeState.{AreRowsOf}
 use Rattle.js_rows.specs.declared.rows.RelativeRows.{RelativeRows}
@@ -16,14 +16,17 @@ use Rattle.js_rows.specs.declared.marks.RelativeMarks.{RelativeMarks}
 abbrev pub left_trees : Bool → Forest OutputUnit → ℕ
 left_trees verdict f = noted_trees noted (pruned_below (has_verdict verdict) f)
 
--- whether the node is left, and whether something is left below it, where something is left of so many of its children's trees
+-- whether the node is left, and whether something is left below it, where something is left of `trees` of its
+-- children's trees
 abbrev pub mark_of : Bool → OutputUnit → ℕ → Left
 mark_of verdict u trees =
-    if has_verdict verdict u then record { stays = noted u || at_least_two trees; below = at_least_one trees } else record { stays = false; below = false }
+    if has_verdict verdict u then record { stays = noted u || at_least_two trees; below = at_least_one trees } else
+    record { stays = false; below = false }
 
 abbrev pub marked : Bool → Forest OutputUnit → List Left
 marked verdict empty = []
-marked verdict (tree u below after) = mark_of verdict u (left_trees verdict below) ∷ (marked verdict below ++ marked verdict after)
+marked verdict (tree u below after) = mark_of verdict u (left_trees verdict below)
+    ∷ (marked verdict below ++ marked verdict after)
 
 -- a whole tree, the locations of whose nodes have only what they add
 abbrev pub whole_of : ResultTree → Forest OutputUnit

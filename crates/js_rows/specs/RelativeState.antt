@@ -1,5 +1,6 @@
 -- What a collector of rows holds that have only what their locations add to those of the node above, with JSON escapes.
-use Rattle.std.specs.Prelude.{◌≡◌, ℕ, ◌-◌, ◌+◌, ◌<◌, ◌≤◌, ◌^◌, Bool, true, false, not, ◌&&◌, if◌then◌else◌, nat_eq, List, [], ◌∷◌, ◌++◌, drop, length, map, take}
+use Rattle.std.specs.Prelude.{◌≡◌, ℕ, ◌-◌, ◌+◌, ◌<◌, ◌≤◌, ◌^◌, Bool, true, false, not, ◌&&◌, if◌then◌else◌}
+use Rattle.std.specs.Prelude.{nat_eq, List, [], ◌∷◌, ◌++◌, drop, length, map, take}
 use Rattle.json.specs.Print.{escape}
 use Rattle.js_tree.specs.Events.{Event, Passes, opening, closing}
 use Rattle.js_tree.specs.Flat.{flat_form}
@@ -70,8 +71,7 @@ relative_opened trims rows (o ∷ nodes) keyword absolute instance =
       trims = trims;
     }
 
--- whether the row of a node that closes goes: it has no note, and of its subtree's rows, which are so many, only it is
--- left
+-- whether the row of a node that closes goes: it has no note, and of the `size` rows of its subtree only it is left
 abbrev pub row_goes : Bool → Note → ℕ → Bool
 row_goes trims note size = trims && (nat_eq size 1 && not (speaks note))
 
@@ -108,8 +108,16 @@ abbrev pub absolute_part : RelativeRow → List ℕ
 absolute_part r = part r.absolute_slash r.absolute.now
 
 abbrev pub relative_row : RelativeRow → FlatRow
-relative_row r =
-    (record { valid = r.valid; keyword = keyword_part r; absolute = escape r.schema.now ++ absolute_part r; instance = r.instance.now; note = note_of r.note }, r.size)
+relative_row r = (
+  record {
+    valid = r.valid;
+    keyword = keyword_part r;
+    absolute = escape r.schema.now ++ absolute_part r;
+    instance = r.instance.now;
+    note = note_of r.note;
+  },
+  r.size,
+)
 
 abbrev pub open_node : DeclaredOpen → OpenNode
 open_node o = record { number = o.number; keyword = o.keyword; instance = o.instance }

@@ -57,8 +57,8 @@ fn is_same_part(first_slash: bool, first: &[u8], second_slash: bool, second: &[u
     first_slash == second_slash && first == second
 }
 
-// Bytes that this absolute keyword location ends with: its part or, where there is none, so many of its schema's last
-// bytes. None if these would have to be escaped.
+// Bytes that this absolute keyword location ends with: its part or, where there is none, the last `length` bytes of its
+// schema. None if these would have to be escaped.
 fn end_of<'a>(schema: &'a str, slash: bool, absolute: &'a [u8], length: usize) -> &'a [u8]
     ensures { (start : List ℕ) × (escape schema.now ++ part slash absolute.now ≡ start ++ result.now) }
 {

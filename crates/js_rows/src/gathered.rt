@@ -53,7 +53,7 @@ impl Gathered {
         self.text.len()
     }
 
-    /// Puts so many bytes of the beginning out, and forgets the others.
+    /// Puts the first bytes out, and forgets the others.
     ///
     /// # Errors
     /// `Stopped` if the output stops; then a beginning of them was written.
@@ -68,7 +68,7 @@ impl Gathered {
     }
 }
 
-/// The text, with memory for so many bytes behind it.
+/// The text, with memory for `more` bytes behind it.
 pub(crate) fn with_room(alloc: Global, text: &[u8], more: usize) -> Result<Vec<u8>, Memory>
     ensures items { IfOk result (λ v. v.items ≡ text.now) }
     ensures room { IfOk result (λ v. length text.now + more ≤ vec_capacity v) }

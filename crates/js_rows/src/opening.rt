@@ -11,6 +11,13 @@ use crate::rows::behind;
 use js_doc::{Memory, Out, Stopped, stand_as_they_are};
 use std::alloc::Global;
 
+// What is kept of the empty location.
+const START: &[u8] = b",{\"absoluteKeywordLocation\":\"/";
+// How long that is which stands before the location.
+const START_LENGTH: usize = 29;
+// Longer locations aren't kept, so that nothing is allocated while rows are written.
+const LONGEST_KEPT: usize = 256;
+
 /// The text of a node up to the token of its absolute location, for the schema that was written last. Then neither are
 /// its escapes looked for again, nor is it written piece by piece.
 #[derive(Drop)]
@@ -21,13 +28,6 @@ pub(crate) struct Opening {
     ghost plain: { escape (schema_kept text.items) ≡ schema_kept text.items },
     ghost room: { 286 ≤ vec_capacity text },
 }
-
-// What is kept of the empty location.
-const START: &[u8] = b",{\"absoluteKeywordLocation\":\"/";
-// How long that is which stands before the location.
-const START_LENGTH: usize = 29;
-// Longer locations aren't kept, so that nothing is allocated while rows are written.
-const LONGEST_KEPT: usize = 256;
 
 impl Opening {
     /// Keeps the empty location, and reserves all memory that it will need.

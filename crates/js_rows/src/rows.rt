@@ -4,10 +4,7 @@ ghost use Rattle.std.specs.Prelude.{vec_capacity};
 ghost use Rattle.std.specs.List.{list_all};
 ghost use Rattle.json.specs.Print.{escape};
 ghost use Rattle.js_doc.specs.Escapes.{stands};
-ghost use Rattle.js_tree.specs.Events.{opening, closing};
-ghost use Rattle.js_tree.specs.Result.{ResultTree};
 ghost use Rattle.js_tree.specs.Seen.{note_of};
-ghost use Rattle.js_tree.specs.Trimmed.{trimmed_tree};
 ghost use Rattle.js_rows.specs.RelativeState.{AreRowsOf, AreTrimmedOf, AreWhole, DropsSilentLeaf, IsRootAt, node_above};
 ghost use Rattle.js_rows.specs.RelativeState.{open_node, open_nodes, part, relative_after, relative_start};
 ghost use Rattle.js_rows.specs.RelativeState.{relative_state, row_goes, trimming_start};
@@ -64,6 +61,10 @@ pub struct RelativeRows<'a> {
 }
 
 impl<'a> RelativeRows<'a> {
+    ghost use Rattle.js_tree.specs.Events.{opening, closing};
+    ghost use Rattle.js_tree.specs.Result.{ResultTree};
+    ghost use Rattle.js_tree.specs.Trimmed.{trimmed_tree};
+
     /// No nodes yet. It allocates nothing.
     pub fn new(alloc: Global, arena: &'a Bump) -> RelativeRows<'a>
         ensures { relative_state result ≡ relative_start }
@@ -279,8 +280,7 @@ impl<'a> RelativeRows<'a> {
     }
 }
 
-// Whether the row of a node that closes goes: it has no note, and of its subtree's rows, which are so many, only it is
-// left.
+// Whether the row of a node that closes goes: it has no note, and of the `size` rows of its subtree only it is left.
 pub(crate) fn goes(trims: bool, note: &Note<'_>, size: usize) -> bool
     ensures { result ≡ row_goes trims (note_of note.now) size }
 {

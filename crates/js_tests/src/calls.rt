@@ -18,9 +18,9 @@ mod flat_lists;
 mod hand_made;
 mod places;
 mod results;
-mod telling;
 mod trees;
 mod values;
+mod writing;
 
 use crate::word_at;
 use js_bundle::Schemas;
@@ -28,7 +28,7 @@ use std::alloc::Global;
 use std::io::Write;
 use std::test::Fail;
 use std::{env, io};
-use telling::say;
+use writing::say;
 
 /// Without words, as the gate runs each test, the only question is a pointer's fragment.
 #[test]

@@ -3,7 +3,7 @@ use Rattle.std.proofs.Common.{◌≡◌, ◌≢◌, suc, Bool, true, false, ◌&
 use Rattle.std.specs.Cmp.{IsEquivalence, equiv}
 use Rattle.js_tree.specs.Forest.{Forest, empty, tree, Rose, forest_of}
 use Rattle.js_tree.specs.Merged.{alike, alike_trees}
-use Rattle.js_tree.proofs.Steps.{and_left, and_right}
+use Rattle.js_tree.proofs.Rewrites.{and_left, and_right}
 
 and-false : (b : Bool) → (b && false) ≡ false
 and-false true = refl
@@ -15,7 +15,8 @@ module _ {A : Type 0} (same : A → A → Bool) where
   other_length [] [] n = absurd (n refl)
   other_length [] (u ∷ us) n = refl
   other_length (t ∷ ts) [] n = refl
-  other_length (t ∷ ts) (u ∷ us) n = rw (other_length ts us (λ e. n (ap suc e))) (and-false (alike_trees same t.root t.below u.root u.below))
+  other_length (t ∷ ts) (u ∷ us) n =
+      rw (other_length ts us (λ e. n (ap suc e))) (and-false (alike_trees same t.root t.below u.root u.below))
 
 module _ {A : Type 0} (same : A → A → Bool) (e : IsEquivalence same) where
   alike-refl : (f : Forest A) → alike same f f ≡ true
@@ -26,7 +27,8 @@ module _ {A : Type 0} (same : A → A → Bool) (e : IsEquivalence same) where
   alike-symm empty empty = refl
   alike-symm empty (tree b under others) = refl
   alike-symm (tree a below after) empty = refl
-  alike-symm (tree a below after) (tree b under others) = λ i. (e.symm a b i && alike-symm below under i) && alike-symm after others i
+  alike-symm (tree a below after) (tree b under others) = λ i. (e.symm a b i && alike-symm below under i)
+      && alike-symm after others i
 
   alike-trans : (f g h : Forest A) → alike same f g ≡ true → alike same g h ≡ true → alike same f h ≡ true
   alike-trans empty empty h p q = q
@@ -38,7 +40,8 @@ module _ {A : Type 0} (same : A → A → Bool) (e : IsEquivalence same) where
       let next = and_left (alike_trees same b under c deep) _ q in
       let root : same a c ≡ true = e.congr a b c (and_left (same a b) _ here) ∙ and_left (same b c) _ next in
       let down = alike-trans below under deep (and_right (same a b) _ here) (and_right (same b c) _ next) in
-      let on = alike-trans after others last (and_right (alike_trees same a below b under) _ p) (and_right (alike_trees same b under c deep) _ q) in
+      let on = alike-trans after others last (and_right (alike_trees same a below b under) _ p)
+      (and_right (alike_trees same b under c deep) _ q) in
       rw (root, down, on) refl
 
   pub alike_equiv : IsEquivalence (alike same)
@@ -49,10 +52,12 @@ module _ {A : Type 0} (same : A → A → Bool) (e : IsEquivalence same) where
   pub alike_trees-refl : (a : A) (below : Forest A) → alike_trees same a below a below ≡ true
   alike_trees-refl a below = rw (e.refl a, alike-refl below) refl
 
-  pub alike_trees-symm : (a : A) (below : Forest A) (b : A) (under : Forest A) → alike_trees same a below b under ≡ alike_trees same b under a below
+  pub alike_trees-symm : (a : A) (below : Forest A) (b : A) (under : Forest A)
+      → alike_trees same a below b under ≡ alike_trees same b under a below
   alike_trees-symm a below b under = λ i. e.symm a b i && alike-symm below under i
 
-  pub alike_trees-congr : (a : A) (below : Forest A) (b : A) (under : Forest A) (c : A) (deep : Forest A) → alike_trees same a below b under ≡ true → alike_trees same a below c deep ≡ alike_trees same b under c deep
+  pub alike_trees-congr : (a : A) (below : Forest A) (b : A) (under : Forest A) (c : A) (deep : Forest A)
+      → alike_trees same a below b under ≡ true → alike_trees same a below c deep ≡ alike_trees same b under c deep
   alike_trees-congr a below b under c deep p =
       let root = e.congr a b c (and_left (same a b) _ p) in
       let down = (alike_equiv).congr below under deep (and_right (same a b) _ p) in

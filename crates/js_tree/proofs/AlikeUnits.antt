@@ -9,7 +9,7 @@ use Rattle.js_tree.specs.Note.{Note, silent, error, value, names, index, indexes
 use Rattle.js_tree.specs.OutputUnit.{OutputUnit}
 use Rattle.js_tree.specs.Forest.{empty}
 use Rattle.js_tree.specs.Result.{ResultTree}
-use Rattle.js_tree.proofs.Steps.{and_left, and_right}
+use Rattle.js_tree.proofs.Rewrites.{and_left, and_right}
 
 same_note-refl : (n : Note) → same_note n n ≡ true
 same_note-refl silent = refl
@@ -42,20 +42,32 @@ same_but_keyword-sound u v e =
 
 same_but_keyword-refl : (u : OutputUnit) → same_but_keyword u u ≡ true
 same_but_keyword-refl u =
-    rw ((booleans_Decides u.valid u.valid).1 refl, (bytes_decides u.instance u.instance).1 refl, (bytes_decides u.absolute u.absolute).1 refl) (same_note-refl u.note)
+    rw (
+      (booleans_Decides u.valid u.valid).1 refl,
+      (bytes_decides u.instance u.instance).1 refl,
+      (bytes_decides u.absolute u.absolute).1 refl,
+    ) (same_note-refl u.note)
 
-pub same_but_keyword_decides : (u v : OutputUnit) → Decides (same_but_keyword u v) (without_keyword u ≡ without_keyword v)
-same_but_keyword_decides u v = (same_but_keyword-sound u v, λ e. let p : same_but_keyword u v ≡ same_but_keyword v v = ap (λ w. same_but_keyword w v) e in p ∙ same_but_keyword-refl v)
+pub same_but_keyword_decides : (u v : OutputUnit)
+    → Decides (same_but_keyword u v) (without_keyword u ≡ without_keyword v)
+same_but_keyword_decides u v = (
+  same_but_keyword-sound u v,
+  λ e. let p : same_but_keyword u v
+      ≡ same_but_keyword v v = ap (λ w. same_but_keyword w v) e in p ∙ same_but_keyword-refl v,
+)
 
 pub same_but_keyword_equiv : IsEquivalence same_but_keyword
 same_but_keyword_equiv = record {
   refl = same_but_keyword-refl;
-  symm = λ u v. one_answer (same_but_keyword u v) (same_but_keyword v u) (same_but_keyword_decides u v) (λ e. sym ((same_but_keyword_decides v u).0 e), λ e. (same_but_keyword_decides v u).1 (sym e));
+  symm = λ u v. one_answer (same_but_keyword u v) (same_but_keyword v u) (same_but_keyword_decides u v)
+      (λ e. sym ((same_but_keyword_decides v u).0 e), λ e. (same_but_keyword_decides v u).1 (sym e));
   congr = λ u v w e.
       let x = (same_but_keyword_decides u v).0 e in
-      one_answer (same_but_keyword u w) (same_but_keyword v w) (same_but_keyword_decides u w) (λ h. x ∙ (same_but_keyword_decides v w).0 h, λ h. (same_but_keyword_decides v w).1 (sym x ∙ h));
+      one_answer (same_but_keyword u w) (same_but_keyword v w) (same_but_keyword_decides u w)
+      (λ h. x ∙ (same_but_keyword_decides v w).0 h, λ h. (same_but_keyword_decides v w).1 (sym x ∙ h));
 }
 
 -- a tree to name where a list has none
 pub some_tree : ResultTree
-some_tree = record { root = record { valid = true; keyword = []; absolute = []; instance = []; note = silent }; below = empty }
+some_tree =
+    record { root = record { valid = true; keyword = []; absolute = []; instance = []; note = silent }; below = empty }

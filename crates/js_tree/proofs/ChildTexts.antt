@@ -1,5 +1,6 @@
 -- The arrays of children, of trees and of rows.
-use Rattle.std.proofs.Common.{◌≡◌, ℕ, Bool, false, suc, ◌+◌, ◌-◌, ◌<◌, List, [], ◌∷◌, ◌++◌, length, take, drop, map, get_or, refl, ap, sym, ◌∙◌, arith}
+use Rattle.std.proofs.Common.{◌≡◌, ℕ, Bool, false, suc, ◌+◌, ◌-◌, ◌<◌, List, [], ◌∷◌, ◌++◌, length}
+use Rattle.std.proofs.Common.{take, drop, map, get_or, refl, ap, sym, ◌∙◌, arith}
 use Rattle.std.proofs.lemmas.List.{drop_more}
 use Rattle.js_doc.specs.BytesOut.{Progress}
 use Rattle.js_doc.specs.Compact.{compact, compact_items}
@@ -30,12 +31,15 @@ tree_parent_text u ts children t h e is =
     parent_text u ts h
     ∙ (ap (λ us. compact (node_value u (node_values (forest_of us)))) e ∙ ap (λ t. compact (verbose t)) is)
 
-pub leaf_text : (u : OutputUnit) (ts : List ResultTree) → length ts ≡ 0 → compact (node_value u []) ≡ compact (node_value u (node_values (forest_of ts)))
+pub leaf_text : (u : OutputUnit) (ts : List ResultTree) → length ts ≡ 0
+    → compact (node_value u []) ≡ compact (node_value u (node_values (forest_of ts)))
 leaf_text u [] h = refl
 leaf_text u (t ∷ ts) h = absurd (omega (arith, h))
 
-pub tree_next : (ts : List ResultTree) (i : ℕ) (t : ResultTree) → i < length ts → t ≡ get_or ts i t → node_values (forest_of (drop i ts)) ≡ verbose t ∷ node_values (forest_of (drop (i + 1) ts))
-tree_next ts i t h e = ap (λ us. node_values (forest_of us)) (drop_more ts i t h ∙ ap (λ u. u ∷ drop (i + 1) ts) (sym e))
+pub tree_next : (ts : List ResultTree) (i : ℕ) (t : ResultTree) → i < length ts → t ≡ get_or ts i t
+    → node_values (forest_of (drop i ts)) ≡ verbose t ∷ node_values (forest_of (drop (i + 1) ts))
+tree_next ts i t h e = ap (λ us. node_values (forest_of us))
+    (drop_more ts i t h ∙ ap (λ u. u ∷ drop (i + 1) ts) (sym e))
 
 -- ---- of rows
 
@@ -44,12 +48,15 @@ abbrev pub WroteTrees : Progress → Progress → Bool → Forest OutputUnit →
 WroteTrees old new later f left =
     Wrote old new (compact_items later (items (node_values left))) (compact_items false (items (node_values f)))
 
-pub row_parent_text : {R : Type 0} (row_of : R → FlatRow) (u : OutputUnit) (rows : List R) (f : Forest OutputUnit) → 0 < length rows → map row_of rows ≡ flat_of f → front_text u ++ (compact_items false (items (node_values f)) ++ back_text u) ≡ compact (node_value u (node_values f))
+pub row_parent_text : {R : Type 0} (row_of : R → FlatRow) (u : OutputUnit) (rows : List R) (f : Forest OutputUnit)
+    → 0 < length rows → map row_of rows ≡ flat_of f → front_text u
+    ++ (compact_items false (items (node_values f)) ++ back_text u) ≡ compact (node_value u (node_values f))
 row_parent_text row_of u [] f h e = absurd (omega (arith, h))
 row_parent_text row_of u (r ∷ rows) empty h e = absurd cc
 row_parent_text row_of u (r ∷ rows) (tree w below after) h e = parent_text_is u _ _
 
-pub row_leaf_text : {R : Type 0} (row_of : R → FlatRow) (u : OutputUnit) (rows : List R) (f : Forest OutputUnit) → length rows ≡ 0 → map row_of rows ≡ flat_of f → compact (node_value u []) ≡ compact (node_value u (node_values f))
+pub row_leaf_text : {R : Type 0} (row_of : R → FlatRow) (u : OutputUnit) (rows : List R) (f : Forest OutputUnit)
+    → length rows ≡ 0 → map row_of rows ≡ flat_of f → compact (node_value u []) ≡ compact (node_value u (node_values f))
 row_leaf_text row_of u [] empty h e = refl
 row_leaf_text row_of u [] (tree w below after) h e = absurd cc
 row_leaf_text row_of u (r ∷ rows) f h e = absurd (omega (arith, h))

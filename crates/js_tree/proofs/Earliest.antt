@@ -7,13 +7,15 @@ use Rattle.js_tree.specs.MergedResult.{without_keywords}
 use Rattle.js_tree.specs.OutputUnit.{OutputUnit}
 use Rattle.js_tree.proofs.AlikeUnits.{same_but_keyword_decides}
 use Rattle.js_tree.proofs.MergedTree.{unlike-append}
-use Rattle.js_tree.proofs.Steps.{and_left, and_right, or_left, or_right}
+use Rattle.js_tree.proofs.Rewrites.{and_left, and_right, or_left, or_right}
 
 module _ {A : Type 0} (same : A → A → Bool) where
-  unlike_kept : (b : A) (under : Forest A) (a : A) (below after : Forest A) → alike_trees same b under a below ≡ false → unlike same b under (tree a below after) ≡ tree a below (unlike same b under after)
+  unlike_kept : (b : A) (under : Forest A) (a : A) (below after : Forest A) → alike_trees same b under a below ≡ false
+      → unlike same b under (tree a below after) ≡ tree a below (unlike same b under after)
   unlike_kept b under a below after n = rw n refl
 
-  pub earliest_stays : (f : Forest A) (a : A) (below g : Forest A) → has_alike same f a below ≡ false → (h : Forest A) × (firsts same (f ⊹ tree a below g) ≡ (firsts same f ⊹ tree a below h))
+  pub earliest_stays : (f : Forest A) (a : A) (below g : Forest A) → has_alike same f a below ≡ false
+      → (h : Forest A) × (firsts same (f ⊹ tree a below g) ≡ (firsts same f ⊹ tree a below h))
   earliest_stays empty a below g e = (unlike same a below (firsts same g), refl)
   earliest_stays (tree b under others) a below g e =
       let rest = earliest_stays others a below g (or_right (alike_trees same b under a below) _ e) in (
@@ -21,7 +23,8 @@ module _ {A : Type 0} (same : A → A → Bool) where
         ap (λ x. tree b under (unlike same b under x)) rest.1
             ∙ ap (tree b under)
             (unlike-append same b under (firsts same others) (tree a below rest.0)
-            ∙ ap (λ x. unlike same b under (firsts same others) ⊹ x) (unlike_kept b under a below rest.0 (or_left (alike_trees same b under a below) _ e))),
+            ∙ ap (λ x. unlike same b under (firsts same others) ⊹ x)
+            (unlike_kept b under a below rest.0 (or_left (alike_trees same b under a below) _ e))),
       )
 
 alike-without : (f g : Forest OutputUnit) → alike same_but_keyword f g ≡ true → without_keywords f ≡ without_keywords g
@@ -45,5 +48,6 @@ without-alike (tree a below after) (tree b under others) e =
     let on : without_keywords after ≡ without_keywords others = cc in
     rw ((same_but_keyword_decides a b).1 root, without-alike below under down, without-alike after others on) refl
 
-pub alike_decides : (f g : Forest OutputUnit) → (alike same_but_keyword f g ≡ true → without_keywords f ≡ without_keywords g) × (without_keywords f ≡ without_keywords g → alike same_but_keyword f g ≡ true)
+pub alike_decides : (f g : Forest OutputUnit) → (alike same_but_keyword f g ≡ true → without_keywords f
+    ≡ without_keywords g) × (without_keywords f ≡ without_keywords g → alike same_but_keyword f g ≡ true)
 alike_decides f g = (alike-without f g, without-alike f g)

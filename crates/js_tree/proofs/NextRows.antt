@@ -18,15 +18,18 @@ slice_of_first row_of rows n f x t =
     ∙ (t.all ∙ sym (flat_form-flat_of (record { root = t.unit; below = t.below })))
 
 -- the trees from the row n on are left, and with them what is kept of all trees
-abbrev pub TreesLeft : {R : Type 0} → (R → FlatRow) → List R → ℕ → (Forest OutputUnit → Forest OutputUnit → Type 0) → Type 0
+abbrev pub TreesLeft : {R : Type 0} → (R → FlatRow) → List R → ℕ
+    → (Forest OutputUnit → Forest OutputUnit → Type 0) → Type 0
 TreesLeft row_of rows n Kept =
     (n ≤ length rows)
     × ((f : Forest OutputUnit) → map row_of rows ≡ flat_of f
     → (left : Forest OutputUnit) × (map row_of (drop n rows) ≡ flat_of left) × Kept f left)
 
 -- without the next of them
-pub next_done : {R : Type 0} (row_of : R → FlatRow) (rows : List R) (n : ℕ) (x : R) (Kept Now : Forest OutputUnit → Forest OutputUnit → Type 0)
-    → (f : Forest OutputUnit) × (map row_of rows ≡ flat_of f) → TreesLeft row_of rows n Kept → n < length rows → x ≡ get_or rows n x
+pub next_done : {R : Type 0} (row_of : R → FlatRow) (rows : List R) (n : ℕ) (x : R) (Kept Now : Forest OutputUnit
+    → Forest OutputUnit → Type 0)
+    → (f : Forest OutputUnit) × (map row_of rows ≡ flat_of f) → TreesLeft row_of rows n Kept
+    → n < length rows → x ≡ get_or rows n x
     → ((f left : Forest OutputUnit) → (t : FirstTree row_of rows n left x) → Kept f left → Now f t.after)
     → TreesLeft row_of rows (n + (row_of x).1) Now
 next_done row_of rows n x Kept Now some w h is done =

@@ -1,5 +1,7 @@
--- Places that are told apart by an order: where they are as many as there are, they are all, and no two of all are tied.
-use Rattle.std.proofs.Common.{◌≡◌, ◌≢◌, ℕ, zero, suc, ◌≤◌, ◌<◌, ◌==◌, Bool, true, false, ◌||◌, if◌then◌else◌, List, [], ◌∷◌, length, refl, ap, sym, ◌∙◌, arith}
+-- Places that an order distinguishes: where they are as many as there are, they are all, and no two of all are
+-- tied.
+use Rattle.std.proofs.Common.{◌≡◌, ◌≢◌, ℕ, zero, suc, ◌≤◌, ◌<◌, ◌==◌, Bool, true, false, ◌||◌}
+use Rattle.std.proofs.Common.{if◌then◌else◌, List, [], ◌∷◌, length, refl, ap, sym, ◌∙◌, arith}
 use Rattle.std.proofs.lemmas.Cmp.{tied_itself}
 use Rattle.std.specs.Cmp.{IsTotalOrder, unsigned_Decides}
 use Rattle.std.specs.Ordering.{ordering_reverse}
@@ -47,7 +49,8 @@ one_fewer : (n : ℕ) (ps : List ℕ) → AreDistinct ps → length ps ≤ suc (
 one_fewer n [] d = omega arith
 one_fewer n (p ∷ ps) d = at (p == n) refl (one_fewer n ps d.1)
   where
-    at : (v : Bool) → (p == n) ≡ v → length ps ≤ suc (length (without n ps)) → suc (length ps) ≤ suc (length (if v then without n ps else p ∷ without n ps))
+    at : (v : Bool) → (p == n) ≡ v → length ps ≤ suc (length (without n ps))
+        → suc (length ps) ≤ suc (length (if v then without n ps else p ∷ without n ps))
     at true e i =
         let o : without n ps ≡ ps = ap (λ k. without k ps) (sym (equals p n e)) ∙ without-out p ps d.0 in
         let l : length (without n ps) ≡ length ps = ap length o in omega (arith, l)
@@ -76,7 +79,8 @@ below-without n (p ∷ ps) b = at (p == n) refl (below-without n ps b.1)
     less : p < suc n → p ≢ n → p < n
     less h d = omega (arith, h, d)
 
-    at : (v : Bool) → (p == n) ≡ v → AreBelow n (without n ps) → AreBelow n (if v then without n ps else p ∷ without n ps)
+    at : (v : Bool) → (p == n) ≡ v → AreBelow n (without n ps)
+        → AreBelow n (if v then without n ps else p ∷ without n ps)
     at true e i = i
     at false e i = (less b.0 (differs p n e), i)
 
@@ -125,8 +129,11 @@ module _ (r : ℕ → ℕ → Ordering) (total : IsTotalOrder r) where
 
   before-out : (p : ℕ) (ps : List ℕ) → AreBefore r p ps → IsOut p ps
   before-out p [] b = tt
-  before-out p (q ∷ ps) b =
-      ((λ e. let t : Less ≡ Equal = sym b.0 ∙ ap (λ k. r k p) e ∙ tied_itself total p in absurd cc), before-out p ps b.1)
+  before-out p (q ∷ ps) b = (
+    (λ e. let t : Less ≡ Equal = sym b.0 ∙ ap (λ k. r k p) e ∙ tied_itself total p in
+        absurd cc),
+    before-out p ps b.1,
+  )
 
   falling-distinct : (ps : List ℕ) → AreFalling r ps → AreDistinct ps
   falling-distinct [] f = tt
@@ -147,7 +154,8 @@ module _ (r : ℕ → ℕ → Ordering) (total : IsTotalOrder r) where
   had-apart p q [] f h k e = absurd cc
   had-apart p q (x ∷ ps) f h k e = at (x == p) refl (x == q) refl h k (λ h k. had-apart p q ps f.1 h k e)
     where
-      at : (v : Bool) → (x == p) ≡ v → (w : Bool) → (x == q) ≡ w → (v || has p ps) ≡ true → (w || has q ps) ≡ true → (has p ps ≡ true → has q ps ≡ true → p ≡ q) → p ≡ q
+      at : (v : Bool) → (x == p) ≡ v → (w : Bool) → (x == q) ≡ w → (v || has p ps) ≡ true → (w || has q ps) ≡ true
+          → (has p ps ≡ true → has q ps ≡ true → p ≡ q) → p ≡ q
       at true i true j h k g = sym (equals x p i) ∙ equals x q j
       at true i false j h k g = absurd (not_tied p q (ap (λ y. r q y) (sym (equals x p i)) ∙ had-before x q ps f.0 k) e)
       at false i true j h k g =
@@ -155,7 +163,8 @@ module _ (r : ℕ → ℕ → Ordering) (total : IsTotalOrder r) where
           let t : Less ≡ Equal = sym l ∙ e in absurd cc
       at false i false j h k g = g h k
 
-  -- where so many places as there are fall, no two of all are tied
-  pub all_apart : (n : ℕ) (ps : List ℕ) → AreFalling r ps → AreBelow n ps → length ps ≡ n → (p q : ℕ) → p < n → q < n → r p q ≡ Equal → p ≡ q
+  -- where as many places fall as there are, no two of all are tied
+  pub all_apart : (n : ℕ) (ps : List ℕ) → AreFalling r ps → AreBelow n ps → length ps ≡ n → (p q : ℕ) → p < n → q < n
+      → r p q ≡ Equal → p ≡ q
   all_apart n ps f b l p q h k e =
       let d = falling-distinct ps f in had-apart p q ps f (all_are_had n ps d b l p h) (all_are_had n ps d b l q k) e

@@ -10,7 +10,7 @@ use Rattle.js_tree.specs.Note.{Note, silent, error, value, names, index, indexes
 use Rattle.js_tree.specs.OutputUnit.{OutputUnit, noted}
 use Rattle.js_tree.specs.Pruned.{pruned_below}
 use Rattle.js_tree.specs.Result.{ResultTree, has_verdict, kept, pruned, units}
-use Rattle.js_tree.specs.Step.{at_least_one, at_least_two}
+use Rattle.js_tree.specs.Rewrite.{at_least_one, at_least_two}
 use Rattle.js_tree.specs.Trimmed.{is_silent_leaf, trimmed, trimmed_tree}
 use Rattle.js_tree.specs.Units.{units_below}
 
@@ -29,29 +29,38 @@ pub silent_leaf : (u : OutputUnit) (f : Forest OutputUnit) → is_silent_leaf u 
 silent_leaf u empty e = (refl, silent_note u.note e)
 silent_leaf u (tree v below rest) e = absurd cc
 
--- ---- what comes of a tree from its label, what is below it and what is after it, and to which a silent leaf adds nothing
+-- ---- what comes of a tree from its label, what is below it and what is after it, and to which a silent leaf adds
+-- nothing
 
 module _ {X : Type 0} (come : Forest OutputUnit → X) (step : OutputUnit → X → X → X)
-    (stepped : (u : OutputUnit) (below after : Forest OutputUnit) → come (tree u below after) ≡ step u (come below) (come after))
+    (stepped : (u : OutputUnit) (below after : Forest OutputUnit)
+    → come (tree u below after) ≡ step u (come below) (come after))
     (passed : (u : OutputUnit) (x : X) → noted u ≡ false → step u (come empty) x ≡ x) (agrees : OutputUnit → Bool) where
   -- a silent leaf goes
-  gone : (a : Bool) (u : OutputUnit) (below after rest : Forest OutputUnit) → noted u ≡ false → come below ≡ come empty → come rest ≡ come after → come rest ≡ come (if a then tree u below after else after)
-  gone true u below after rest quiet none e = e ∙ (sym (passed u (come after) quiet) ∙ (ap (λ x. step u x (come after)) (sym none) ∙ sym (stepped u below after)))
+  gone : (a : Bool) (u : OutputUnit) (below after rest : Forest OutputUnit) → noted u ≡ false → come below ≡ come empty
+      → come rest ≡ come after → come rest ≡ come (if a then tree u below after else after)
+  gone true u below after rest quiet none e = e
+      ∙ (sym (passed u (come after) quiet) ∙ (ap (λ x. step u x (come after)) (sym none) ∙ sym (stepped u below after)))
   gone false u below after rest quiet none e = e
 
   -- another node stays
-  stays : (a : Bool) (u : OutputUnit) (left below rest after : Forest OutputUnit) → come left ≡ come below → come rest ≡ come after
+  stays : (a : Bool) (u : OutputUnit) (left below rest after : Forest OutputUnit) → come left ≡ come below
+      → come rest ≡ come after
       → come (if a then tree u left rest else rest) ≡ come (if a then tree u below after else after)
   stays true u left below rest after b e = stepped u left rest ∙ (ap₂ (step u) b e ∙ sym (stepped u below after))
   stays false u left below rest after b e = e
 
   either : (b : Bool) (u : OutputUnit) (below after : Forest OutputUnit) → is_silent_leaf u (trimmed below) ≡ b
-      → come (pruned_below agrees (trimmed below)) ≡ come (pruned_below agrees below) → come (pruned_below agrees (trimmed after)) ≡ come (pruned_below agrees after)
-      → come (pruned_below agrees (if b then trimmed after else tree u (trimmed below) (trimmed after))) ≡ come (pruned_below agrees (tree u below after))
+      → come (pruned_below agrees (trimmed below)) ≡ come (pruned_below agrees below)
+      → come (pruned_below agrees (trimmed after)) ≡ come (pruned_below agrees after)
+      → come (pruned_below agrees (if b then trimmed after else tree u (trimmed below) (trimmed after)))
+      ≡ come (pruned_below agrees (tree u below after))
   either true u below after leaf l r =
       let w = silent_leaf u (trimmed below) leaf in
-      gone (agrees u) u (pruned_below agrees below) (pruned_below agrees after) (pruned_below agrees (trimmed after)) (ap speaks w.1) (sym l ∙ ap (λ f. come (pruned_below agrees f)) w.0) r
-  either false u below after leaf l r = stays (agrees u) u (pruned_below agrees (trimmed below)) (pruned_below agrees below) (pruned_below agrees (trimmed after)) (pruned_below agrees after) l r
+      gone (agrees u) u (pruned_below agrees below) (pruned_below agrees after) (pruned_below agrees (trimmed after))
+      (ap speaks w.1) (sym l ∙ ap (λ f. come (pruned_below agrees f)) w.0) r
+  either false u below after leaf l r = stays (agrees u) u (pruned_below agrees (trimmed below))
+      (pruned_below agrees below) (pruned_below agrees (trimmed after)) (pruned_below agrees after) l r
 
   same : (f : Forest OutputUnit) → come (pruned_below agrees (trimmed f)) ≡ come (pruned_below agrees f)
   same empty = refl
@@ -85,10 +94,13 @@ kept_step u below after = (
 )
 
 kept_passed : (u : OutputUnit) (after : Counted) → noted u ≡ false → kept_step u (0, empty) after ≡ after
-kept_passed u after quiet = ap (λ b. (if (b || false) then suc after.0 else after.0, if (b || false) then tree u empty after.1 else (empty ⊹ after.1))) quiet
+kept_passed u after quiet = ap (λ b.
+    (if (b || false) then suc after.0 else after.0, if (b || false) then tree u empty after.1 else (empty ⊹ after.1)))
+    quiet
 
 pub same_kept : (t : ResultTree) → kept (pruned (trimmed_tree t)) ≡ kept (pruned t)
-same_kept t = ap (λ c. record { root = t.root; below = c.1 }) (same counted kept_step (λ u below after. refl) kept_passed (has_verdict t.root.valid) t.below)
+same_kept t = ap (λ c. record { root = t.root; below = c.1 })
+    (same counted kept_step (λ u below after. refl) kept_passed (has_verdict t.root.valid) t.below)
 
 -- ---- the merged tree
 
@@ -100,4 +112,5 @@ merged_passed u after quiet = ap (λ b. (if (b || false) then tree u empty empty
 
 pub same_merged : (t : ResultTree) → merged (pruned (trimmed_tree t)) ≡ merged (pruned t)
 same_merged t = ap (λ f. record { root = t.root; below = firsts same_but_keyword f })
-    (same (given_trees noted same_but_keyword) merged_step (λ u below after. refl) merged_passed (has_verdict t.root.valid) t.below)
+    (same (given_trees noted same_but_keyword) merged_step (λ u below after. refl) merged_passed
+    (has_verdict t.root.valid) t.below)

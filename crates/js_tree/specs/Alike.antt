@@ -19,8 +19,10 @@ same_note _ _ = false
 
 -- whether the units are equal except for their keyword locations
 abbrev pub same_but_keyword : OutputUnit → OutputUnit → Bool
-same_but_keyword u v = beq u.valid v.valid && (pointwise nat_eq u.instance v.instance && (pointwise nat_eq u.absolute v.absolute && same_note u.note v.note))
+same_but_keyword u v = beq u.valid v.valid
+    && (pointwise nat_eq u.instance v.instance && (pointwise nat_eq u.absolute v.absolute && same_note u.note v.note))
 
 -- the unit without its keyword location
 abbrev pub without_keyword : OutputUnit → OutputUnit
-without_keyword u = record { valid = u.valid; keyword = []; absolute = u.absolute; instance = u.instance; note = u.note }
+without_keyword u = record
+    { valid = u.valid; keyword = []; absolute = u.absolute; instance = u.instance; note = u.note }

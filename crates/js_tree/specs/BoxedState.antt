@@ -24,29 +24,42 @@ abbrev pub boxed_start : BoxedState
 boxed_start = record { frames = []; found = None }
 
 abbrev pub unit_of : Frame → Bool → Note → OutputUnit
-unit_of f valid note = record { valid = valid; keyword = f.keyword; absolute = f.absolute; instance = f.instance; note = note }
+unit_of f valid note = record
+    { valid = valid; keyword = f.keyword; absolute = f.absolute; instance = f.instance; note = note }
 
 -- with one more tree below
 abbrev pub with_tree : Frame → OutputUnit → Forest OutputUnit → Frame
-with_tree f u below = record { keyword = f.keyword; absolute = f.absolute; instance = f.instance; below = f.below ⊹ tree u below empty }
+with_tree f u below = record
+    { keyword = f.keyword; absolute = f.absolute; instance = f.instance; below = f.below ⊹ tree u below empty }
 
 -- no node opens after the root has closed
 abbrev pub boxed_opened : Option ResultTree → List Frame → List ℕ → List ℕ → List ℕ → BoxedState
-boxed_opened None frames keyword absolute instance = record { frames = record { keyword = keyword; absolute = absolute; instance = instance; below = empty } ∷ frames; found = None }
+boxed_opened None frames keyword absolute instance = record {
+  frames =
+      record { keyword = keyword; absolute = absolute; instance = instance; below = empty } ∷ frames;
+  found = None;
+}
 boxed_opened (Some t) frames keyword absolute instance = record { frames = frames; found = Some t }
 
 -- without an open node nothing closes
 abbrev pub boxed_closed : Option ResultTree → List Frame → Bool → Note → BoxedState
 boxed_closed found [] valid note = record { frames = []; found = found }
-boxed_closed found (f ∷ []) valid note = record { frames = []; found = Some (record { root = unit_of f valid note; below = f.below }) }
-boxed_closed found (f ∷ g ∷ frames) valid note = record { frames = with_tree g (unit_of f valid note) f.below ∷ frames; found = found }
+boxed_closed found (f ∷ []) valid note =
+    record { frames = []; found = Some (record { root = unit_of f valid note; below = f.below }) }
+boxed_closed found (f ∷ g ∷ frames) valid note =
+    record { frames = with_tree g (unit_of f valid note) f.below ∷ frames; found = found }
 
 abbrev pub boxed_after : BoxedState → Event → BoxedState
 boxed_after s (opening keyword absolute instance) = boxed_opened s.found s.frames keyword absolute instance
 boxed_after s (closing valid note) = boxed_closed s.found s.frames valid note
 
 abbrev pub frame_of : OpenTree → Frame
-frame_of o = record { keyword = o.head.keyword; absolute = o.head.absolute; instance = o.head.instance; below = forest_of o.children.items }
+frame_of o = record {
+  keyword = o.head.keyword;
+  absolute = o.head.absolute;
+  instance = o.head.instance;
+  below = forest_of o.children.items;
+}
 
 -- the last of the list comes first
 abbrev pub frames_of : List OpenTree → List Frame → List Frame

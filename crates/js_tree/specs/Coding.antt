@@ -1,4 +1,4 @@
--- How a forest is written as a list, and read back; so proofs can tell forests apart.
+-- How a forest is written as a list, and read back; so proofs can distinguish forests.
 use Rattle.std.specs.Prelude.{◌≡◌, ◌⊎◌, ℕ, Bool, List, [], ◌∷◌, Option, Some, None, refl}
 use mathlib.Core.Logic.{inl, inr}
 use Rattle.std.proofs.Common.{ap}
@@ -31,10 +31,12 @@ module _ {A : Type 0} where
   read (None ∷ xs) = at_closing (read xs)
   read (Some a ∷ xs) = at_opening a (read xs)
 
-  pub read-bracketed : (f : Forest A) (rest : List (Option A)) (waiting : List (Forest A)) → read rest ≡ (empty, waiting) → read (bracketed f rest) ≡ (f, waiting)
+  pub read-bracketed : (f : Forest A) (rest : List (Option A)) (waiting : List (Forest A))
+      → read rest ≡ (empty, waiting) → read (bracketed f rest) ≡ (f, waiting)
   read-bracketed empty rest waiting e = e
   read-bracketed (tree a below after) rest waiting e =
-      ap (at_opening a) (read-bracketed below (None ∷ bracketed after rest) (after ∷ waiting) (ap at_closing (read-bracketed after rest waiting e)))
+      ap (at_opening a) (read-bracketed below (None ∷ bracketed after rest) (after ∷ waiting)
+      (ap at_closing (read-bracketed after rest waiting e)))
 
   abbrev pub forest_code : Coded A → Coded (Forest A)
   forest_code c =
@@ -43,7 +45,8 @@ module _ {A : Type 0} where
 
   abbrev pub rose_code : Coded A → Coded (Rose A)
   rose_code c =
-      code_by (A × Forest A) (coded× c (forest_code c)) (λ t. (t.root, t.below)) (λ p. record { root = p.0; below = p.1 }) (λ _. refl)
+      code_by (A × Forest A) (coded× c (forest_code c)) (λ t. (t.root, t.below))
+      (λ p. record { root = p.0; below = p.1 }) (λ _. refl)
 
 -- what a note is made of, by its kind
 abbrev Said : Type 0
@@ -81,11 +84,14 @@ text_code = coded_list coded_ℕ
 
 abbrev pub note_code : Coded Note
 note_code =
-    code_by Said (coded_option (coded⊎ text_code (coded⊎ value_code (coded⊎ (coded_list text_code) (coded⊎ coded_ℕ (coded_option text_code)))))) said
+    code_by Said (coded_option (coded⊎ text_code
+    (coded⊎ value_code (coded⊎ (coded_list text_code) (coded⊎ coded_ℕ (coded_option text_code)))))) said
     saying saying-said
 
 abbrev pub unit_code : Coded OutputUnit
 unit_code =
-    code_by (Bool × (List ℕ × (List ℕ × (List ℕ × Note)))) (coded× coded_bool (coded× text_code (coded× text_code (coded× text_code note_code))))
+    code_by (Bool × (List ℕ × (List ℕ × (List ℕ × Note))))
+    (coded× coded_bool (coded× text_code (coded× text_code (coded× text_code note_code))))
     (λ u. (u.valid, (u.keyword, (u.absolute, (u.instance, u.note)))))
-    (λ p. record { valid = p.0; keyword = p.1.0; absolute = p.1.1.0; instance = p.1.1.1.0; note = p.1.1.1.1 }) (λ _. refl)
+    (λ p. record { valid = p.0; keyword = p.1.0; absolute = p.1.1.0; instance = p.1.1.1.0; note = p.1.1.1.1 })
+    (λ _. refl)

@@ -8,9 +8,9 @@ use Rattle.js_tree.specs.OutputUnit.{OutputUnit}
 
 module _ {A Event : Type 0} (opened closed : A → Event) where
   -- the events of sibling trees
-  abbrev pub told : Forest A → List Event
-  told empty = []
-  told (tree a below after) = opened a ∷ (told below ++ (closed a ∷ told after))
+  abbrev pub reported : Forest A → List Event
+  reported empty = []
+  reported (tree a below after) = opened a ∷ (reported below ++ (closed a ∷ reported after))
 
 -- ---- of a result
 
@@ -28,7 +28,7 @@ closing_of u = closing u.valid u.note
 
 -- the events of sibling trees
 abbrev pub events_of : Forest OutputUnit → List Event
-events_of = told opening_of closing_of
+events_of = reported opening_of closing_of
 
 -- the events of a tree
 abbrev pub events : Rose OutputUnit → List Event

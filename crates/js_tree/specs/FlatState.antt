@@ -34,7 +34,8 @@ noted_of (r ∷ rows) = if noted r.0 then r.0 ∷ noted_of rows else noted_of ro
 
 -- the row of an open node, of which only the locations are known
 abbrev pub opening_row : List ℕ → List ℕ → List ℕ → FlatRow
-opening_row keyword absolute instance = (record { valid = false; keyword = keyword; absolute = absolute; instance = instance; note = silent }, 0)
+opening_row keyword absolute instance =
+    (record { valid = false; keyword = keyword; absolute = absolute; instance = instance; note = silent }, 0)
 
 -- no node opens after the root has closed, that is if there are rows and none is open
 abbrev pub flat_opened : List FlatRow → List ℕ → FlatRow → FlatState
@@ -43,7 +44,8 @@ flat_opened (r ∷ rows) [] row = record { rows = r ∷ rows; numbers = [] }
 flat_opened rows (n ∷ numbers) row = record { rows = rows ++ row ∷ []; numbers = length rows ∷ n ∷ numbers }
 
 abbrev pub closed_unit : OutputUnit → Bool → Note → OutputUnit
-closed_unit u valid note = record { valid = valid; keyword = u.keyword; absolute = u.absolute; instance = u.instance; note = note }
+closed_unit u valid note =
+    record { valid = valid; keyword = u.keyword; absolute = u.absolute; instance = u.instance; note = note }
 
 abbrev pub closed_row : FlatRow → Bool → Note → ℕ → FlatRow
 closed_row row valid note size = (closed_unit row.0 valid note, size)
@@ -57,7 +59,8 @@ with_closed (suc n) valid note size (r ∷ rows) = r ∷ with_closed n valid not
 -- without an open node nothing closes
 abbrev pub flat_closed : List FlatRow → List ℕ → Bool → Note → FlatState
 flat_closed rows [] valid note = record { rows = rows; numbers = [] }
-flat_closed rows (n ∷ numbers) valid note = record { rows = with_closed n valid note (length rows - n) rows; numbers = numbers }
+flat_closed rows (n ∷ numbers) valid note =
+    record { rows = with_closed n valid note (length rows - n) rows; numbers = numbers }
 
 abbrev pub flat_after : FlatState → Event → FlatState
 flat_after s (opening keyword absolute instance) = flat_opened s.rows s.numbers (opening_row keyword absolute instance)

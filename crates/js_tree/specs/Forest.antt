@@ -40,6 +40,7 @@ height empty = 0
 height (tree a below after) = max (suc (height below)) (height after)
 
 -- a tree is smaller than the forest that it is in
-pub most_le-node_count : {A : Type 0} → (ts : List (Rose A)) → most (λ t. (node_count t.below + node_count t.below + 2) + 1) ts ≤ node_count (forest_of ts) + node_count (forest_of ts) + 1
+pub most_le-node_count : {A : Type 0} → (ts : List (Rose A)) → most (λ t.
+    (node_count t.below + node_count t.below + 2) + 1) ts ≤ node_count (forest_of ts) + node_count (forest_of ts) + 1
 most_le-node_count [] = omega arith
 most_le-node_count (t ∷ ts) = omega (arith, most_le-node_count ts)

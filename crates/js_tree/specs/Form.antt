@@ -51,7 +51,8 @@ node_value u children =
     ++ (member_of_some (codes "annotations") (value_if u.valid (array_of_some children))
     ++ (member_of_some (codes "error") (error_value u.note)
     ++ (member_of_some (codes "errors") (value_if (not u.valid) (array_of_some children))
-    ++ ((codes "instanceLocation", text u.instance) ∷ (codes "keywordLocation", text u.keyword) ∷ (codes "valid", truth u.valid) ∷ [])))))
+    ++ ((codes "instanceLocation", text u.instance) ∷ (codes "keywordLocation", text u.keyword)
+    ∷ (codes "valid", truth u.valid) ∷ [])))))
     ))
 
 abbrev pub node_values : Forest OutputUnit → List Value
@@ -74,7 +75,8 @@ list_name false = codes "errors"
 
 -- the verdict, and an array of the units, each without children; the array is there even if it is empty
 abbrev pub unit_list : ResultTree → Value
-unit_list t = object (members ((list_name t.root.valid, list (items (map (λ u. node_value u []) (units t)))) ∷ (codes "valid", truth t.root.valid) ∷ []))
+unit_list t = object (members ((list_name t.root.valid, list (items (map (λ u. node_value u []) (units t))))
+    ∷ (codes "valid", truth t.root.valid) ∷ []))
 
 -- what a format shows, given the tree that it shows: the pruned tree for basic, the condensed one for detailed, the
 -- merged one for merged, and else the whole tree

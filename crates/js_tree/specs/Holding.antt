@@ -13,7 +13,8 @@ use Rattle.js_tree.specs.declared.collecting.verdict.Verdict.{Verdict}
 abbrev pub VerdictHolds : Type 0
 VerdictHolds =
     (t : ResultTree) (c d : Verdict) → suc (height t.below) < 2 ^ 64 → verdict_state c ≡ verdict_start
-    → Passes (λ a e b. verdict_state b ≡ verdict_after (verdict_state a) e) (events t) c d → (verdict_state d).valid ≡ Some t.root.valid
+    → Passes (λ a e b. verdict_state b ≡ verdict_after (verdict_state a) e) (events t) c d
+    → (verdict_state d).valid ≡ Some t.root.valid
 
 abbrev pub BoxedHolds : Type 0
 BoxedHolds =

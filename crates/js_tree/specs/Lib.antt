@@ -17,7 +17,7 @@ pub mod OutputUnit
 pub mod Pruned
 pub mod Result
 pub mod Seen
-pub mod Step
+pub mod Rewrite
 pub mod Sublist
 pub mod Trimmed
 pub mod Units

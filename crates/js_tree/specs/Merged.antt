@@ -3,7 +3,7 @@
 -- of the labels with a note, and `same` of labels that are equal in all that counts.
 use Rattle.std.specs.Prelude.{◌≡◌, Bool, true, false, not, ◌||◌, ◌&&◌, if◌then◌else◌}
 use Rattle.js_tree.specs.Forest.{Forest, empty, tree, Rose, ◌⊹◌}
-use Rattle.js_tree.specs.Step.{ForestStep, node_stands}
+use Rattle.js_tree.specs.Rewrite.{ForestRewrite, node_stands}
 
 -- ---- alike trees
 
@@ -27,7 +27,8 @@ module _ {A : Type 0} (same : A → A → Bool) where
   -- those of the trees that aren't alike to that of a
   abbrev pub unlike : A → Forest A → Forest A → Forest A
   unlike a below empty = empty
-  unlike a below (tree b under others) = if alike_trees a below b under then unlike a below others else tree b under (unlike a below others)
+  unlike a below (tree b under others) =
+      if alike_trees a below b under then unlike a below others else tree b under (unlike a below others)
 
   -- those of the second that aren't alike to one of the first
   abbrev pub others : Forest A → Forest A → Forest A
@@ -42,7 +43,8 @@ module _ {A : Type 0} (same : A → A → Bool) where
   -- none of the trees is alike to an earlier one, nor to one of those before them all
   abbrev pub none_alike : Forest A → Forest A → Bool
   none_alike before empty = true
-  none_alike before (tree a below after) = not (has_alike before a below) && none_alike (before ⊹ tree a below empty) after
+  none_alike before (tree a below after) = not (has_alike before a below)
+      && none_alike (before ⊹ tree a below empty) after
 
   -- the trees without those that are alike to an earlier one
   abbrev pub firsts : Forest A → Forest A
@@ -71,22 +73,26 @@ module _ {A : Type 0} (noted : A → Bool) (same : A → A → Bool) where
   -- ---- steps and runs
 
   -- A step of one of the three rules at one node of trees, after other trees that stay as they are.
-  pub data MergeStep : Forest A → Forest A → Forest A → Type 0 where
-    condensed : {before f g : Forest A} → ForestStep noted f g → MergeStep before f g
-    doubled : {before below after : Forest A} {a : A} → has_alike same before a below ≡ true → MergeStep before (tree a below after) after
-    deeper : {before f g after : Forest A} {a : A} → MergeStep empty f g → MergeStep before (tree a f after) (tree a g after)
-    further : {before below f g : Forest A} {a : A} → MergeStep (before ⊹ tree a below empty) f g → MergeStep before (tree a below f) (tree a below g)
+  pub data MergeRewrite : Forest A → Forest A → Forest A → Type 0 where
+    condensed : {before f g : Forest A} → ForestRewrite noted f g → MergeRewrite before f g
+    doubled : {before below after : Forest A} {a : A} → has_alike same before a below ≡ true
+        → MergeRewrite before (tree a below after) after
+    deeper : {before f g after : Forest A} {a : A} → MergeRewrite empty f g
+        → MergeRewrite before (tree a f after) (tree a g after)
+    further : {before below f g : Forest A} {a : A} → MergeRewrite (before ⊹ tree a below empty) f g
+        → MergeRewrite before (tree a below f) (tree a below g)
 
   -- steps one after another
   pub data MergeRun : Forest A → Forest A → Forest A → Type 0 where
     ended : {before f : Forest A} → MergeRun before f f
-    then_on : {before f g h : Forest A} → MergeStep before f g → MergeRun before g h → MergeRun before f h
+    then_on : {before f g h : Forest A} → MergeRewrite before f g → MergeRun before g h → MergeRun before f h
 
   -- no condensing step is possible at any node, and no node has children that are alike
   abbrev pub all_merged : Forest A → Bool
   all_merged empty = true
-  all_merged (tree a below after) = (node_stands noted a below && none_alike same empty below) && (all_merged below && all_merged after)
+  all_merged (tree a below after) = (node_stands noted a below && none_alike same empty below)
+      && (all_merged below && all_merged after)
 
   -- no step is possible in the trees, if there are none before them
   abbrev pub MergeNormal : Forest A → Type 0
-  MergeNormal f = (g : Forest A) → MergeStep empty f g → ⊥
+  MergeNormal f = (g : Forest A) → MergeRewrite empty f g → ⊥

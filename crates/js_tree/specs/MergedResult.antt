@@ -2,7 +2,7 @@
 use Rattle.std.specs.Prelude.{◌≡◌}
 use Rattle.js_tree.specs.Alike.{same_but_keyword, without_keyword}
 use Rattle.js_tree.specs.Forest.{Forest, empty, tree}
-use Rattle.js_tree.specs.Merged.{merged_by, MergeStep, MergeRun, MergeNormal}
+use Rattle.js_tree.specs.Merged.{merged_by, MergeRewrite, MergeRun, MergeNormal}
 use Rattle.js_tree.specs.OutputUnit.{OutputUnit, noted}
 use Rattle.js_tree.specs.Result.{ResultTree}
 
@@ -16,8 +16,8 @@ abbrev pub merged : ResultTree → ResultTree
 merged = merged_by noted same_but_keyword
 
 -- a step of one of the three rules below the root, which itself stays
-abbrev pub StepOfThree : ResultTree → ResultTree → Type 0
-StepOfThree t u = (u.root ≡ t.root) × MergeStep noted same_but_keyword empty t.below u.below
+abbrev pub RewriteOfThree : ResultTree → ResultTree → Type 0
+RewriteOfThree t u = (u.root ≡ t.root) × MergeRewrite noted same_but_keyword empty t.below u.below
 
 -- a run of the three rules
 abbrev pub RunOfThree : ResultTree → ResultTree → Type 0

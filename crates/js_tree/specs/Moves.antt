@@ -1,5 +1,6 @@
 -- Moves: a rule, and the node that it is applied to, given by its index in preorder. The root's index is 0.
-use Rattle.std.specs.Prelude.{ℕ, zero, suc, ◌-◌, Bool, true, false, ltb, if◌then◌else◌, List, [], ◌∷◌, Option, Some, None}
+use Rattle.std.specs.Prelude.{ℕ, zero, suc, ◌-◌, Bool, true, false, ltb, if◌then◌else◌}
+use Rattle.std.specs.Prelude.{List, [], ◌∷◌, Option, Some, None}
 use Rattle.std.specs.List.{list_all}
 use Rattle.js_tree.specs.Forest.{Forest, empty, tree, Rose, ◌⊹◌, node_count}
 use Rattle.js_tree.specs.Merged.{has_alike}

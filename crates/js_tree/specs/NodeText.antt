@@ -29,7 +29,8 @@ valid_text true = codes ",\"valid\":true}"
 valid_text false = codes ",\"valid\":false}"
 
 abbrev pub end_text : List ℕ → List ℕ → Bool → List ℕ
-end_text instance keyword valid = codes ",\"instanceLocation\":" ++ (quoted instance ++ (codes ",\"keywordLocation\":" ++ (quoted keyword ++ valid_text valid)))
+end_text instance keyword valid = codes ",\"instanceLocation\":"
+    ++ (quoted instance ++ (codes ",\"keywordLocation\":" ++ (quoted keyword ++ valid_text valid)))
 
 -- from after the errors of a failing node's children
 abbrev pub tail_text : OutputUnit → List ℕ

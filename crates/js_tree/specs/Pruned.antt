@@ -6,4 +6,5 @@ module _ {A : Type 0} (agrees : A → Bool) where
   -- the nodes that agree, if every node above them does too
   abbrev pub pruned_below : Forest A → Forest A
   pruned_below empty = empty
-  pruned_below (tree a below after) = if agrees a then tree a (pruned_below below) (pruned_below after) else pruned_below after
+  pruned_below (tree a below after) =
+      if agrees a then tree a (pruned_below below) (pruned_below after) else pruned_below after

@@ -3,7 +3,7 @@
 use Rattle.std.specs.Prelude.{Bool, true, false, not, List, Option}
 use Rattle.js_tree.specs.Alike.{same_but_keyword}
 use Rattle.js_tree.specs.Forest.{Rose}
-use Rattle.js_tree.specs.Step.{NormalForest, RunBelow, StepBelow}
+use Rattle.js_tree.specs.Rewrite.{NormalForest, RunBelow, RewriteBelow}
 use Rattle.js_tree.specs.Kept.{kept_by}
 use Rattle.js_tree.specs.Units.{units_by}
 use Rattle.js_tree.specs.Pruned.{pruned_below}
@@ -16,8 +16,8 @@ ResultTree = Rose OutputUnit
 
 -- ---- the two condensing rules
 
-abbrev pub ResultStep : ResultTree → ResultTree → Type 0
-ResultStep = StepBelow noted
+abbrev pub Rewrite : ResultTree → ResultTree → Type 0
+Rewrite = RewriteBelow noted
 
 abbrev pub Run : ResultTree → ResultTree → Type 0
 Run = RunBelow noted

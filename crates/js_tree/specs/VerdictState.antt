@@ -19,7 +19,8 @@ verdict_opened depth (Some valid) = record { depth = depth; valid = Some valid }
 -- without an open node nothing closes
 abbrev pub verdict_closed : ℕ → Option Bool → Bool → VerdictState
 verdict_closed depth found valid =
-    if eqb depth 0 then record { depth = depth; valid = found } else record { depth = depth - 1; valid = if eqb depth 1 then Some valid else found }
+    if eqb depth 0 then record { depth = depth; valid = found } else record
+    { depth = depth - 1; valid = if eqb depth 1 then Some valid else found }
 
 abbrev pub verdict_after : VerdictState → Event → VerdictState
 verdict_after s (opening keyword absolute instance) = verdict_opened s.depth s.valid

@@ -7,10 +7,10 @@ ghost use Rattle.std.specs.Prelude.{◌≡◌, ◌+◌, ◌<◌, ◌↔◌, IsTr
 ghost use Rattle.js_tree.specs.Alike.{same_but_keyword};
 ghost use Rattle.js_tree.specs.Forest.{Forest, ◌⊹◌, node_count, tree};
 ghost use Rattle.js_tree.specs.Holding.{BoxedClosesAll, BoxedHolds, FlatHolds, VerdictHolds};
-ghost use Rattle.js_tree.specs.Result.{ResultTree, Normal, Run, ResultStep, kept, moved, pruned, units};
+ghost use Rattle.js_tree.specs.Result.{ResultTree, Normal, Run, Rewrite, kept, moved, pruned, units};
 ghost use Rattle.js_tree.specs.declared.reducing.moves.Move.{Move};
 ghost use Rattle.js_tree.specs.Merged.{alike, firsts, has_alike};
-ghost use Rattle.js_tree.specs.MergedResult.{merged, without_keywords, NormalOfThree, RunOfThree, StepOfThree};
+ghost use Rattle.js_tree.specs.MergedResult.{merged, without_keywords, NormalOfThree, RunOfThree, RewriteOfThree};
 ghost use Rattle.js_tree.specs.Moves.{of_two};
 ghost use Rattle.js_tree.specs.OutputUnit.{OutputUnit};
 ghost use Rattle.js_tree.specs.Trimmed.{trimmed_tree};
@@ -19,7 +19,7 @@ use crate::tree::Tree;
 
 /// A step, wherever it is made, doesn't change the kept tree.
 pub fn a_step_leaves_the_kept_tree()
-    ensures { (t u : ResultTree) → ResultStep t u → kept u ≡ kept t }
+    ensures { (t u : ResultTree) → Rewrite t u → kept u ≡ kept t }
 {}
 
 /// A normal tree is its own kept tree.
@@ -29,12 +29,12 @@ pub fn a_normal_tree_is_its_kept_tree()
 
 /// The steps are exactly the possible moves by the two rules of `condense`.
 pub fn steps_are_moves()
-    ensures { (t u : ResultTree) → ResultStep t u ↔ ((m : Move) × IsTrue (of_two m.rule) × (moved m t ≡ Some u)) }
+    ensures { (t u : ResultTree) → Rewrite t u ↔ ((m : Move) × IsTrue (of_two m.rule) × (moved m t ≡ Some u)) }
 {}
 
 /// A step removes exactly one node.
 pub fn a_step_takes_one_node()
-    ensures { (t u : ResultTree) → ResultStep t u → node_count u.below + 1 ≡ node_count t.below }
+    ensures { (t u : ResultTree) → Rewrite t u → node_count u.below + 1 ≡ node_count t.below }
 {}
 
 /// From each tree a run leads to its kept tree, which is normal.
@@ -55,7 +55,7 @@ pub fn the_kept_tree_has_the_same_units()
 
 /// A step of the three rules, wherever it is made, doesn't change the merged tree.
 pub fn a_step_of_three_leaves_the_merged_tree()
-    ensures { (t u : ResultTree) → StepOfThree t u → merged u ≡ merged t }
+    ensures { (t u : ResultTree) → RewriteOfThree t u → merged u ≡ merged t }
 {}
 
 /// A tree from which no step of the three rules is possible is its own merged tree.
@@ -63,16 +63,16 @@ pub fn a_tree_normal_under_three_is_its_merged_tree()
     ensures { (t : ResultTree) → NormalOfThree t → merged t ≡ t }
 {}
 
-/// A step of the three rules removes at least one node. So a run has at most as many steps as there are nodes below the
-/// root.
-pub fn a_step_of_three_leaves_fewer_nodes()
-    ensures { (t u : ResultTree) → StepOfThree t u → node_count u.below < node_count t.below }
-{}
-
 /// From each tree a run of the three rules leads to its merged tree, from which no step is possible.
 pub fn the_merged_tree_is_reached()
     ensures reached { (t : ResultTree) → RunOfThree t (merged t) }
     ensures normal { (t : ResultTree) → NormalOfThree (merged t) }
+{}
+
+/// A step of the three rules removes at least one node. So a run has at most as many steps as there are nodes below the
+/// root.
+pub fn a_step_of_three_leaves_fewer_nodes()
+    ensures { (t u : ResultTree) → RewriteOfThree t u → node_count u.below < node_count t.below }
 {}
 
 /// Every run of the three rules that can't be continued ends in the merged tree.
@@ -89,7 +89,7 @@ pub fn the_kept_tree_has_the_same_merged_tree()
 
 /// The steps of the three rules are exactly the possible moves.
 pub fn steps_of_three_are_moves()
-    ensures { (t u : ResultTree) → StepOfThree t u ↔ ((m : Move) × (moved m t ≡ Some u)) }
+    ensures { (t u : ResultTree) → RewriteOfThree t u ↔ ((m : Move) × (moved m t ≡ Some u)) }
 {}
 
 /// Trees are alike exactly if they are equal without their keyword locations.

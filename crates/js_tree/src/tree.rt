@@ -3,7 +3,7 @@ ghost use Rattle.std.specs.Prelude.{◌≡◌, if◌then◌else◌, length};
 ghost use Rattle.js_tree.specs.Forest.{empty, tree as node};
 ghost use Rattle.js_tree.specs.OutputUnit.{noted};
 ghost use Rattle.js_tree.specs.Seen.{note_of};
-ghost use Rattle.js_tree.specs.Step.{node_stands};
+ghost use Rattle.js_tree.specs.Rewrite.{node_stands};
 
 use crate::collecting::collector::Head;
 use crate::note::Note;

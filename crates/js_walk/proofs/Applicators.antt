@@ -1,5 +1,6 @@
 -- The keywords that a quiet walk visits are those among a schema's members that apply schemas, rank by rank.
-use Rattle.std.specs.Prelude.{◌≡◌, ℕ, ◌+◌, ◌<◌, Bool, true, false, ◌||◌, cond, List, [], ◌∷◌, ◌++◌, Option, None, Some, drop, filter, length, option_map, slice_get, refl}
+use Rattle.std.specs.Prelude.{◌≡◌, ℕ, ◌+◌, ◌<◌, Bool, true, false, ◌||◌, cond, List, [], ◌∷◌, ◌++◌, Option}
+use Rattle.std.specs.Prelude.{None, Some, drop, filter, length, option_map, slice_get, refl}
 use Rattle.std.specs.declared.cmp.Ordering.TheVariants.{Less}
 use Rattle.std.proofs.Common.{get_or, sym, ◌∙◌, ap, ap₂}
 use Rattle.std.proofs.lemmas.List.{drop_more}
@@ -38,11 +39,13 @@ pub none_visited : (ms : Named) → has_applicator (keyword_names_of ms) ≡ fal
 none_visited [] h = refl
 none_visited (m ∷ ms) h =
     ap (λ b. cond b (m ∷ filter (is_visited true) ms) (filter (is_visited true) ms)) (sym (applies_visited m))
-    ∙ none_at (applies (keyword_name m.0)) (has_applicator (keyword_names_of ms)) m (filter (is_visited true) ms) h (none_visited ms)
+    ∙ none_at (applies (keyword_name m.0)) (has_applicator (keyword_names_of ms)) m
+    (filter (is_visited true) ms) h (none_visited ms)
 
 -- ---- one rank after another
 
-pub named_at : (ms : Named) (rank : ℕ) (which : KeywordName) (m : Keyword) → slice_get (keyword_names_of ms) rank ≡ Some which → slice_get ms rank ≡ Some m
+pub named_at : (ms : Named) (rank : ℕ) (which : KeywordName) (m : Keyword)
+    → slice_get (keyword_names_of ms) rank ≡ Some which → slice_get ms rank ≡ Some m
     → which ≡ keyword_name m.0
 named_at ms rank which m h e =
     let name = λ (k : Keyword). keyword_name k.0 in
@@ -52,38 +55,47 @@ named_at ms rank which m h e =
 abbrev if_visited : Bool → Named → ℕ → Keyword → Named
 if_visited b ms rank m = cond b (m ∷ applicators_from ms (rank + 1)) (applicators_from ms (rank + 1))
 
-one_on : (ms : Named) (rank : ℕ) (which : KeywordName) (m : Keyword) → slice_get (keyword_names_of ms) rank ≡ Some which → slice_get ms rank ≡ Some m
+one_on : (ms : Named) (rank : ℕ) (which : KeywordName) (m : Keyword) → slice_get (keyword_names_of ms) rank ≡ Some which
+    → slice_get ms rank ≡ Some m
     → applicators_from ms rank ≡ if_visited (applies which) ms rank m
 one_on ms rank which m h e =
-    ap (filter (is_visited true)) (drop_more ms rank m (slice_get_within ms rank m e) ∙ ap (λ x. x ∷ drop (rank + 1) ms) (get_or_from_slice_get ms rank m m e))
+    ap (filter (is_visited true)) (drop_more ms rank m (slice_get_within ms rank m e)
+    ∙ ap (λ x. x ∷ drop (rank + 1) ms) (get_or_from_slice_get ms rank m m e))
     ∙ ap (λ b. if_visited b ms rank m) (sym (ap applies (named_at ms rank which m h e) ∙ applies_visited m))
 
 -- each name is that of a member
-never_none : (ms : Named) (rank : ℕ) (which : KeywordName) → slice_get (keyword_names_of ms) rank ≡ Some which → slice_get ms rank ≡ None → ⊥
+never_none : (ms : Named) (rank : ℕ) (which : KeywordName) → slice_get (keyword_names_of ms) rank ≡ Some which
+    → slice_get ms rank ≡ None → ⊥
 never_none ms rank which h e =
     let name = λ (k : Keyword). keyword_name k.0 in
     let same : Some which ≡ None = sym h ∙ (slice_get-map name ms rank ∙ ap (option_map name) e) in
     cc
 
 -- which keyword of the standard the member at the rank is
-name_at : (ms : Named) (names : List KeywordName) (rank : ℕ) (which : KeywordName) → names ≡ keyword_names_of ms → rank < length names → which ≡ get_or names rank which
+name_at : (ms : Named) (names : List KeywordName) (rank : ℕ) (which : KeywordName) → names ≡ keyword_names_of ms
+    → rank < length names → which ≡ get_or names rank which
     → slice_get (keyword_names_of ms) rank ≡ Some which
-name_at ms names rank which same h e = ap (λ ns. slice_get ns rank) (sym same) ∙ slice_get_read names (length names) rank which refl h e
+name_at ms names rank which same h e = ap (λ ns. slice_get ns rank) (sym same)
+    ∙ slice_get_read names (length names) rank which refl h e
 
 -- the member at the rank applies schemas
-pub taken : (ms : Named) (names : List KeywordName) (rank : ℕ) (which : KeywordName) (m : Keyword) → applies which ≡ true → slice_get ms rank ≡ Some m → names ≡ keyword_names_of ms
-    → rank < length names → which ≡ get_or names rank which → applicators_from ms rank ≡ m ∷ applicators_from ms (rank + 1)
+pub taken : (ms : Named) (names : List KeywordName) (rank : ℕ) (which : KeywordName) (m : Keyword)
+    → applies which ≡ true → slice_get ms rank ≡ Some m → names ≡ keyword_names_of ms
+    → rank < length names → which ≡ get_or names rank which
+    → applicators_from ms rank ≡ m ∷ applicators_from ms (rank + 1)
 taken ms names rank which m t there same h e =
     one_on ms rank which m (name_at ms names rank which same h e) there ∙ ap (λ b. if_visited b ms rank m) t
 
 -- it doesn't
-pub passed_over : (ms : Named) (names : List KeywordName) (rank : ℕ) (which : KeywordName) → applies which ≡ false → names ≡ keyword_names_of ms
+pub passed_over : (ms : Named) (names : List KeywordName) (rank : ℕ) (which : KeywordName) → applies which ≡ false
+    → names ≡ keyword_names_of ms
     → rank < length names → which ≡ get_or names rank which → applicators_from ms (rank + 1) ≡ applicators_from ms rank
 passed_over ms names rank which f same h e = at (slice_get ms rank) refl
   where
     at : (o : Option Keyword) → slice_get ms rank ≡ o → applicators_from ms (rank + 1) ≡ applicators_from ms rank
     at None there = absurd (never_none ms rank which (name_at ms names rank which same h e) there)
-    at (Some m) there = sym (one_on ms rank which m (name_at ms names rank which same h e) there ∙ ap (λ b. if_visited b ms rank m) f)
+    at (Some m) there = sym (one_on ms rank which m (name_at ms names rank which same h e) there
+        ∙ ap (λ b. if_visited b ms rank m) f)
 
 -- ---- some of ascending members
 
@@ -92,7 +104,8 @@ unfolding Below
 head_above k [] h = tt
 head_above k (m ∷ ms) h = h.0
 
-chosen_at : (t : Keyword → Bool) (b : Bool) (m : Keyword) (ms : Named) → Below m.0 ms → IsAscending (filter t ms) → IsAscending (cond b (m ∷ filter t ms) (filter t ms))
+chosen_at : (t : Keyword → Bool) (b : Bool) (m : Keyword) (ms : Named) → Below m.0 ms → IsAscending (filter t ms)
+    → IsAscending (cond b (m ∷ filter t ms) (filter t ms))
 unfolding Below
 chosen_at t true m ms h r = (head_above m.0 (filter t ms) (all_of_filter (λ x. name_cmp m.0 x.0 ≡ Less) t ms h), r)
 chosen_at t false m ms h r = r
@@ -119,5 +132,6 @@ chosen_in_order p ms =
     let before = λ (k : Keyword). comes_before_else k.0 in
     let it = λ (k : Keyword). is_else k.0 in
     let after = λ (k : Keyword). comes_after_else k.0 in
-    ap₂ (λ xs ys. xs ++ ys) (filters_commute before p ms) (ap₂ (λ xs ys. xs ++ ys) (filters_commute it p ms) (filters_commute after p ms) ∙ sym (filter-append p (filter it ms) (filter after ms)))
+    ap₂ (λ xs ys. xs ++ ys) (filters_commute before p ms) (ap₂ (λ xs ys. xs ++ ys) (filters_commute it p ms)
+    (filters_commute after p ms) ∙ sym (filter-append p (filter it ms) (filter after ms)))
     ∙ sym (filter-append p (filter before ms) (filter it ms ++ filter after ms))

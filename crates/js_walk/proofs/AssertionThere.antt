@@ -14,7 +14,7 @@ use Rattle.js_bundle.specs.Schemas.{is_place, place_at, assertion}
 use Rattle.js_walk.specs.Bundle.{schemas_of}
 use Rattle.js_walk.specs.Keywords.{Keyword}
 use Rattle.js_walk.specs.Sited.{numbered_site, nowhere}
-use Rattle.js_walk.specs.Walk.Told.{IsKeywordAt}
+use Rattle.js_walk.specs.Walk.Progress.{IsKeywordAt}
 
 of_object : (ms : Members) → members_of (object ms) ≡ entries (object ms)
 of_object no_members = refl
@@ -32,17 +32,22 @@ some_is : (o : Option Site) (s : Site) → o ≡ Some s → o ≡ Some (unwrap_o
 some_is None s e = absurd cc
 some_is (Some x) s e = refl
 
-pub place_is : (documents : Documents) (n : ℕ) → is_place documents n ≡ true → place_at documents n ≡ Some (numbered_site documents n)
-place_is documents n h = some_is (place_at documents n) _ (slice_get-get_or (sites documents) n nowhere (ltb-true n (length (sites documents)) h))
+pub place_is : (documents : Documents) (n : ℕ) → is_place documents n ≡ true
+    → place_at documents n ≡ Some (numbered_site documents n)
+place_is documents n h = some_is (place_at documents n) _
+    (slice_get-get_or (sites documents) n nowhere (ltb-true n (length (sites documents)) h))
 
-at_site : (s : Site) (k : Keyword) → get k.0 (entries s.schema) ≡ Some k.1 → assertion k.0 s ≡ asserted k.0 k.1 (entries s.schema)
+at_site : (s : Site) (k : Keyword) → get k.0 (entries s.schema) ≡ Some k.1
+    → assertion k.0 s ≡ asserted k.0 k.1 (entries s.schema)
 at_site s k e =
     let same = same_members s.schema in
     let found : get k.0 (members_of s.schema) ≡ Some k.1 = ap (get k.0) same ∙ e in
     ap (λ o. option_and_then (λ v. asserted k.0 v (members_of s.schema)) o) found ∙ ap (λ ms. asserted k.0 k.1 ms) same
 
-pub assertion_is : (documents : Documents) (n : ℕ) (k : Keyword) (o : Option Asserted) → is_place documents n ≡ true → IsKeywordAt (schemas_of documents) (numbered_site documents n) k
-    → o ≡ option_and_then (assertion k.0) (place_at documents n) → o ≡ asserted k.0 k.1 (entries (numbered_site documents n).schema)
+pub assertion_is : (documents : Documents) (n : ℕ) (k : Keyword) (o : Option Asserted) → is_place documents n ≡ true
+    → IsKeywordAt (schemas_of documents) (numbered_site documents n) k
+    → o ≡ option_and_then (assertion k.0) (place_at documents n)
+    → o ≡ asserted k.0 k.1 (entries (numbered_site documents n).schema)
 unfolding IsKeywordAt
 assertion_is documents n k o h there e =
     e ∙ (ap (option_and_then (assertion k.0)) (place_is documents n h) ∙ at_site (numbered_site documents n) k there)

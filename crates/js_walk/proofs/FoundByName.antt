@@ -21,7 +21,8 @@ AreAmong siblings ks = AllByRecursion (IsAmong siblings) ks
 -- ---- lists of which each element is so
 
 module _ {X : Type 0} (P : X → Type 0) where
-  kept : (t : X → Bool) (b : Bool) (x : X) (xs : List X) → P x → AllByRecursion P (filter t xs) → AllByRecursion P (cond b (x ∷ filter t xs) (filter t xs))
+  kept : (t : X → Bool) (b : Bool) (x : X) (xs : List X) → P x → AllByRecursion P (filter t xs)
+      → AllByRecursion P (cond b (x ∷ filter t xs) (filter t xs))
   kept t true x xs p r = (p, r)
   kept t false x xs p r = r
 
@@ -54,10 +55,13 @@ its_own_reverse Equal e = refl
 its_own_reverse Greater e = cc
 
 found_here : (m : List ℕ × Value) (ms : Named) → get m.0 (m ∷ ms) ≡ Some m.1
-found_here m ms = let e : name_cmp m.0 m.0 ≡ Equal = its_own_reverse (name_cmp m.0 m.0) (nat_list_cmp_total.antisymm m.0 m.0) in cc
+found_here m ms = let e : name_cmp m.0 m.0
+    ≡ Equal = its_own_reverse (name_cmp m.0 m.0) (nat_list_cmp_total.antisymm m.0 m.0) in cc
 
-found_later : (x m : List ℕ × Value) (ms : Named) → name_cmp m.0 x.0 ≡ Less → get x.0 ms ≡ Some x.1 → get x.0 (m ∷ ms) ≡ Some x.1
-found_later x m ms h e = let o : name_cmp x.0 m.0 ≡ Greater = nat_list_cmp_total.antisymm x.0 m.0 ∙ ap ordering_reverse h in cc
+found_later : (x m : List ℕ × Value) (ms : Named) → name_cmp m.0 x.0 ≡ Less → get x.0 ms ≡ Some x.1
+    → get x.0 (m ∷ ms) ≡ Some x.1
+found_later x m ms h e = let o : name_cmp x.0 m.0 ≡ Greater = nat_list_cmp_total.antisymm x.0 m.0
+    ∙ ap ordering_reverse h in cc
 
 all_later : (m : List ℕ × Value) (ms xs : Named) → Below m.0 xs → AreAmong ms xs → AreAmong (m ∷ ms) xs
 unfolding Below
@@ -73,7 +77,8 @@ each_among (m ∷ ms) a = (found_here m ms, all_later m ms ms (below_all ms m.0 
 pub keywords_among : (schema : Value) → IsAscending (entries schema) → AreAmong (entries schema) (keywords schema)
 keywords_among schema a =
     let each = each_among (entries schema) a in
-    all_of_both (IsAmong (entries schema)) (keywords_that comes_before_else schema) (keywords_that is_else schema ++ keywords_that comes_after_else schema)
+    all_of_both (IsAmong (entries schema)) (keywords_that comes_before_else schema)
+    (keywords_that is_else schema ++ keywords_that comes_after_else schema)
     (all_of_filter (IsAmong (entries schema)) (λ k. comes_before_else k.0) (entries schema) each)
     (all_of_both (IsAmong (entries schema)) (keywords_that is_else schema) (keywords_that comes_after_else schema)
     (all_of_filter (IsAmong (entries schema)) (λ k. is_else k.0) (entries schema) each)

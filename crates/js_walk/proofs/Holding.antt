@@ -20,7 +20,7 @@ use Rattle.js_walk.specs.declared.keywords.kind.Kind.{Kind}
 use Rattle.js_walk.proofs.AssertionThere.{same_members}
 use Rattle.js_walk.proofs.Standard.{kind_is}
 
--- ---- what a keyword does tells how it holds schemas
+-- ---- what a keyword does determines how it holds schemas
 
 applies_by : (w : KeywordName) → applies_at w ≡ held_at (kind_by w)
 applies_by name.Ref = refl
@@ -55,8 +55,10 @@ applies_by name.Definitions = refl
 applies_by name.OtherUpToIf = refl
 applies_by name.OtherBehindIf = refl
 
-applies_is : (w : KeywordName) (κ : Kind) (name : List ℕ) (step : Step) → w ≡ keyword_name name → κ ≡ kind name → held_at κ step ≡ true → applies_at (keyword_name name) step ≡ true
-applies_is w κ name step e f h = ap (λ t. t step) (applies_by (keyword_name name)) ∙ ap (λ c. held_at c step) (kind_is name ∙ sym f) ∙ h
+applies_is : (w : KeywordName) (κ : Kind) (name : List ℕ) (step : Step) → w ≡ keyword_name name → κ ≡ kind name
+    → held_at κ step ≡ true → applies_at (keyword_name name) step ≡ true
+applies_is w κ name step e f h = ap (λ t. t step) (applies_by (keyword_name name))
+    ∙ ap (λ c. held_at c step) (kind_is name ∙ sym f) ∙ h
 
 -- ---- its argument
 
@@ -75,14 +77,23 @@ items_are (text t) = refl
 items_are (list vs) = values_are vs
 items_are (object ms) = refl
 
-pub one_ranked : (w : KeywordName) (κ : Kind) (v : Value) (k : Keyword) → w ≡ keyword_name k.0 → κ ≡ kind k.0 → held_at κ ≡ is_alone → IsIn v k → HoldsAtRank v k.0 Alone 0 k.1
+pub one_ranked : (w : KeywordName) (κ : Kind) (v : Value) (k : Keyword) → w ≡ keyword_name k.0 → κ ≡ kind k.0
+    → held_at κ ≡ is_alone → IsIn v k → HoldsAtRank v k.0 Alone 0 k.1
 one_ranked w κ v k d e f g =
     (applies_is w κ k.0 Alone d e (ap (λ t. t Alone) f), (k.1, argument_is v k g, (refl, refl)))
 
-pub item_ranked : (w : KeywordName) (κ : Kind) (v : Value) (k : Keyword) (i : ℕ) (u : Value) → w ≡ keyword_name k.0 → κ ≡ kind k.0 → held_at κ ≡ is_index → IsIn v k → slice_get (values k.1) i ≡ Some u
+pub item_ranked : (w : KeywordName) (κ : Kind) (v : Value) (k : Keyword) (i : ℕ) (u : Value) → w ≡ keyword_name k.0
+    → κ ≡ kind k.0 → held_at κ ≡ is_index → IsIn v k → slice_get (values k.1) i ≡ Some u
     → HoldsAtRank v k.0 (Index i) i u
-item_ranked w κ v k i u d e f g h = (applies_is w κ k.0 (Index i) d e (ap (λ t. t (Index i)) f), (k.1, argument_is v k g, (ap (λ us. slice_get us i) (items_are k.1) ∙ h, refl)))
+item_ranked w κ v k i u d e f g h = (
+  applies_is w κ k.0 (Index i) d e (ap (λ t. t (Index i)) f),
+  (k.1, argument_is v k g, (ap (λ us. slice_get us i) (items_are k.1) ∙ h, refl)),
+)
 
-pub member_ranked : (w : KeywordName) (κ : Kind) (v : Value) (k : Keyword) (name : List ℕ) (r : ℕ) (u : Value) → w ≡ keyword_name k.0 → κ ≡ kind k.0 → held_at κ ≡ is_name → IsIn v k
+pub member_ranked : (w : KeywordName) (κ : Kind) (v : Value) (k : Keyword) (name : List ℕ) (r : ℕ) (u : Value)
+    → w ≡ keyword_name k.0 → κ ≡ kind k.0 → held_at κ ≡ is_name → IsIn v k
     → slice_get (entries k.1) r ≡ Some (name, u) → HoldsAtRank v k.0 (Name name) r u
-member_ranked w κ v k name r u d e f g h = (applies_is w κ k.0 (Name name) d e (ap (λ t. t (Name name)) f), (k.1, argument_is v k g, ap (λ ms. slice_get ms r) (same_members k.1) ∙ h))
+member_ranked w κ v k name r u d e f g h = (
+  applies_is w κ k.0 (Name name) d e (ap (λ t. t (Name name)) f),
+  (k.1, argument_is v k g, ap (λ ms. slice_get ms r) (same_members k.1) ∙ h),
+)

@@ -8,7 +8,7 @@ pub mod Turns
 pub mod UnseenWalks
 pub mod HowMany
 pub mod Paths
-pub mod Scopes
+pub mod DynamicScopes
 pub mod Recursion
 pub mod AssertionThere
 pub mod Standard

@@ -1,5 +1,6 @@
 -- The places of a path, and what stands at a place.
-use Rattle.std.specs.Prelude.{◌≡◌, ℕ, true, List, [], ◌∷◌, Option, Some, None, ◌++◌, codes, map, option_map, option_to_list, unwrap_or, length, ◌==◌, refl}
+use Rattle.std.specs.Prelude.{◌≡◌, ℕ, true, List, [], ◌∷◌, Option, Some, None, ◌++◌, codes, map}
+use Rattle.std.specs.Prelude.{option_map, option_to_list, unwrap_or, length, ◌==◌, refl}
 use Rattle.std.proofs.Common.{ap, sym, ◌∙◌}
 use Rattle.std.specs.List.{list_all}
 use Rattle.std.proofs.lemmas.Bool.{and_parts, eqb-true}
@@ -22,37 +23,49 @@ its_schema : (o : Option Site) (v : Value) → option_map (λ s. s.schema) o ≡
 its_schema None v e = absurd (cc)
 its_schema (Some s) v e = cc
 
-pub schema_is : (documents : Documents) (n : ℕ) (v : Value) → option_map (λ s. s.schema) (place_at documents n) ≡ Some v → v ≡ (numbered_site documents n).schema
+pub schema_is : (documents : Documents) (n : ℕ) (v : Value) → option_map (λ s. s.schema) (place_at documents n) ≡ Some v
+    → v ≡ (numbered_site documents n).schema
 schema_is documents n v e = its_schema (place_at documents n) v e
 
-its_location : (o : Option Site) (t : List ℕ) → option_map location o ≡ Some t → t ≡ absolute_location (unwrap_or o nowhere) []
+its_location : (o : Option Site) (t : List ℕ) → option_map location o ≡ Some t
+    → t ≡ absolute_location (unwrap_or o nowhere) []
 its_location None t e = absurd (cc)
 its_location (Some s) t e = cc
 
-pub location_is : (documents : Documents) (n : ℕ) (t : List ℕ) → option_map location (place_at documents n) ≡ Some t → t ≡ absolute_location (numbered_site documents n) []
+pub location_is : (documents : Documents) (n : ℕ) (t : List ℕ) → option_map location (place_at documents n) ≡ Some t
+    → t ≡ absolute_location (numbered_site documents n) []
 location_is documents n t e = its_location (place_at documents n) t e
 
 -- a keyword's location is its place's, one token further
-one_further : (s : Site) (keyword : List ℕ) → absolute_location s [] ++ fragment_token keyword ≡ absolute_location s (keyword ∷ [])
+one_further : (s : Site) (keyword : List ℕ)
+    → absolute_location s [] ++ fragment_token keyword ≡ absolute_location s (keyword ∷ [])
 one_further s keyword =
     append_assoc (canonical s) (codes "#" ++ fragment_text (way s ++ [])) (fragment_token keyword)
-    ∙ ap (λ x. canonical s ++ (codes "#" ++ x)) (ap (λ w. fragment_text w ++ fragment_token keyword) (append-nil (way s)) ∙ sym (fragment_text-push (way s) keyword))
+    ∙ ap (λ x. canonical s ++ (codes "#" ++ x)) (ap (λ w. fragment_text w ++ fragment_token keyword)
+    (append-nil (way s)) ∙ sym (fragment_text-push (way s) keyword))
 
-pub keyword_location_is : (documents : Documents) (n : ℕ) (keyword t u : List ℕ) → option_map location (place_at documents n) ≡ Some t → u ≡ t ++ fragment_token keyword
+pub keyword_location_is : (documents : Documents) (n : ℕ) (keyword t u : List ℕ)
+    → option_map location (place_at documents n) ≡ Some t → u ≡ t ++ fragment_token keyword
     → u ≡ absolute_location (numbered_site documents n) (keyword ∷ [])
 keyword_location_is documents n keyword t u e f =
-    f ∙ ap (λ x. x ++ fragment_token keyword) (location_is documents n t e) ∙ one_further (numbered_site documents n) keyword
+    f ∙ ap (λ x. x ++ fragment_token keyword) (location_is documents n t e)
+    ∙ one_further (numbered_site documents n) keyword
 
 -- one that is lent in two pieces, of which the second one is empty
-pub in_one_piece : (lent rest token u : List ℕ) → (length rest == 0) ≡ true → u ≡ lent ++ token → u ≡ (lent ++ rest) ++ token
+pub in_one_piece : (lent rest token u : List ℕ) → (length rest == 0) ≡ true → u ≡ lent ++ token
+    → u ≡ (lent ++ rest) ++ token
 in_one_piece lent rest token u none e =
-    e ∙ ap (λ x. x ++ token) (sym (append-nil lent)) ∙ ap (λ r. (lent ++ r) ++ token) (sym (nil_from_length rest (eqb-true (length rest) 0 none)))
+    e ∙ ap (λ x. x ++ token) (sym (append-nil lent))
+    ∙ ap (λ r. (lent ++ r) ++ token) (sym (nil_from_length rest (eqb-true (length rest) 0 none)))
 
-pub first_alone : (o : Option (List ℕ)) (lent rest : List ℕ) → (length rest == 0) ≡ true → o ≡ Some (lent ++ rest) → o ≡ Some lent
-first_alone o lent rest none e = e ∙ ap (λ r. Some (lent ++ r)) (nil_from_length rest (eqb-true (length rest) 0 none)) ∙ ap Some (append-nil lent)
+pub first_alone : (o : Option (List ℕ)) (lent rest : List ℕ) → (length rest == 0) ≡ true
+    → o ≡ Some (lent ++ rest) → o ≡ Some lent
+first_alone o lent rest none e = e ∙ ap (λ r. Some (lent ++ r)) (nil_from_length rest (eqb-true (length rest) 0 none))
+    ∙ ap Some (append-nil lent)
 
 -- where all are places, those of a path are the places that they stand for
-pub path_is : (documents : Documents) (path : List ℕ) → list_all (is_place documents) path ≡ true → path_at documents path ≡ map (numbered_site documents) path
+pub path_is : (documents : Documents) (path : List ℕ) → list_all (is_place documents) path ≡ true
+    → path_at documents path ≡ map (numbered_site documents) path
 path_is documents [] h = refl
 path_is documents (n ∷ path) h =
     let p = and_parts _ _ h in

@@ -1,6 +1,7 @@
--- The names of the standard's applicators and assertions are written as they are in a pointer, in a fragment and in a JSON
--- string, and indexes in a pointer.
-use Rattle.std.proofs.Common.{◌≡◌, ℕ, ◌<◌, ◌^◌, Bool, true, false, cond, ◌==◌, List, [], ◌∷◌, Some, is_some, decimal, refl, sym, ap, subst, arith}
+-- The names of the standard's applicators and assertions are written as they are in a pointer, in a fragment and in a
+-- JSON string, and indexes in a pointer.
+use Rattle.std.proofs.Common.{◌≡◌, ℕ, ◌<◌, ◌^◌, Bool, true, false, cond, ◌==◌, List, [], ◌∷◌, Some}
+use Rattle.std.proofs.Common.{is_some, decimal, refl, sym, ap, subst, arith}
 use Rattle.std.specs.List.{AllByRecursion, list_all}
 use Rattle.std.specs.Str.{bytes_eq}
 use Rattle.std.specs.Str.Parse.{AllDigits}
@@ -8,6 +9,7 @@ use Rattle.std.proofs.lemmas.Bool.Decides.{nat_tests}
 use Rattle.std.proofs.lemmas.Fmt.{decimal_is_IsNumeral}
 use Rattle.std.proofs.lemmas.Slice.Eq.{bytes_eq-Decides}
 use Rattle.std.proofs.lemmas.Str.Parse.{digit_from_value}
+use Rattle.js_doc.proofs.EachSame.{each_same}
 use Rattle.js_doc.specs.Pointer.{escape}
 use Rattle.js_doc.specs.Plain.{is_kept, is_plain}
 use Rattle.js_doc.proofs.PlainTokens.{all_kept, all_plain, all_stand, kept_too}
@@ -24,38 +26,47 @@ IsPlain name = list_all is_plain name ≡ true
 same_name : (name row : List ℕ) → bytes_eq name row ≡ true → IsPlain row → IsPlain name
 same_name name row e p = subst IsPlain (sym ((bytes_eq-Decides name row).0 e)) p
 
-assertion_plain : (rows : List NamedKeyword) (name : List ℕ) → AllByRecursion (λ row. IsPlain row.0) rows → is_some (row_named rows name) ≡ true → IsPlain name
+assertion_plain : (rows : List NamedKeyword) (name : List ℕ) → AllByRecursion (λ row. IsPlain row.0) rows
+    → is_some (row_named rows name) ≡ true → IsPlain name
 assertion_plain [] name h e = absurd cc
 assertion_plain (row ∷ rows) name h e = at (bytes_eq name row.0) refl e (assertion_plain rows name h.1)
   where
-    at : (b : Bool) → bytes_eq name row.0 ≡ b → is_some (cond b (Some row.1) (row_named rows name)) ≡ true → (is_some (row_named rows name) ≡ true → IsPlain name) → IsPlain name
+    at : (b : Bool) → bytes_eq name row.0 ≡ b → is_some (cond b (Some row.1) (row_named rows name)) ≡ true
+        → (is_some (row_named rows name) ≡ true → IsPlain name) → IsPlain name
     at true e f more = same_name name row.0 e h.0
     at false e f more = more f
 
 all_assertions : AllByRecursion (λ row. IsPlain row.0) assertion_keywords
-all_assertions = (refl, (refl, (refl, (refl, (refl, (refl, (refl, (refl, (refl, (refl, (refl, (refl, (refl, (refl, (refl, (refl, (refl, (refl, (refl, (refl, tt))))))))))))))))))))
+all_assertions = each_same (λ row. list_all is_plain row.0) (λ _. true) assertion_keywords refl
 
-named_plain : (name : List ℕ) (b : Bool) → is_some (keyword_named name) ≡ b → (cond b Assertion Annotation ≡ Annotation → ⊥) → IsPlain name
+named_plain : (name : List ℕ) (b : Bool) → is_some (keyword_named name) ≡ b
+    → (cond b Assertion Annotation ≡ Annotation → ⊥) → IsPlain name
 unfolding keyword_named
 named_plain name true e h = assertion_plain assertion_keywords name all_assertions e
 named_plain name false e h = absurd (h refl)
 
-applicator_plain : (rows : List Applicator) (name : List ℕ) → AllByRecursion (λ row. IsPlain row.0) rows → (kind_in rows name ≡ Annotation → ⊥) → IsPlain name
+applicator_plain : (rows : List Applicator) (name : List ℕ) → AllByRecursion (λ row. IsPlain row.0) rows
+    → (kind_in rows name ≡ Annotation → ⊥) → IsPlain name
 applicator_plain [] name h other = named_plain name (is_some (keyword_named name)) refl other
 applicator_plain (row ∷ rows) name h other = at (bytes_eq name row.0) refl other (applicator_plain rows name h.1)
   where
-    at : (b : Bool) → bytes_eq name row.0 ≡ b → (cond b row.1 (kind_in rows name) ≡ Annotation → ⊥) → ((kind_in rows name ≡ Annotation → ⊥) → IsPlain name) → IsPlain name
+    at : (b : Bool) → bytes_eq name row.0 ≡ b → (cond b row.1 (kind_in rows name) ≡ Annotation → ⊥)
+        → ((kind_in rows name ≡ Annotation → ⊥) → IsPlain name) → IsPlain name
     at true e other more = same_name name row.0 e h.0
     at false e other more = more other
 
 all_applicators : AllByRecursion (λ row. IsPlain row.0) applicators
-all_applicators = (refl, (refl, (refl, (refl, (refl, (refl, (refl, (refl, (refl, (refl, (refl, (refl, (refl, (refl, (refl, (refl, (refl, (refl, (refl, tt)))))))))))))))))))
+all_applicators = each_same (λ row. list_all is_plain row.0) (λ _. true) applicators refl
 
 pub written_by_kind : (name : List ℕ) → (kind name ≡ Annotation → ⊥) → IsWrittenAsItIs name
 unfolding kind
 written_by_kind name other =
     let plain : IsPlain name = applicator_plain applicators name all_applicators other in
-    record { in_pointer = all_kept name (kept_too name plain); in_fragment = ap (λ bs. 47 ∷ bs) (all_plain name plain); in_string = all_stand name plain }
+    record {
+      in_pointer = all_kept name (kept_too name plain);
+      in_fragment = ap (λ bs. 47 ∷ bs) (all_plain name plain);
+      in_string = all_stand name plain;
+    }
 
 -- ---- indexes
 

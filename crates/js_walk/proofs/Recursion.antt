@@ -1,12 +1,13 @@
 pub mod Mapped
 pub mod Splits
 pub mod Sources
-pub mod Telling
+pub mod EventsInTurn
 pub mod Each
-pub mod KeywordTelling
+pub mod KeywordNode
 pub mod Order
 pub mod Visited
-pub mod NodeTelling
+pub mod AllKeywords
+pub mod KeywordByKeyword
 pub mod Before
 pub mod Counted
 pub mod Stepping

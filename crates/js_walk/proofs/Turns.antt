@@ -10,7 +10,8 @@ use Rattle.std.proofs.lemmas.Slice.Eq.{bytes_eq-Decides}
 use Rattle.js_doc.specs.Value.{Named}
 use Rattle.js_doc.specs.Members.{name_cmp, IsAscending}
 use Rattle.js_walk.specs.Keywords.{Keyword, has_node, is_else, is_after_if, comes_before_else, comes_after_else}
-use Rattle.js_walk.specs.code.Turns.{turn_by, turn_of, is_ever, ever, first_turn, second_turn, last_turn, if_first, if_second, if_last, in_order}
+use Rattle.js_walk.specs.code.Turns.{turn_by, turn_of, is_ever, ever, first_turn, second_turn}
+use Rattle.js_walk.specs.code.Turns.{last_turn, if_first, if_second, if_last, in_order}
 use Rattle.js_walk.proofs.FoundByName.{Below, below_all, its_own_reverse}
 
 -- ---- `else`
@@ -50,7 +51,8 @@ are_behind x (m ∷ ms) h b = (behind x m.0 h b.0, are_behind x ms h b.1)
 
 -- ---- those behind `if`
 
-no_first_at : (n e a : Bool) (m : Keyword) (ms : List Keyword) → a ≡ true → ms ≡ [] → cond (n && (not e && not a)) (m ∷ ms) ms ≡ []
+no_first_at : (n e a : Bool) (m : Keyword) (ms : List Keyword) → a ≡ true → ms ≡ []
+    → cond (n && (not e && not a)) (m ∷ ms) ms ≡ []
 no_first_at n e false m ms h r = cc
 no_first_at false e true m ms h r = r
 no_first_at true false true m ms h r = r
@@ -59,7 +61,8 @@ no_first_at true true true m ms h r = r
 no_first : (ms : Named) → AreBehind ms → filter (λ k. comes_before_else k.0) ms ≡ []
 unfolding AreBehind
 no_first [] b = refl
-no_first (m ∷ ms) b = no_first_at (has_node m.0) (is_else m.0) (is_after_if m.0) m (filter (λ k. comes_before_else k.0) ms) b.0 (no_first ms b.1)
+no_first (m ∷ ms) b = no_first_at (has_node m.0) (is_else m.0) (is_after_if m.0) m
+    (filter (λ k. comes_before_else k.0) ms) b.0 (no_first ms b.1)
 
 no_else_at : (e : Bool) (m : Keyword) (ms : List Keyword) → (e ≡ true → ⊥) → ms ≡ [] → cond e (m ∷ ms) ms ≡ []
 no_else_at true m ms h r = absurd (h refl)
@@ -72,9 +75,11 @@ apart false h r = let z : false ≡ true = h in cc
 no_else : (ms : Named) → AreBehind ms → filter (λ k. is_else k.0) ms ≡ []
 unfolding AreBehind
 no_else [] b = refl
-no_else (m ∷ ms) b = no_else_at (is_else m.0) m (filter (λ k. is_else k.0) ms) (λ h. apart (is_after_if m.0) b.0 (else_before m.0 h)) (no_else ms b.1)
+no_else (m ∷ ms) b = no_else_at (is_else m.0) m (filter (λ k. is_else k.0) ms)
+    (λ h. apart (is_after_if m.0) b.0 (else_before m.0 h)) (no_else ms b.1)
 
-all_last_at : (n a e : Bool) (m : Keyword) (ks ls : List Keyword) → a ≡ true → ks ≡ ls → cond (n && a) (m ∷ ks) ks ≡ cond (is_ever (turn_by n a e)) (m ∷ ls) ls
+all_last_at : (n a e : Bool) (m : Keyword) (ks ls : List Keyword) → a ≡ true → ks ≡ ls
+    → cond (n && a) (m ∷ ks) ks ≡ cond (is_ever (turn_by n a e)) (m ∷ ls) ls
 all_last_at n false e m ks ls h r = cc
 all_last_at false true e m ks ls h r = r
 all_last_at true true e m ks ls h r = ap (λ xs. m ∷ xs) r
@@ -82,7 +87,8 @@ all_last_at true true e m ks ls h r = ap (λ xs. m ∷ xs) r
 all_last : (ms : Named) → AreBehind ms → filter (λ k. comes_after_else k.0) ms ≡ ever ms
 unfolding AreBehind turn_of
 all_last [] b = refl
-all_last (m ∷ ms) b = all_last_at (has_node m.0) (is_after_if m.0) (is_else m.0) m (filter (λ k. comes_after_else k.0) ms) (ever ms) b.0 (all_last ms b.1)
+all_last (m ∷ ms) b = all_last_at (has_node m.0) (is_after_if m.0) (is_else m.0) m
+    (filter (λ k. comes_after_else k.0) ms) (ever ms) b.0 (all_last ms b.1)
 
 -- ---- those behind `else`
 
@@ -96,18 +102,21 @@ no_more_at x y h r q =
 no_more_else : (x : List ℕ) (ms : Named) → is_else x ≡ true → Below x ms → filter (λ k. is_else k.0) ms ≡ []
 unfolding Below
 no_more_else x [] h b = refl
-no_more_else x (m ∷ ms) h b = no_else_at (is_else m.0) m (filter (λ k. is_else k.0) ms) (no_more_at x m.0 h b.0) (no_more_else x ms h b.1)
+no_more_else x (m ∷ ms) h b =
+    no_else_at (is_else m.0) m (filter (λ k. is_else k.0) ms) (no_more_at x m.0 h b.0) (no_more_else x ms h b.1)
 
 -- ---- one member more
 
-first_step : (n a e : Bool) (k : Keyword) (ks fs : List Keyword) → (a ≡ true → ks ≡ []) → ks ≡ fs → cond (n && (not e && not a)) (k ∷ ks) ks ≡ if_first (turn_by n a e) k fs
+first_step : (n a e : Bool) (k : Keyword) (ks fs : List Keyword) → (a ≡ true → ks ≡ []) → ks ≡ fs
+    → cond (n && (not e && not a)) (k ∷ ks) ks ≡ if_first (turn_by n a e) k fs
 first_step false a e k ks fs h r = r
 first_step true true true k ks fs h r = h refl
 first_step true true false k ks fs h r = h refl
 first_step true false true k ks fs h r = r
 first_step true false false k ks fs h r = ap (λ xs. k ∷ xs) r
 
-second_step : (n a e : Bool) (k : Keyword) (ks ss : List Keyword) → (e ≡ true → n ≡ true) → (e ≡ true → a ≡ false) → (e ≡ true → ks ≡ []) → (a ≡ true → ks ≡ []) → ks ≡ ss
+second_step : (n a e : Bool) (k : Keyword) (ks ss : List Keyword) → (e ≡ true → n ≡ true) → (e ≡ true → a ≡ false)
+    → (e ≡ true → ks ≡ []) → (a ≡ true → ks ≡ []) → ks ≡ ss
     → cond e (k ∷ ks) ks ≡ if_second (turn_by n a e) k ss
 second_step false a true k ks ss node before alone none r = absurd (let z : false ≡ true = node refl in cc)
 second_step true true true k ks ss node before alone none r = absurd (let z : true ≡ false = before refl in cc)
@@ -116,7 +125,8 @@ second_step false a false k ks ss node before alone none r = r
 second_step true true false k ks ss node before alone none r = none refl
 second_step true false false k ks ss node before alone none r = r
 
-last_step : (n a e : Bool) (k : Keyword) (ks ls after : List Keyword) → (a ≡ true → ks ≡ after) → ks ≡ ls → cond (n && a) (k ∷ ks) ks ≡ if_last (turn_by n a e) k after ls
+last_step : (n a e : Bool) (k : Keyword) (ks ls after : List Keyword) → (a ≡ true → ks ≡ after) → ks ≡ ls
+    → cond (n && a) (k ∷ ks) ks ≡ if_last (turn_by n a e) k after ls
 last_step false a e k ks ls after h r = r
 last_step true true e k ks ls after h r = ap (λ xs. k ∷ xs) (h refl)
 last_step true false true k ks ls after h r = r
@@ -143,7 +153,8 @@ lasts_are : (ms : Named) → IsAscending ms → filter (λ k. comes_after_else k
 unfolding turn_of
 lasts_are [] a = refl
 lasts_are (m ∷ ms) a =
-    last_step (has_node m.0) (is_after_if m.0) (is_else m.0) m (filter (λ k. comes_after_else k.0) ms) (last_turn ms) (ever ms)
+    last_step (has_node m.0) (is_after_if m.0) (is_else m.0) m (filter (λ k. comes_after_else k.0) ms)
+    (last_turn ms) (ever ms)
     (λ h. all_last ms (are_behind m.0 ms h (below_all ms m.0 a.0 a.1))) (lasts_are ms a.1)
 
 pub turns_in_order : (ms : Named) → IsAscending ms → first_turn ms ++ (second_turn ms ++ last_turn ms) ≡ in_order ms

@@ -1,7 +1,8 @@
 -- The applications that a keyword asks for: its schemas, each applied to a value (JSON Schema Core, sections 8.2.3, 10
 -- and 11). On a value of a type that it isn't about, a keyword asks for nothing, because such a value has no items, or
 -- no members. The order of the applications is this project's own choice.
-use Rattle.std.specs.Prelude.{ℕ, suc, ◌==◌, List, [], ◌∷◌, Bool, false, not, ◌||◌, Option, Some, None, map, filter, length, nat_lt, nat_le, codes, if◌then◌else◌}
+use Rattle.std.specs.Prelude.{ℕ, suc, ◌==◌, List, [], ◌∷◌, Bool, false, not, ◌||◌, Option, Some, None, map}
+use Rattle.std.specs.Prelude.{filter, length, nat_lt, nat_le, codes, if◌then◌else◌}
 use Rattle.std.specs.List.{list_any, flat_map}
 use Rattle.std.specs.Option.{option_map_or}
 use Rattle.std.specs.Str.{bytes_eq}
@@ -12,7 +13,11 @@ use Rattle.js_assert.specs.Pattern.{matches}
 use Rattle.js_walk.specs.Keywords.{Keyword}
 use Rattle.js_walk.specs.SchemaSet.{Text, SchemaSet, Step, Alone, Index, Name}
 use Rattle.js_walk.specs.declared.keywords.kind.Kind.{Kind}
-use Rattle.js_walk.specs.declared.keywords.kind.Kind.TheVariants.{Reference, DynamicReference, AllOf, AnyOf, OneOf, Not, If, Then, Else, DependentSchemas, PrefixItems, Items, Contains, Properties, PatternProperties, AdditionalProperties, PropertyNames, UnevaluatedItems, UnevaluatedProperties, Assertion, Annotation}
+use Rattle.js_walk.specs.declared.keywords.kind.Kind.TheVariants.{Reference, DynamicReference, AllOf, AnyOf, OneOf, Not}
+use Rattle.js_walk.specs.declared.keywords.kind.Kind.TheVariants.{If, Then, Else, DependentSchemas, PrefixItems, Items}
+use Rattle.js_walk.specs.declared.keywords.kind.Kind.TheVariants.{Contains, Properties, PatternProperties}
+use Rattle.js_walk.specs.declared.keywords.kind.Kind.TheVariants.{AdditionalProperties, PropertyNames, UnevaluatedItems}
+use Rattle.js_walk.specs.declared.keywords.kind.Kind.TheVariants.{UnevaluatedProperties, Assertion, Annotation}
 
 -- a schema applied to a value
 pub record Application (Place : Type 0) : Type 0 where
@@ -47,12 +52,14 @@ prefix_length siblings = option_map_or (λ argument. length (values argument)) (
 
 -- the adjacent `properties` has a schema with this name
 abbrev pub is_property : Named → Text → Bool
-is_property siblings name = option_map_or (λ argument. has name (entries argument)) (get (codes "properties") siblings) false
+is_property siblings name =
+    option_map_or (λ argument. has name (entries argument)) (get (codes "properties") siblings) false
 
 -- a pattern of the adjacent `patternProperties` matches this name
 abbrev pub matches_pattern : Named → Text → Bool
 matches_pattern siblings name =
-    option_map_or (λ argument. list_any (λ p. matches p.0 name) (entries argument)) (get (codes "patternProperties") siblings) false
+    option_map_or (λ argument. list_any (λ p. matches p.0 name) (entries argument))
+    (get (codes "patternProperties") siblings) false
 
 abbrev pub if_holds : {A : Type 0} → Option Bool → List A → List A
 if_holds None apps = []
@@ -70,7 +77,8 @@ application S place name step at value = record { place = S.below place name ste
 -- the verdict of the adjacent `if`, or None without it. `names` and `indexes`: the members and the items that the other
 -- keywords of the schema have evaluated.
 
-module _ {Place : Type 0} (S : SchemaSet Place) (path : List Place) (place : Place) (siblings : Named) (v : Value) (condition : Option Bool) (names : List Text) (indexes : List ℕ) (k : Keyword) where
+module _ {Place : Type 0} (S : SchemaSet Place) (path : List Place) (place : Place) (siblings : Named) (v : Value)
+    (condition : Option Bool) (names : List Text) (indexes : List ℕ) (k : Keyword) where
   -- the keyword's schema at the step, on the whole of v, on an item of v, on a member of v
   abbrev in_place : Step → Application Place
   in_place step = application S place k.0 step Alone v
@@ -111,10 +119,12 @@ module _ {Place : Type 0} (S : SchemaSet Place) (path : List Place) (place : Pla
   -- 10.3.2.1: the schema of each name that a member has, on the member
   asks_of Properties = map (λ m. applied_to_member (Name m.0) m) (filter (λ m. has m.0 (entries k.1)) (entries v))
   -- 10.3.2.2: for each pattern, its schema on each member whose name it matches
-  asks_of PatternProperties = flat_map (λ p. map (applied_to_member (Name p.0)) (filter (λ m. matches p.0 m.0) (entries v))) (entries k.1)
+  asks_of PatternProperties =
+      flat_map (λ p. map (applied_to_member (Name p.0)) (filter (λ m. matches p.0 m.0) (entries v))) (entries k.1)
   -- 10.3.2.3: the schema on each member that `properties` doesn't name and no pattern of `patternProperties` matches
   asks_of AdditionalProperties =
-      map (applied_to_member Alone) (filter (λ m. not (is_property siblings m.0 || matches_pattern siblings m.0)) (entries v))
+      map (applied_to_member Alone)
+      (filter (λ m. not (is_property siblings m.0 || matches_pattern siblings m.0)) (entries v))
   -- 10.3.2.4: the schema on each name, as a string; that it has the member's instance location is this project's own
   -- choice
   asks_of PropertyNames = map (λ m. applied_to_member Alone (m.0, text m.0)) (entries v)

@@ -1,6 +1,6 @@
 -- The set of schemas that documents make: its places are those of the documents, and what it answers of them are
--- js_bundle's definitions. Where no place is found it answers the place itself. In documents that are accepted that never
--- happens to a keyword that asks (`NothingStandsIn` in Laws).
+-- js_bundle's definitions. Where no place is found it answers the place itself. In documents that are accepted that
+-- never happens to a keyword that asks (`NothingStandsIn` in Laws).
 use Rattle.std.specs.Prelude.{unwrap_or, option_to_list}
 use Rattle.js_bundle.specs.Document.{Documents}
 use Rattle.js_bundle.specs.Location.{absolute_location}

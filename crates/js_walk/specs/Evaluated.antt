@@ -5,7 +5,11 @@ use Rattle.std.specs.List.{flat_map}
 use Rattle.js_walk.specs.Applications.{Application}
 use Rattle.js_walk.specs.SchemaSet.{Text, Step, Index, Name}
 use Rattle.js_walk.specs.declared.keywords.kind.Kind.{Kind}
-use Rattle.js_walk.specs.declared.keywords.kind.Kind.TheVariants.{Reference, DynamicReference, AllOf, AnyOf, OneOf, If, Then, Else, DependentSchemas, PrefixItems, Items, Contains, Properties, PatternProperties, AdditionalProperties, UnevaluatedItems, UnevaluatedProperties}
+use Rattle.js_walk.specs.declared.keywords.kind.Kind.TheVariants.{Reference, DynamicReference, AllOf, AnyOf, OneOf, If}
+use Rattle.js_walk.specs.declared.keywords.kind.Kind.TheVariants.{Then, Else, DependentSchemas, PrefixItems, Items}
+use Rattle.js_walk.specs.declared.keywords.kind.Kind.TheVariants.{Contains, Properties, PatternProperties}
+use Rattle.js_walk.specs.declared.keywords.kind.Kind.TheVariants.{AdditionalProperties, UnevaluatedItems}
+use Rattle.js_walk.specs.declared.keywords.kind.Kind.TheVariants.{UnevaluatedProperties}
 use Rattle.js_walk.specs.declared.walking.keeping.Origin.{Origin}
 use Rattle.js_walk.specs.declared.walking.keeping.Origin.TheVariants.{Applied, Holding, Below, Nowhere}
 

@@ -44,4 +44,5 @@ keywords_that test schema = filter (λ k. test k.0) (entries schema)
 -- a schema's keywords that have a node, in the order of their nodes; the members of a schema ascend,
 -- and a schema that is `true` or `false` has none
 abbrev pub keywords : Value → List Keyword
-keywords schema = keywords_that comes_before_else schema ++ (keywords_that is_else schema ++ keywords_that comes_after_else schema)
+keywords schema = keywords_that comes_before_else schema
+    ++ (keywords_that is_else schema ++ keywords_that comes_after_else schema)

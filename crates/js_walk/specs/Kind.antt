@@ -3,7 +3,11 @@ use Rattle.std.specs.Prelude.{ℕ, List, [], ◌∷◌, Bool, true, false, ◌||
 use Rattle.std.specs.Str.{bytes_eq}
 use Rattle.js_assert.specs.Keyword.{keyword_named}
 use Rattle.js_walk.specs.declared.keywords.kind.Kind.{Kind}
-use Rattle.js_walk.specs.declared.keywords.kind.Kind.TheVariants.{Reference, DynamicReference, AllOf, AnyOf, OneOf, Not, If, Then, Else, DependentSchemas, PrefixItems, Items, Contains, Properties, PatternProperties, AdditionalProperties, PropertyNames, UnevaluatedItems, UnevaluatedProperties, Assertion, Annotation}
+use Rattle.js_walk.specs.declared.keywords.kind.Kind.TheVariants.{Reference, DynamicReference, AllOf, AnyOf, OneOf, Not}
+use Rattle.js_walk.specs.declared.keywords.kind.Kind.TheVariants.{If, Then, Else, DependentSchemas, PrefixItems, Items}
+use Rattle.js_walk.specs.declared.keywords.kind.Kind.TheVariants.{Contains, Properties, PatternProperties}
+use Rattle.js_walk.specs.declared.keywords.kind.Kind.TheVariants.{AdditionalProperties, PropertyNames, UnevaluatedItems}
+use Rattle.js_walk.specs.declared.keywords.kind.Kind.TheVariants.{UnevaluatedProperties, Assertion, Annotation}
 
 abbrev pub Applicator : Type 0
 Applicator = List ℕ × Kind
@@ -15,7 +19,8 @@ applicators =
     (codes "$ref", Reference) ∷ (codes "$dynamicRef", DynamicReference)
     -- 10.2: schemas applied in place
     ∷ (codes "allOf", AllOf) ∷ (codes "anyOf", AnyOf) ∷ (codes "oneOf", OneOf) ∷ (codes "not", Not)
-    ∷ (codes "if", If) ∷ (codes "then", Then) ∷ (codes "else", Else) ∷ (codes "dependentSchemas", DependentSchemas)
+    ∷ (codes "if", If) ∷ (codes "then", Then) ∷ (codes "else", Else)
+    ∷ (codes "dependentSchemas", DependentSchemas)
     -- 10.3.1: schemas applied to the items of an array
     ∷ (codes "prefixItems", PrefixItems) ∷ (codes "items", Items) ∷ (codes "contains", Contains)
     -- 10.3.2: schemas applied to the members of an object

@@ -1,7 +1,8 @@
 -- The note of a node: an error if it fails, an annotation if it passes, or nothing (JSON Schema Core, sections 7.7 and
 -- 10 to 12.3.4). The standard leaves the texts of errors open, and allows `prefixItems` and `contains` to annotate
 -- `true` if they cover every item. The texts, and that `true` is always used then, are this project's own choices.
-use Rattle.std.specs.Prelude.{ℕ, ◌==◌, List, [], ◌∷◌, ◌++◌, Bool, true, false, Option, Some, None, map, filter, length, codes, decimal, if◌then◌else◌}
+use Rattle.std.specs.Prelude.{ℕ, ◌==◌, List, [], ◌∷◌, ◌++◌, Bool, true, false, Option, Some, None}
+use Rattle.std.specs.Prelude.{map, filter, length, codes, decimal, if◌then◌else◌}
 use Rattle.std.specs.Option.{option_map_or}
 use Rattle.js_doc.specs.Value.{Value, truth, list, object, Named}
 use Rattle.js_assert.specs.Argument.{values, entries}
@@ -13,7 +14,10 @@ use Rattle.js_walk.specs.Evaluated.{names_applied, indexes_applied}
 use Rattle.js_walk.specs.Keywords.{Keyword}
 use Rattle.js_walk.specs.SchemaSet.{Text}
 use Rattle.js_walk.specs.declared.keywords.kind.Kind.{Kind}
-use Rattle.js_walk.specs.declared.keywords.kind.Kind.TheVariants.{AnyOf, OneOf, Not, PrefixItems, Items, Contains, Properties, PatternProperties, AdditionalProperties, UnevaluatedItems, UnevaluatedProperties, Assertion, Annotation}
+use Rattle.js_walk.specs.declared.keywords.kind.Kind.TheVariants.{AnyOf, OneOf, Not, PrefixItems, Items, Contains}
+use Rattle.js_walk.specs.declared.keywords.kind.Kind.TheVariants.{Properties, PatternProperties, AdditionalProperties}
+use Rattle.js_walk.specs.declared.keywords.kind.Kind.TheVariants.{UnevaluatedItems, UnevaluatedProperties, Assertion}
+use Rattle.js_walk.specs.declared.keywords.kind.Kind.TheVariants.{Annotation}
 
 -- ---- the terms of the tables
 
@@ -57,14 +61,16 @@ member_names_among v among = filter (λ name. among_names name among) (map (λ m
 -- ---- a keyword's note: v is evaluated under the keyword k among its siblings, with these applications, of which those
 -- in `holding` hold. `matching`: how many items of v match the adjacent `contains`.
 
-module _ {Place : Type 0} (siblings : Named) (v : Value) (matching : ℕ) (k : Keyword) (apps holding : List (Application Place)) where
+module _ {Place : Type 0} (siblings : Named) (v : Value) (matching : ℕ) (k : Keyword)
+    (apps holding : List (Application Place)) where
   -- if it fails (12.3.4); a keyword that fails because its applications do has no error of its own
   abbrev pub error_of : Kind → Note
   error_of AnyOf = error (codes "no branch holds")
   error_of OneOf = error (decimal (length holding) ++ codes " branches hold")
   error_of Not = error (codes "the subschema holds")
   error_of Contains = error (codes "no matching item")
-  error_of Assertion = error_or_none (option_map_or (λ a. assertion.error a v matching) (asserted k.0 k.1 siblings) None)
+  error_of Assertion = error_or_none
+      (option_map_or (λ a. assertion.error a v matching) (asserted k.0 k.1 siblings) None)
   error_of _ = silent
 
   -- if it passes (10.3, 11)
@@ -74,7 +80,8 @@ module _ {Place : Type 0} (siblings : Named) (v : Value) (matching : ℕ) (k : K
   -- 10.3.1.2: `true` if it was applied to any item
   annotation_of Items = if_any (indexes_applied apps)
   -- 10.3.1.3: `true` if every item matches, else the indexes of those that do; of an empty array there are none
-  annotation_of Contains = said_of_array v (true_or (are_all_items v (indexes_applied holding)) (indexes (indexes_applied holding)))
+  annotation_of Contains =
+      said_of_array v (true_or (are_all_items v (indexes_applied holding)) (indexes (indexes_applied holding)))
   -- 10.3.2: the names of the members that it was applied to
   annotation_of Properties = said_of_object v (names (names_applied apps))
   annotation_of PatternProperties = said_of_object v (names (member_names_among v (names_applied apps)))

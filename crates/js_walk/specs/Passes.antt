@@ -11,7 +11,8 @@ use Rattle.js_assert.specs.Assertion.{Asserted, asserted, says}
 use Rattle.js_walk.specs.Keywords.{Keyword}
 use Rattle.js_walk.specs.SchemaSet.{Text}
 use Rattle.js_walk.specs.declared.keywords.kind.Kind.{Kind}
-use Rattle.js_walk.specs.declared.keywords.kind.Kind.TheVariants.{AnyOf, OneOf, Not, If, Contains, Assertion, Annotation}
+use Rattle.js_walk.specs.declared.keywords.kind.Kind.TheVariants.{AnyOf, OneOf, Not, If, Contains}
+use Rattle.js_walk.specs.declared.keywords.kind.Kind.TheVariants.{Assertion, Annotation}
 
 abbrev pub all : List Bool → Bool
 all verdicts = list_all (λ holds. holds) verdicts
@@ -25,11 +26,13 @@ how_many verdicts = count_by (λ holds. holds) verdicts
 
 -- the adjacent `minContains` is 0 (10.3.1.3; Validation, 6.4.5)
 abbrev pub may_contain_none : Named → Bool
-may_contain_none siblings = option_map_or (λ argument. same argument (whole (pos 0))) (get (codes "minContains") siblings) false
+may_contain_none siblings =
+    option_map_or (λ argument. same argument (whole (pos 0))) (get (codes "minContains") siblings) false
 
 -- the assertion that the keyword of this name makes in a schema
 abbrev pub assertion_in : Value → Text → Option Asserted
-assertion_in schema name = option_and_then (λ argument. asserted name argument (entries schema)) (get name (entries schema))
+assertion_in schema name =
+    option_and_then (λ argument. asserted name argument (entries schema)) (get name (entries schema))
 
 -- ---- the table: v is evaluated under the keyword k among its siblings, and these are the verdicts of k's
 -- applications. `matching`: how many items of v match the adjacent `contains`.

@@ -18,7 +18,8 @@ use Rattle.js_walk.specs.Verdict.{within, siblings, matching, asks, passes, appl
 
 -- ---- the units, by what is known within n
 
-module _ {Place : Type 0} (S : SchemaSet Place) (n : ℕ) (above : List Place) (place : Place) (at : Location) (v : Value) where
+module _ {Place : Type 0} (S : SchemaSet Place) (n : ℕ) (above : List Place) (place : Place)
+    (at : Location) (v : Value) where
   abbrev pub schema_unit : OutputUnit
   schema_unit = record {
     valid = (within S n).holds above place v;
@@ -30,8 +31,10 @@ module _ {Place : Type 0} (S : SchemaSet Place) (n : ℕ) (above : List Place) (
 
   abbrev pub note_of_keyword : Keyword → Note
   note_of_keyword k =
-      keyword_note (siblings S (within S n) above place v) v (matching S (within S n) above place v) k (asks S (within S n) above place v k)
-      (filter (application_holds S (within S n) above place v) (asks S (within S n) above place v k)) (passes S (within S n) above place v k) (kind k.0)
+      keyword_note (siblings S (within S n) above place v) v (matching S (within S n) above place v) k
+      (asks S (within S n) above place v k)
+      (filter (application_holds S (within S n) above place v) (asks S (within S n) above place v k))
+      (passes S (within S n) above place v k) (kind k.0)
 
   abbrev pub keyword_unit : Keyword → OutputUnit
   keyword_unit k = record {
@@ -66,10 +69,12 @@ module _ {Place : Type 0} (S : SchemaSet Place) (n : ℕ) where
 
   -- t is the node of the schema at a place, evaluated on a value
   abbrev pub IsNode : List Place → Place → Location → Value → ResultTree → Type 0
-  IsNode above place at v t = (t.root ≡ schema_unit S n above place at v) × AreKeywordNodes above place at v (keywords (S.schema place)) t.below
+  IsNode above place at v t = (t.root ≡ schema_unit S n above place at v)
+      × AreKeywordNodes above place at v (keywords (S.schema place)) t.below
 
 -- t is the result of evaluating v at a place, at the end of these places
-pub record IsResult {Place : Type 0} (S : SchemaSet Place) (above : List Place) (place : Place) (at : Location) (v : Value) (t : ResultTree) : Type 0 where
+pub record IsResult {Place : Type 0} (S : SchemaSet Place) (above : List Place) (place : Place) (at : Location)
+    (v : Value) (t : ResultTree) : Type 0 where
   pub bound : ℕ
   pub settled : Settled S bound above place v
   pub node : IsNode S bound above place at v t

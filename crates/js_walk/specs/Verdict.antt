@@ -2,7 +2,8 @@
 -- 7.7). References may lead on without end, so everything is defined within a number n of nested schema applications:
 -- within 0 nothing is settled, and within n + 1 a schema is evaluated by what is known of its keywords' applications
 -- within n.
-use Rattle.std.specs.Prelude.{◌≡◌, ℕ, zero, suc, List, [], ◌∷◌, ◌++◌, Bool, true, false, not, ◌&&◌, Option, option_map, map, filter, length, codes, if◌then◌else◌}
+use Rattle.std.specs.Prelude.{◌≡◌, ℕ, zero, suc, List, [], ◌∷◌, ◌++◌, Bool, true, false, not, ◌&&◌, Option}
+use Rattle.std.specs.Prelude.{option_map, map, filter, length, codes, if◌then◌else◌}
 use Rattle.std.specs.List.{list_all, flat_map}
 use Rattle.std.specs.Option.{option_map_or}
 use Rattle.js_doc.specs.Value.{Value, truth, Named}
@@ -34,7 +35,8 @@ accepts _ = true
 
 -- ---- a schema and its keywords, by what is known of their applications
 
-module _ {Place : Type 0} (S : SchemaSet Place) (known : Known Place) (above : List Place) (place : Place) (v : Value) where
+module _ {Place : Type 0} (S : SchemaSet Place) (known : Known Place) (above : List Place)
+    (place : Place) (v : Value) where
   -- the dynamic scope (section 7.1)
   abbrev pub path : List Place
   path = above ++ place ∷ []
@@ -50,7 +52,8 @@ module _ {Place : Type 0} (S : SchemaSet Place) (known : Known Place) (above : L
 
   -- the verdict of the adjacent `if`, if there is one (10.2.2.1)
   abbrev pub condition : Option Bool
-  condition = option_map (λ _. application_holds (application S place (codes "if") Alone Alone v)) (get (codes "if") siblings)
+  condition = option_map (λ _. application_holds (application S place (codes "if") Alone Alone v))
+      (get (codes "if") siblings)
 
   -- ---- a keyword, by its applications
 
@@ -60,15 +63,13 @@ module _ {Place : Type 0} (S : SchemaSet Place) (known : Known Place) (above : L
   -- what a keyword with these applications has evaluated; one that fails has evaluated nothing (7.7.1.2)
   abbrev pub names_by : ℕ → Keyword → List (Application Place) → List Text
   names_by matching k apps =
-      if passes_by matching k apps
-      then names_of apps (filter application_holds apps) (flat_map (λ a. known.names path a.place a.value) (filter application_holds apps)) (kind k.0)
-      else []
+      if passes_by matching k apps then names_of apps (filter application_holds apps)
+      (flat_map (λ a. known.names path a.place a.value) (filter application_holds apps)) (kind k.0) else []
 
   abbrev pub indexes_by : ℕ → Keyword → List (Application Place) → List ℕ
   indexes_by matching k apps =
-      if passes_by matching k apps
-      then indexes_of apps (filter application_holds apps) (flat_map (λ a. known.indexes path a.place a.value) (filter application_holds apps)) (kind k.0)
-      else []
+      if passes_by matching k apps then indexes_of apps (filter application_holds apps)
+      (flat_map (λ a. known.indexes path a.place a.value) (filter application_holds apps)) (kind k.0) else []
 
   -- ---- the other keywords than the two unevaluated ones
 
@@ -81,7 +82,8 @@ module _ {Place : Type 0} (S : SchemaSet Place) (known : Known Place) (above : L
   -- how many items match the adjacent `contains`; 0 without it
   abbrev pub matching : ℕ
   matching =
-      option_map_or (λ argument. length (filter application_holds (asks_of S path place siblings v condition [] [] (codes "contains", argument) Contains)))
+      option_map_or (λ argument. length (filter application_holds
+      (asks_of S path place siblings v condition [] [] (codes "contains", argument) Contains)))
       (get (codes "contains") siblings) 0
 
   -- The members, and the items, that the others have evaluated (11.2, 11.3). None is lost by leaving both unevaluated
@@ -124,8 +126,10 @@ abbrev pub with_one_more : {Place : Type 0} → SchemaSet Place → Known Place 
 with_one_more S known = record {
   settled = λ above place v. schema_settled S known above place v;
   holds = λ above place v. schema_settled S known above place v && schema_passes S known above place v;
-  names = λ above place v. if schema_passes S known above place v then flat_map (gives_names S known above place v) (keywords (S.schema place)) else [];
-  indexes = λ above place v. if schema_passes S known above place v then flat_map (gives_indexes S known above place v) (keywords (S.schema place)) else [];
+  names = λ above place v. if schema_passes S known above place v then flat_map (gives_names S known above place v)
+      (keywords (S.schema place)) else [];
+  indexes = λ above place v. if schema_passes S known above place v then flat_map (gives_indexes S known above place v)
+      (keywords (S.schema place)) else [];
 }
 
 abbrev pub nothing : {Place : Type 0} → Known Place

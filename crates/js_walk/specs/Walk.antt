@@ -1,7 +1,7 @@
 pub mod Keeping
-pub mod Scope
+pub mod DynamicScope
 pub mod Said
-pub mod Told
+pub mod Progress
 pub mod Visited
 pub mod Steps
 pub mod Ended

@@ -18,7 +18,7 @@ use crate::keywords::keyword::{Keyword, KeywordAt};
 use crate::walking::Path;
 use js_bundle::{KeywordName, Place, Schemas, Step};
 use js_doc::Doc;
-use js_places::laws::{a_number_tells_a_resource, numbers_tell_the_dynamic_scope};
+use js_places::laws::{a_number_determines_a_resource, numbers_determine_the_dynamic_scope};
 
 /// The schema at a place. The look-up starts at the root of its document.
 #[tactic(auto, using(crate::proofs::Paths::schema_is))]
@@ -150,8 +150,8 @@ fn led_by_numbers(schemas: &Schemas, place: Place, _path: &Path, resources: &[us
     ensures { StandsFor schemas.now result (option_and_then
         (dynamic_ref_target (sites schemas.now) (path_at schemas.now _path.now)) (place_at schemas.now place)) }
 {
-    a_number_tells_a_resource();
-    numbers_tell_the_dynamic_scope();
+    a_number_determines_a_resource();
+    numbers_determine_the_dynamic_scope();
     led_in(schemas, place, resources)
 }
 

@@ -14,7 +14,7 @@ mod steps;
 mod tally;
 mod trail;
 mod unseen;
-mod way;
+mod walk_state;
 mod world;
 
 pub use fault::WalkFault;
@@ -22,6 +22,6 @@ pub use path::{Path, ScopedPath};
 pub use pointer_text::{HeldText, PointerText, UnseenText};
 pub use reporter::Reporter;
 pub use start::walk_from;
-pub use tally::{Judged, Others, Tally};
+pub use tally::{KeywordVerdict, Others, Tally};
 pub use trail::Trail;
 pub use world::World;

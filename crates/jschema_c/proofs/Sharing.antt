@@ -7,31 +7,32 @@ use Rattle.jschema_c.specs.declared.status.Status.TheVariants as status
 use Rattle.jschema_c.specs.Exports.{IsPut, IsSharedBy, Shares}
 use Rattle.jschema_c.specs.Session.{finished_in}
 
-put : (held before after : Option Session) (s shared : Session) (x : Status) → held ≡ Some s → IsSharedBy s shared
-    → IsPut shared before after x → Shares held before after x
-put held before after s shared status.Done e is done = (s, shared, e, is, done)
-put held before after s shared status.Failed e is stays = stays
-put held before after s shared status.Invalid e is none = absurd none
-put held before after s shared status.Misused e is none = absurd none
-put held before after s shared status.Refused e is none = absurd none
+put : (giver before after : Option Session) (s shared : Session) (x : Status) → giver ≡ Some s → IsSharedBy s shared
+    → IsPut shared before after x → Shares giver before after x
+put giver before after s shared status.Done e is done = (s, shared, e, is, done)
+put giver before after s shared status.Failed e is stays = stays
+put giver before after s shared status.Invalid e is none = absurd none
+put giver before after s shared status.Misused e is none = absurd none
+put giver before after s shared status.Refused e is none = absurd none
 
-as_it_is : (held before after now : Option Session) (x y : Status) → x ≡ y → after ≡ now → Shares held before now y
-    → Shares held before after x
-as_it_is held before after now x y same there shares =
-    subst (λ z. Shares held before after z) (sym same) (subst (λ z. Shares held before z y) (sym there) shares)
+as_it_is : (giver before after now : Option Session) (x y : Status) → x ≡ y → after ≡ now → Shares giver before now y
+    → Shares giver before after x
+as_it_is giver before after now x y same there shares =
+    subst (λ z. Shares giver before after z) (sym same) (subst (λ z. Shares giver before z y) (sym there) shares)
 
-pub put_is_shared : (held before after now : Option Session) (s shared : Session) (x y : Status) → held ≡ Some s
-    → IsSharedBy s shared → IsPut shared before now y → x ≡ y → after ≡ now → Shares held before after x
-put_is_shared held before after now s shared x y e is done same there =
-    as_it_is held before after now x y same there (put held before now s shared y e is done)
+pub put_is_shared : (giver before after now : Option Session) (s shared : Session) (x y : Status) → giver ≡ Some s
+    → IsSharedBy s shared → IsPut shared before now y → x ≡ y → after ≡ now → Shares giver before after x
+put_is_shared giver before after now s shared x y e is done same there =
+    as_it_is giver before after now x y same there (put giver before now s shared y e is done)
 
-pub unfinished_is_misused : (held before after : Option Session) (s : Session) (x : Status) → held ≡ Some s
-    → finished_in s.phase ≡ None → x ≡ status.Misused → after ≡ before → Shares held before after x
-unfinished_is_misused held before after s x e none same there =
-    as_it_is held before after before x status.Misused same there (
+pub unfinished_is_misused : (giver before after : Option Session) (s : Session) (x : Status) → giver ≡ Some s
+    → finished_in s.phase ≡ None → x ≡ status.Misused → after ≡ before → Shares giver before after x
+unfinished_is_misused giver before after s x e none same there =
+    as_it_is giver before after before x status.Misused same there (
       refl,
       λ t f. subst (λ z. finished_in z.phase ≡ None) (ap (λ o. unwrap_or o s) (sym e ∙ f)) none,
     )
 
-pub failed_stays : (held before after : Option Session) (x : Status) → x ≡ status.Failed → after ≡ before → Shares held before after x
-failed_stays held before after x same there = as_it_is held before after before x status.Failed same there refl
+pub failed_stays : (giver before after : Option Session) (x : Status) → x ≡ status.Failed → after ≡ before
+    → Shares giver before after x
+failed_stays giver before after x same there = as_it_is giver before after before x status.Failed same there refl

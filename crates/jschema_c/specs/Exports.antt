@@ -24,18 +24,22 @@ OnHandle Call (Some before) None number = ⊥
 OnHandle Call None after number = (number ≡ code status.Misused) × (after ≡ None)
 
 abbrev pub SessionAdds : List ℕ → List ℕ → Session → Session → Status → Type 0
-SessionAdds uri document before after s = AddCall uri document before.phase after.phase s after.text.items × (after.entries.items ≡ before.entries.items)
+SessionAdds uri document before after s = AddCall uri document before.phase after.phase s after.text.items
+    × (after.entries.items ≡ before.entries.items)
 
 abbrev pub SessionFinishes : Session → Session → Status → Type 0
-SessionFinishes before after s = FinishCall before.phase after.phase s after.text.items × (after.entries.items ≡ before.entries.items)
+SessionFinishes before after s = FinishCall before.phase after.phase s after.text.items
+    × (after.entries.items ≡ before.entries.items)
 
 abbrev pub SessionLists : Session → Session → Status → Type 0
 SessionLists before after s =
-    ListCall before.phase s after.text.items × ((after.phase ≡ before.phase) × (after.entries.items ≡ before.entries.items))
+    ListCall before.phase s after.text.items
+    × ((after.phase ≡ before.phase) × (after.entries.items ≡ before.entries.items))
 
 abbrev pub SessionEnters : List ℕ → ℕ → ℕ → Session → Session → Status → Type 0
 SessionEnters uri old new before after s =
-    EntryCall before.phase uri (before.entries.items, old) (after.entries.items, new) s after.text.items × (after.phase ≡ before.phase)
+    EntryCall before.phase uri (before.entries.items, old) (after.entries.items, new) s after.text.items
+    × (after.phase ≡ before.phase)
 
 abbrev pub SessionChecks : ℕ → List ℕ → ℕ → Session → Session → Status → Type 0
 SessionChecks entry instance format before after s =
@@ -57,10 +61,12 @@ IsPut s before after _ = ⊥
 
 -- the other handle holds a session that shares the schemas of the one, or all is as before
 abbrev pub Shares : Option Session → Option Session → Option Session → Status → Type 0
-Shares held before after status.Done = (s : Session) × (shared : Session) × (held ≡ Some s) × IsSharedBy s shared × (after ≡ Some shared)
-Shares held before after status.Misused = (after ≡ before) × ((s : Session) → held ≡ Some s → finished_in s.phase ≡ None)
-Shares held before after status.Failed = after ≡ before
-Shares held before after _ = ⊥
+Shares giver before after status.Done = (s : Session) × (shared : Session) × (giver ≡ Some s) × IsSharedBy s shared
+    × (after ≡ Some shared)
+Shares giver before after status.Misused = (after ≡ before)
+    × ((s : Session) → giver ≡ Some s → finished_in s.phase ≡ None)
+Shares giver before after status.Failed = after ≡ before
+Shares giver before after _ = ⊥
 
 -- as much of the text as fits is copied, and the rest stays
 abbrev pub copied : List ℕ → List ℕ → List ℕ

@@ -1,4 +1,4 @@
-pub mod Held
+pub mod BoxedValue
 pub mod Status
 pub mod Session
 pub mod Exports

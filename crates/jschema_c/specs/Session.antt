@@ -1,5 +1,6 @@
 -- What a session answers to each call, and what it and its text are afterwards.
-use Rattle.std.specs.Prelude.{◌≡◌, ℕ, List, [], ◌∷◌, ◌++◌, length, slice_get, Option, Some, None, Result, Ok, Err, Bool, true, false, ⊤}
+use Rattle.std.specs.Prelude.{◌≡◌, ℕ, List, [], ◌∷◌, ◌++◌, length, slice_get, Option, Some}
+use Rattle.std.specs.Prelude.{None, Result, Ok, Err, Bool, true, false, ⊤}
 use Rattle.std.specs.Str.{IsUtf8}
 use Rattle.js_tree.specs.declared.forms.Format.{Format}
 use Rattle.js_bundle.specs.Adding.{IsAdded, IsRefusedBy}
@@ -59,7 +60,8 @@ CannotAdd (phase.Adding documents) uri = ¬ (IsUtf8 uri)
 CannotAdd (phase.Finished schemas) uri = ⊤
 
 abbrev pub RefusesText : Phase → List ℕ → List ℕ → Fault → Type 0
-RefusesText (phase.Adding documents) uri text f = (r : Refusal) × IsRefusedBy (length documents) uri text r × (f ≡ fault_by r.kind r)
+RefusesText (phase.Adding documents) uri text f = (r : Refusal) × IsRefusedBy (length documents) uri text r
+    × (f ≡ fault_by r.kind r)
 RefusesText (phase.Finished schemas) uri text f = ⊥
 
 -- the document is added, or all is as it was
@@ -70,7 +72,8 @@ Adds uri text old new (Ok _) = ⊥
 Adds uri text old new (Err f) = (new ≡ old) × RefusesText old uri text f
 
 abbrev pub AddCall : List ℕ → List ℕ → Phase → Phase → Status → List ℕ → Type 0
-AddCall uri document old new answered text = (came : Result Status Fault) × Adds uri document old new came × Says [] came answered text
+AddCall uri document old new answered text = (came : Result Status Fault) × Adds uri document old new came
+    × Says [] came answered text
 
 -- ---- finishing
 
@@ -108,13 +111,14 @@ CannotList (phase.Finished schemas) = ⊥
 
 -- the text has a line for each place
 abbrev pub Lists : Phase → List ℕ → Result Status Fault → Type 0
-Lists held text (Ok status.Done) = Listed held text
-Lists held text (Ok status.Misused) = CannotList held × (text ≡ [])
-Lists held text (Ok _) = ⊥
-Lists held text (Err f) = f ≡ fault.Memory
+Lists state text (Ok status.Done) = Listed state text
+Lists state text (Ok status.Misused) = CannotList state × (text ≡ [])
+Lists state text (Ok _) = ⊥
+Lists state text (Err f) = f ≡ fault.Memory
 
 abbrev pub ListCall : Phase → Status → List ℕ → Type 0
-ListCall held answered text = (given : List ℕ) × (came : Result Status Fault) × Lists held given came × Says given came answered text
+ListCall state answered text = (given : List ℕ) × (came : Result Status Fault) × Lists state given came
+    × Says given came answered text
 
 -- ---- entries
 
@@ -122,7 +126,8 @@ ListCall held answered text = (given : List ℕ) × (came : Result Status Fault)
 abbrev pub Entered : Phase → List ℕ → List ℕ → List ℕ → ℕ → Type 0
 Entered (phase.Adding documents) uri old new number = ⊥
 Entered (phase.Finished schemas) uri old new number =
-    (place : ℕ) × StandsFor schemas.value place (entry_place schemas.value uri) × (new ≡ old ++ place ∷ []) × (number ≡ length old)
+    (place : ℕ) × StandsFor schemas.value place (entry_place schemas.value uri) × (new ≡ old ++ place ∷ [])
+    × (number ≡ length old)
 
 -- documents aren't finished yet, or the URI isn't UTF-8
 abbrev pub CannotEnter : Phase → List ℕ → Type 0
@@ -131,7 +136,8 @@ CannotEnter (phase.Finished schemas) uri = ¬ (IsUtf8 uri)
 
 abbrev pub RefusesEntry : Phase → List ℕ → Fault → Type 0
 RefusesEntry (phase.Adding documents) uri f = ⊥
-RefusesEntry (phase.Finished schemas) uri f = (e : EntryFault) × IsEntryFault schemas.value uri e × (f ≡ entry_fault_of e)
+RefusesEntry (phase.Finished schemas) uri f = (e : EntryFault) × IsEntryFault schemas.value uri e
+    × (f ≡ entry_fault_of e)
 
 -- of the entries and the number, before and after
 abbrev pub Enters : Phase → List ℕ → List ℕ × ℕ → List ℕ × ℕ → Result Status Fault → Type 0
@@ -141,20 +147,23 @@ Enters schemas uri old new (Ok _) = ⊥
 Enters schemas uri old new (Err f) = (new ≡ old) × RefusesEntry schemas uri f
 
 abbrev pub EntryCall : Phase → List ℕ → List ℕ × ℕ → List ℕ × ℕ → Status → List ℕ → Type 0
-EntryCall schemas uri old new answered text = (came : Result Status Fault) × Enters schemas uri old new came × Says [] came answered text
+EntryCall schemas uri old new answered text = (came : Result Status Fault) × Enters schemas uri old new came
+    × Says [] came answered text
 
 -- ---- checks
 
 -- what is asked: the place of finished documents that an entry has, and the format of a number
-pub record Asked (held : Phase) (entries : List ℕ) (entry number : ℕ) (documents : Documents) (place : ℕ) (format : Format) : Type 0 where
-  pub finished : finished_in held ≡ Some documents
+pub record Asked (state : Phase) (entries : List ℕ) (entry number : ℕ) (documents : Documents) (place : ℕ)
+    (format : Format) : Type 0 where
+  pub finished : finished_in state ≡ Some documents
   pub kept : slice_get entries entry ≡ Some place
   pub there : is_place documents place ≡ true
   pub numbered : number ≡ format_number format
 
 -- nothing is asked: documents aren't finished, or there is no such entry of them, or no such format
 abbrev pub NotAsked : Phase → List ℕ → ℕ → ℕ → Type 0
-NotAsked held entries entry number = (documents : Documents) (place : ℕ) (format : Format) → Asked held entries entry number documents place format → ⊥
+NotAsked state entries entry number = (documents : Documents) (place : ℕ) (format : Format)
+    → Asked state entries entry number documents place format → ⊥
 
 -- the outcome has this verdict and this text
 abbrev pub IsOutput : (Result Output Fault → Type 0) → Bool → List ℕ → Type 0
@@ -168,11 +177,12 @@ Judges Expected text (Err f) = IsRefusal f → Expected (Err f)
 
 -- the outcome at the place, or nothing is asked
 abbrev pub Checks : Phase → List ℕ → ℕ → List ℕ → ℕ → List ℕ → Result Status Fault → Type 0
-Checks held entries entry instance number text (Ok status.Misused) = NotAsked held entries entry number × (text ≡ [])
-Checks held entries entry instance number text came =
-    (documents : Documents) × (place : ℕ) × (format : Format) × Asked held entries entry number documents place format
+Checks state entries entry instance number text (Ok status.Misused) = NotAsked state entries entry number × (text ≡ [])
+Checks state entries entry instance number text came =
+    (documents : Documents) × (place : ℕ) × (format : Format) × Asked state entries entry number documents place format
     × Judges (InstanceOutcome documents (place_at documents place) format instance) text came
 
 abbrev pub CheckCall : Phase → List ℕ → ℕ → List ℕ → ℕ → Status → List ℕ → Type 0
-CheckCall held entries entry instance number answered text =
-    (given : List ℕ) × (came : Result Status Fault) × Checks held entries entry instance number given came × Says given came answered text
+CheckCall state entries entry instance number answered text =
+    (given : List ℕ) × (came : Result Status Fault) × Checks state entries entry instance number given came
+    × Says given came answered text

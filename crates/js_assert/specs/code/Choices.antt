@@ -20,4 +20,5 @@ value_in docs i = value_of (get_or docs i doc.Null)
 
 -- the places are in the order of the values there, and these are the values
 abbrev pub IsIndex : List Doc → List ℕ → Type 0
-IsIndex docs places = IsSorted (on (value_in docs) order) places × ((v : Value) → is_among v (map (value_in docs) places) ≡ is_among v (map value_of docs))
+IsIndex docs places = IsSorted (on (value_in docs) order) places
+    × ((v : Value) → is_among v (map (value_in docs) places) ≡ is_among v (map value_of docs))

@@ -31,17 +31,21 @@ pub leads_itself : (xs : List Candidate) → Leads xs xs
 leads_itself xs = record { clear = λ h. h; first = λ r h. h }
 
 pub leads_past : (whole xs rest : List Candidate) → Leads whole (xs ++ rest) → IsClear xs → Leads whole rest
-leads_past whole xs rest l h = record { clear = λ g. l.clear (clear_append xs rest h g); first = λ r g. l.first r (first_later xs rest r h g) }
+leads_past whole xs rest l h =
+    record { clear = λ g. l.clear (clear_append xs rest h g); first = λ r g. l.first r (first_later xs rest r h g) }
 
-pub leads_stop : (whole xs rest : List Candidate) (e : CheckFault) → Leads whole (xs ++ rest) → IsStopped xs e → IsStopped whole e
+pub leads_stop : (whole xs rest : List Candidate) (e : CheckFault) → Leads whole (xs ++ rest)
+    → IsStopped xs e → IsStopped whole e
 leads_stop whole xs rest Memory l h = tt
 leads_stop whole xs rest (Refused r) l h = l.first r (first_here xs rest r h)
 
-pub later_err : {A : Type 0} (xs ys : List Candidate) → IsClear xs → (r : Result A CheckFault) → IfErr r (IsStopped ys) → IfErr r (IsStopped (xs ++ ys))
+pub later_err : {A : Type 0} (xs ys : List Candidate) → IsClear xs → (r : Result A CheckFault) → IfErr r (IsStopped ys)
+    → IfErr r (IsStopped (xs ++ ys))
 later_err xs ys h (Ok u) g = tt
 later_err xs ys h (Err e) g = stopped_later xs ys e h g
 
-pub clear_from_ok : {A : Type 0} (xs ys : List Candidate) → IsClear xs → (r : Result A CheckFault) → OnOk r (IsClear ys) → OnOk r (IsClear (xs ++ ys))
+pub clear_from_ok : {A : Type 0} (xs ys : List Candidate) → IsClear xs → (r : Result A CheckFault) → OnOk r (IsClear ys)
+    → OnOk r (IsClear (xs ++ ys))
 clear_from_ok xs ys h (Ok u) g = clear_append xs ys h g
 clear_from_ok xs ys h (Err e) g = tt
 

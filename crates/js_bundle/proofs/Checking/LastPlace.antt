@@ -1,5 +1,6 @@
 -- The last of the places that were gone over.
-use Rattle.std.proofs.Common.{◌≡◌, ◌+◌, ◌-◌, ◌<◌, ℕ, List, [], ◌∷◌, ◌++◌, Some, map, take, get_or, length, slice_get, refl, sym, ap, ◌∙◌, arith}
+use Rattle.std.proofs.Common.{◌≡◌, ◌+◌, ◌-◌, ◌<◌, ℕ, List, [], ◌∷◌, ◌++◌, Some, map, take, get_or}
+use Rattle.std.proofs.Common.{length, slice_get, refl, sym, ap, ◌∙◌, arith}
 use Rattle.std.proofs.lemmas.List.{length-append}
 use Rattle.js_places.specs.declared.scan.site.Site as rust
 use Rattle.js_places.specs.code.Positions.{IsLast}
@@ -17,5 +18,7 @@ last_is xs x =
     ap (slice_get (xs ++ x ∷ [])) last ∙ last_there xs x
 
 -- the place that was just gone over is the last
-pub last_more : (ss : List rust.Site) (i : ℕ) (x : rust.Site) → i < length ss → x ≡ get_or ss i x → IsLast (map site_of (take (i + 1) ss)) (Some (site_of x))
-last_more ss i x low is = sym (ap (λ l. slice_get l (length l - 1)) (map_take_more site_of ss i x low is) ∙ last_is (map site_of (take i ss)) (site_of x))
+pub last_more : (ss : List rust.Site) (i : ℕ) (x : rust.Site) → i < length ss → x ≡ get_or ss i x
+    → IsLast (map site_of (take (i + 1) ss)) (Some (site_of x))
+last_more ss i x low is = sym (ap (λ l. slice_get l (length l - 1)) (map_take_more site_of ss i x low is)
+    ∙ last_is (map site_of (take i ss)) (site_of x))

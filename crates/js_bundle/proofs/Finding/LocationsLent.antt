@@ -3,8 +3,8 @@ use Rattle.std.proofs.Common.{◌≡◌, List, ℕ, [], ◌++◌, true, false, O
 use Rattle.std.proofs.Common.{if◌then◌else◌, sym, ap, ◌∙◌}
 use Rattle.std.proofs.lemmas.List.{append-nil}
 use Rattle.js_doc.specs.Fragment.{fragment_text}
-use Rattle.js_places.specs.declared.index.kept_location.KeptLocation.{KeptLocation}
-use Rattle.js_places.specs.code.KeptLocation.{is_long, kept_location, repeated}
+use Rattle.js_places.specs.declared.index.stored_location.StoredLocation.{StoredLocation}
+use Rattle.js_places.specs.code.StoredLocation.{is_long, stored_location, repeated}
 use Rattle.js_places.specs.Location.{canonical, location, way}
 use Rattle.js_places.specs.Resource.{Site}
 
@@ -23,23 +23,25 @@ written place = ap (λ w. canonical place ++ (codes "#" ++ fragment_text w)) (ap
 same : {A : Type 0} (x y : A) → Some x ≡ Some y → x ≡ y
 same x y e = ap (λ o. unwrap_or o x) e
 
-pub in_two_pieces : (o : Option Site) (kept : KeptLocation) (uri : List ℕ) → option_map kept_location o ≡ Some kept
-    → option_map canonical o ≡ Some uri → kept.is_fragment ≡ true → option_map location o ≡ Some (uri ++ kept.text)
-in_two_pieces None kept uri e u long = absurd (cc)
-in_two_pieces (Some place) kept uri e u long =
-    let is = same (kept_location place) kept e in
+pub in_two_pieces : (o : Option Site) (checked : StoredLocation) (uri : List ℕ)
+    → option_map stored_location o ≡ Some checked
+    → option_map canonical o ≡ Some uri → checked.is_fragment ≡ true
+    → option_map location o ≡ Some (uri ++ checked.text)
+in_two_pieces None checked uri e u long = absurd (cc)
+in_two_pieces (Some place) checked uri e u long =
+    let is = same (stored_location place) checked e in
     let its = same (canonical place) uri u in
     ap Some (
     written place
     ∙ whole_behind (canonical place) (codes "#" ++ fragment_text (way place)) (ap (λ k. k.is_fragment) is ∙ long)
-    ∙ ap (λ k. canonical place ++ k.text) is ∙ ap (λ t. t ++ kept.text) its
+    ∙ ap (λ k. canonical place ++ k.text) is ∙ ap (λ t. t ++ checked.text) its
     )
 
-pub in_one_piece : (o : Option Site) (kept : KeptLocation) → option_map kept_location o ≡ Some kept
-    → kept.is_fragment ≡ false → option_map location o ≡ Some (kept.text ++ [])
-in_one_piece None kept e short = absurd (cc)
-in_one_piece (Some place) kept e short =
-    let is = same (kept_location place) kept e in
+pub in_one_piece : (o : Option Site) (checked : StoredLocation) → option_map stored_location o ≡ Some checked
+    → checked.is_fragment ≡ false → option_map location o ≡ Some (checked.text ++ [])
+in_one_piece None checked e short = absurd (cc)
+in_one_piece (Some place) checked e short =
+    let is = same (stored_location place) checked e in
     ap Some (
     written place
     ∙ whole_kept (canonical place) (codes "#" ++ fragment_text (way place)) (ap (λ k. k.is_fragment) is ∙ short)

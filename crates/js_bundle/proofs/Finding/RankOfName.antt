@@ -1,5 +1,6 @@
 -- The rank of a name among those of an object's members, which ascend.
-use Rattle.std.proofs.Common.{◌≡◌, ℕ, zero, suc, ◌+◌, ◌-◌, ◌<◌, ◌≤◌, List, [], ◌∷◌, ◌++◌, inl, inr, ◌⊎◌, length, get_or, Bool, true, false, if◌then◌else◌, Less, Some, slice_get, refl, sym, ap, ◌∙◌, arith}
+use Rattle.std.proofs.Common.{◌≡◌, ℕ, zero, suc, ◌+◌, ◌-◌, ◌<◌, ◌≤◌, List, [], ◌∷◌, ◌++◌, inl, inr, ◌⊎◌, length, get_or}
+use Rattle.std.proofs.Common.{Bool, true, false, if◌then◌else◌, Less, Some, slice_get, refl, sym, ap, ◌∙◌, arith}
 use Rattle.std.specs.Cmp.{tied_itself}
 use Rattle.std.specs.List.Sorted.{IsPartitionPoint, IsPartitionedBy}
 use Rattle.std.specs.Option.{option_map_or}
@@ -11,7 +12,7 @@ use Rattle.js_doc.specs.Members.{get, name_cmp, NamesAscendInMembers}
 use Rattle.js_doc.specs.Pointer.{Tokens}
 use Rattle.js_doc.specs.Value.{Value, Members, no_members, member}
 use Rattle.js_doc.specs.Parts.{member_list}
-use Rattle.js_doc.proofs.Named.{is_text-sound}
+use Rattle.js_doc.proofs.TokenLookup.{is_text-sound}
 use Rattle.js_places.specs.Keyword.{Text}
 use Rattle.js_bundle.specs.code.PlaceBelow.{ends_before}
 use Rattle.js_places.proofs.Listing.LeastSetListed.{Among}
@@ -28,14 +29,16 @@ some_first x y e = ap (λ p. p.0) (some_is x y e)
 
 -- ---- a member has a rank
 
-pub rank_there : (name : Text) (u : Value) (ms : Members) → get name (member_list ms) ≡ Some u → (r : ℕ) × (slice_get (member_list ms) r ≡ Some (name, u))
+pub rank_there : (name : Text) (u : Value) (ms : Members) → get name (member_list ms) ≡ Some u
+    → (r : ℕ) × (slice_get (member_list ms) r ≡ Some (name, u))
 rank_there name u no_members e = absurd (cc)
 rank_there name u (member l v ms) e = by_name (bytes_eq name l) refl (rank_there name u ms)
   where
     first_get : (if bytes_eq name l then Some v else get name (member_list ms)) ≡ Some u
     first_get = sym (get_first name l v (member_list ms)) ∙ e
 
-    by_name : (b : Bool) → bytes_eq name l ≡ b → (get name (member_list ms) ≡ Some u → (r : ℕ) × (slice_get (member_list ms) r ≡ Some (name, u)))
+    by_name : (b : Bool) → bytes_eq name l ≡ b
+        → (get name (member_list ms) ≡ Some u → (r : ℕ) × (slice_get (member_list ms) r ≡ Some (name, u)))
         → (r : ℕ) × (slice_get (member_list (member l v ms)) r ≡ Some (name, u))
     by_name true is next =
         let same : l ≡ name = sym (is_text-sound name l is) in
@@ -47,20 +50,23 @@ rank_there name u (member l v ms) e = by_name (bytes_eq name l) refl (rank_there
 
 -- ---- names ascend with their ranks
 
-among_at : (ms : Members) (r : ℕ) (name : Text) (u : Value) → slice_get (member_list ms) r ≡ Some (name, u) → Among (name, u) (member_list ms)
+among_at : (ms : Members) (r : ℕ) (name : Text) (u : Value) → slice_get (member_list ms) r ≡ Some (name, u)
+    → Among (name, u) (member_list ms)
 among_at no_members r name u e = absurd (cc)
 among_at (member l v ms) zero name u e =
     inl (sym (some_is (l, v) (name, u) e))
 among_at (member l v ms) (suc r) name u e = inr (among_at ms r name u e)
 
-pub ranks_ascend : (ms : Members) (i r : ℕ) (a b : Text) (u v : Value) → NamesAscendInMembers ms → i < r → slice_get (member_list ms) i ≡ Some (a, u) → slice_get (member_list ms) r ≡ Some (b, v)
+pub ranks_ascend : (ms : Members) (i r : ℕ) (a b : Text) (u v : Value) → NamesAscendInMembers ms → i < r
+    → slice_get (member_list ms) i ≡ Some (a, u) → slice_get (member_list ms) r ≡ Some (b, v)
     → name_cmp a b ≡ Less
 ranks_ascend no_members i r a b u v h low e f = absurd (cc)
 ranks_ascend (member l w ms) zero zero a b u v h low e f = absurd (omega (arith, low))
 ranks_ascend (member l w ms) zero (suc r) a b u v h low e f =
     ap (λ x. name_cmp x b) (sym (some_first (l, w) (a, u) e)) ∙ below_all l ms h.0 h.2 b v (among_at ms r b v f)
 ranks_ascend (member l w ms) (suc i) zero a b u v h low e f = absurd (omega (arith, low))
-ranks_ascend (member l w ms) (suc i) (suc r) a b u v h low e f = ranks_ascend ms i r a b u v h.2 (omega (arith, low)) e f
+ranks_ascend (member l w ms) (suc i) (suc r) a b u v h low e f =
+    ranks_ascend ms i r a b u v h.2 (omega (arith, low)) e f
 
 split_at : (i r : ℕ) → r ≤ i → (r < i) ⊎ (i ≡ r)
 split_at zero zero low = inr refl
@@ -73,18 +79,22 @@ split_at (suc i) (suc r) low = further (split_at i r (omega (arith, low)))
     further (inr e) = inr (ap suc e)
 
 -- so those before it come before it, and the others don't
-pub before_rank : (ms : Members) (i r : ℕ) (a b : Text) (u v : Value) → NamesAscendInMembers ms → i < r → slice_get (member_list ms) i ≡ Some (a, u) → slice_get (member_list ms) r ≡ Some (b, v)
+pub before_rank : (ms : Members) (i r : ℕ) (a b : Text) (u v : Value) → NamesAscendInMembers ms → i < r
+    → slice_get (member_list ms) i ≡ Some (a, u) → slice_get (member_list ms) r ≡ Some (b, v)
     → is_lt (name_cmp a b) ≡ true
 before_rank ms i r a b u v h low e f = ap is_lt (ranks_ascend ms i r a b u v h low e f)
 
-pub from_rank : (ms : Members) (i r : ℕ) (a b : Text) (u v : Value) → NamesAscendInMembers ms → r ≤ i → slice_get (member_list ms) i ≡ Some (a, u) → slice_get (member_list ms) r ≡ Some (b, v)
+pub from_rank : (ms : Members) (i r : ℕ) (a b : Text) (u v : Value) → NamesAscendInMembers ms → r ≤ i
+    → slice_get (member_list ms) i ≡ Some (a, u) → slice_get (member_list ms) r ≡ Some (b, v)
     → is_lt (name_cmp a b) ≡ false
 from_rank ms i r a b u v h low e f = by_side (split_at i r low)
   where
     by_side : (r < i) ⊎ (i ≡ r) → is_lt (name_cmp a b) ≡ false
-    by_side (inl less) = ap is_lt (nat_list_cmp_total.antisymm a b ∙ ap ordering_reverse (ranks_ascend ms r i b a v u h less f e))
+    by_side (inl less) = ap is_lt
+        (nat_list_cmp_total.antisymm a b ∙ ap ordering_reverse (ranks_ascend ms r i b a v u h less f e))
     by_side (inr same) =
-        ap (λ x. is_lt (name_cmp x b)) (some_first (a, u) (b, v) (sym e ∙ ap (slice_get (member_list ms)) same ∙ f)) ∙ ap is_lt (tied_itself nat_list_cmp_total b)
+        ap (λ x. is_lt (name_cmp x b)) (some_first (a, u) (b, v) (sym e ∙ ap (slice_get (member_list ms)) same ∙ f))
+        ∙ ap is_lt (tied_itself nat_list_cmp_total b)
 
 -- ---- the last token
 
@@ -98,12 +108,14 @@ pub last_token : (p : Tokens) (k n : Text) (name : Text) → ends_before name (p
 last_token p k n name =
     let many = length-append p (k ∷ n ∷ []) in
     let at : length (p ++ k ∷ n ∷ []) - 1 ≡ length p + 1 = omega (arith, many) in
-    ap (λ i. option_map_or (λ t. is_lt (name_cmp t name)) (slice_get (p ++ k ∷ n ∷ []) i) false) at ∙ ap (λ o. option_map_or (λ t. is_lt (name_cmp t name)) o false) (second_last p k n)
+    ap (λ i. option_map_or (λ t. is_lt (name_cmp t name)) (slice_get (p ++ k ∷ n ∷ []) i) false) at
+    ∙ ap (λ o. option_map_or (λ t. is_lt (name_cmp t name)) o false) (second_last p k n)
 
 -- ---- a rank is where a search by halves ends
 
 -- where the list is parted, it is parted once
-pub one_point : (p : ℕ → Bool) (xs : List ℕ) (i j : ℕ) → i ≤ length xs → j ≤ length xs → IsPartitionPoint (λ y. p y ≡ true) (λ y. p y ≡ false) xs i → IsPartitionPoint (λ y. p y ≡ true) (λ y. p y ≡ false) xs j → i ≡ j
+pub one_point : (p : ℕ → Bool) (xs : List ℕ) (i j : ℕ) → i ≤ length xs → j ≤ length xs → IsPartitionPoint
+    (λ y. p y ≡ true) (λ y. p y ≡ false) xs i → IsPartitionPoint (λ y. p y ≡ true) (λ y. p y ≡ false) xs j → i ≡ j
 one_point p xs i j low high h g = by_order (order i j)
   where
     order : (i j : ℕ) → ((i < j) ⊎ (j < i)) ⊎ (i ≡ j)
@@ -126,7 +138,8 @@ one_point p xs i j low high h g = by_order (order i j)
         absurd (cc)
     by_order (inr e) = e
 
-pub parted : (p : ℕ → Bool) (xs : List ℕ) (i : ℕ) → IsPartitionPoint (λ y. p y ≡ true) (λ y. p y ≡ false) xs i → IsPartitionedBy p xs
+pub parted : (p : ℕ → Bool) (xs : List ℕ) (i : ℕ)
+    → IsPartitionPoint (λ y. p y ≡ true) (λ y. p y ≡ false) xs i → IsPartitionedBy p xs
 parted p xs i h j k d low within holds = by_side (before k i)
   where
     before : (k i : ℕ) → (k < i) ⊎ (i ≤ k)

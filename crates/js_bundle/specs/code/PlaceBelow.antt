@@ -1,5 +1,7 @@
--- Whether a schema's keyword holds a schema at a step, as a test, and which of the numbers that are kept is that place's.
-use Rattle.std.specs.Prelude.{◌≡◌, ℕ, ◌-◌, ◌<◌, ◌≤◌, ◌^◌, List, [], ◌∷◌, length, Bool, true, false, ◌&&◌, Option, Some, is_some, option_and_then, slice_get, if◌then◌else◌}
+-- Whether a schema's keyword holds a schema at a step, as a test, and which of the numbers that are kept is that
+-- place's.
+use Rattle.std.specs.Prelude.{◌≡◌, ℕ, ◌-◌, ◌<◌, ◌≤◌, ◌^◌, List, [], ◌∷◌, length, Bool, true, false, ◌&&◌, Option}
+use Rattle.std.specs.Prelude.{Some, is_some, option_and_then, slice_get, if◌then◌else◌}
 use Rattle.std.specs.List.Sorted.{IsPartitionPoint}
 use Rattle.std.specs.Option.{option_map_or}
 use Rattle.std.specs.Ordering.{is_lt}
@@ -9,7 +11,7 @@ use Rattle.js_doc.specs.Value.{Value}
 use Rattle.js_places.specs.contracts.keyword_name.KeywordNamePartialEq.TheImpl.{ghosts}
 use Rattle.js_places.specs.declared.keyword_name.KeywordName.{KeywordName}
 use Rattle.js_places.specs.code.Edges.{HeldNumbers}
-use Rattle.js_bundle.specs.code.KeptSite.{KeptSite}
+use Rattle.js_bundle.specs.code.CheckedSite.{CheckedSite}
 use Rattle.js_places.specs.Keyword.{Text, argument}
 use Rattle.js_places.specs.Place.{holding, items_in}
 use Rattle.js_bundle.specs.Schemas.{Step, Alone, Index, Name, fits}
@@ -44,16 +46,18 @@ abbrev pub ends_before : Text → Tokens → Bool
 ends_before name tokens = option_map_or (λ t. is_lt (name_cmp t name)) (slice_get tokens (length tokens - 1)) false
 
 -- so does that of the place with this number
-abbrev pub stands_before : List KeptSite → Text → ℕ → Bool
+abbrev pub stands_before : List CheckedSite → Text → ℕ → Bool
 stands_before places name n = option_map_or (λ place. ends_before name place.pointer) (slice_get places n) false
 
 -- where the names of the numbers' places ascend, that of the name is the first that doesn't come before it
-abbrev pub IsRankOf : List KeptSite → Text → List ℕ → ℕ → Type 0
+abbrev pub IsRankOf : List CheckedSite → Text → List ℕ → ℕ → Type 0
 IsRankOf places name numbers rank =
-    (rank ≤ length numbers) × IsPartitionPoint (λ n. stands_before places name n ≡ true) (λ n. stands_before places name n ≡ false) numbers rank
+    (rank ≤ length numbers) × IsPartitionPoint (λ n. stands_before places name n ≡ true)
+    (λ n. stands_before places name n ≡ false) numbers rank
 
 -- the number has the step's rank among those that the keyword has
-abbrev pub IsNumberAt : List KeptSite → List ℕ → Step → ℕ → Type 0
+abbrev pub IsNumberAt : List CheckedSite → List ℕ → Step → ℕ → Type 0
 IsNumberAt places numbers Alone n = slice_get numbers 0 ≡ Some n
 IsNumberAt places numbers (Index i) n = slice_get numbers i ≡ Some n
-IsNumberAt places numbers (Name name) n = (rank : ℕ) × (slice_get numbers rank ≡ Some n) × IsRankOf places name numbers rank
+IsNumberAt places numbers (Name name) n = (rank : ℕ) × (slice_get numbers rank ≡ Some n)
+    × IsRankOf places name numbers rank

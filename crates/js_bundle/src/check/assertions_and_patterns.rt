@@ -2,10 +2,10 @@
 ghost use Rattle.std.specs.Prelude.{◌≡◌, [], ◌∷◌, ◌++◌, length, map, flat_map, option_to_list, OnOk, IfOk, IfErr};
 ghost use Rattle.js_doc.specs.Seen.{value_of};
 ghost use Rattle.js_doc.specs.Parts.{members_of};
+ghost use Rattle.js_places.specs.code.Scan.{site_of};
 ghost use Rattle.js_bundle.specs.AssertionsAndPatterns.{pattern_at, patterns_of};
 ghost use Rattle.js_bundle.specs.Candidate.{IsClear, IsStopped};
 ghost use Rattle.js_bundle.specs.Refusals.{at_pattern, name_rules};
-ghost use Rattle.js_places.specs.code.Scan.{site_of};
 
 use crate::check::fault::{CheckFault, refuse_member};
 use crate::check::lookup::SiteKeyword;
@@ -22,16 +22,6 @@ pub(crate) struct Built {
     pub(crate) patterns: Vec<BuiltPattern>,
 }
 
-/// The same for all places.
-#[derive(Drop)]
-pub(crate) struct BuiltTable {
-    pub(crate) all: Built,
-    /// Where the assertions of each place end.
-    pub(crate) assertion_ends: Vec<usize>,
-    /// Where its patterns do.
-    pub(crate) pattern_ends: Vec<usize>,
-}
-
 impl Built {
     pub(crate) fn new(alloc: Global) -> Built
         ensures assertions { result.assertions.items ≡ [] }
@@ -42,6 +32,16 @@ impl Built {
             patterns: Vec::new(alloc),
         }
     }
+}
+
+/// The same for all places.
+#[derive(Drop)]
+pub(crate) struct BuiltTable {
+    pub(crate) all: Built,
+    /// Where the assertions of each place end.
+    pub(crate) assertion_ends: Vec<usize>,
+    /// Where its patterns do.
+    pub(crate) pattern_ends: Vec<usize>,
 }
 
 impl BuiltTable {

@@ -8,7 +8,7 @@ ghost use Rattle.js_doc.specs.Parts.{members_of};
 ghost use Rattle.js_bundle.specs.declared.refusal.RefusalKind.TheVariants.{BadKeyword};
 ghost use Rattle.js_bundle.specs.AssertionsAndPatterns.{assertion_at, assertions_at, patterns_of, patterns_at};
 ghost use Rattle.js_bundle.specs.Candidate.{IsClear, IsStopped};
-ghost use Rattle.js_bundle.specs.Form.{is_formed};
+ghost use Rattle.js_bundle.specs.Shape.{is_shaped};
 ghost use Rattle.js_places.specs.code.PartsByPlace.{ArePartsByPlace};
 ghost use Rattle.js_places.specs.code.Index.{IsIndexOf};
 ghost use Rattle.js_places.specs.code.Positions.{BeginTexts, IsLast, ArePositionsOf, HasPositionAdded};
@@ -21,20 +21,20 @@ use crate::check::assertions_and_patterns::{Built, BuiltTable, keep_assertion, r
 use crate::check::fault::{CheckFault, refuse_keyword};
 use crate::check::lookup::{Lookup, SiteKeyword};
 use crate::check::rules::{
-    check_anchor, check_dialect, check_id, check_place, is_formed, read_assertion,
+    check_anchor, check_dialect, check_id, check_place, is_shaped, read_assertion,
 };
 use crate::refusal::RefusalKind;
 use js_doc::{Doc, Members, Memory};
 use js_places::{KeywordTable, Positions, Site, TextPrefixes};
 use std::alloc::Global;
 
-fn check_form(alloc: Global, at: SiteKeyword<'_>, argument: &Doc) -> Result<(), CheckFault>
-    ensures ok { OnOk result (IsClear (when (not (is_formed at.entry.keyword.now (value_of argument.now)))
+fn check_shape(alloc: Global, at: SiteKeyword<'_>, argument: &Doc) -> Result<(), CheckFault>
+    ensures ok { OnOk result (IsClear (when (not (is_shaped at.entry.keyword.now (value_of argument.now)))
         (decided (site_of at.entry.site.now) (at.entry.keyword.now ∷ []) BadKeyword))) }
-    ensures err { IfErr result (IsStopped (when (not (is_formed at.entry.keyword.now (value_of argument.now)))
+    ensures err { IfErr result (IsStopped (when (not (is_shaped at.entry.keyword.now (value_of argument.now)))
         (decided (site_of at.entry.site.now) (at.entry.keyword.now ∷ []) BadKeyword))) }
 {
-    if is_formed(at.keyword, argument) {
+    if is_shaped(at.keyword, argument) {
         Ok(())
     } else {
         Err(refuse_keyword(alloc, at, RefusalKind::BadKeyword))
@@ -75,7 +75,7 @@ fn check_argument(known: Lookup<'_>, at: SiteKeyword<'_>, argument: &Doc) -> Res
     }
 }
 
-// The rules of a keyword, its form first.
+// The rules of a keyword, its shape first.
 fn check_keyword(
     built: &mut Built,
     known: Lookup<'_>,
@@ -96,7 +96,7 @@ fn check_keyword(
         (at_member (map site_of known.entry.sites.now) (site_of at.entry.site.now)
         (at.entry.keyword.now, value_of argument.now))) }
 {
-    check_form(known.alloc, at, argument)?;
+    check_shape(known.alloc, at, argument)?;
     let assertion = read_assertion(known.alloc, at, argument, siblings)?;
     keep_assertion(&mut built.assertions, assertion)?;
     check_argument(known, at, argument)?;

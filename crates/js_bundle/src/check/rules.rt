@@ -6,7 +6,7 @@ ghost use Rattle.js_doc.specs.Seen.{value_of};
 ghost use Rattle.js_doc.specs.Value as spec;
 ghost use Rattle.js_bundle.specs.declared.refusal.RefusalKind.TheVariants.{TooManyPlaces, NotASchema, DuplicateUri};
 ghost use Rattle.js_bundle.specs.Candidate.{IsClear, IsStopped};
-ghost use Rattle.js_bundle.specs.Form.{is_formed, is_filled_list, is_schema};
+ghost use Rattle.js_bundle.specs.Shape.{is_shaped, is_filled_list, is_schema};
 ghost use Rattle.js_places.specs.code.Index.{IsIndexOf};
 ghost use Rattle.js_places.specs.Keyword.{argument};
 ghost use Rattle.js_places.specs.Names.{is_root, is_anchor_name, begins_name, continues_name};
@@ -82,9 +82,9 @@ fn is_filled(docs: &[Doc]) -> bool
     }
 }
 
-/// Whether the argument has the form that the keyword asks for, assertions aside.
-pub(crate) fn is_formed(keyword: &str, argument: &Doc) -> bool
-    ensures { result ≡ is_formed keyword.now (value_of argument.now) }
+/// Whether the argument has the shape that the keyword asks for, assertions aside.
+pub(crate) fn is_shaped(keyword: &str, argument: &Doc) -> bool
+    ensures { result ≡ is_shaped keyword.now (value_of argument.now) }
 {
     match keyword {
         "$schema" | "$id" | "$ref" | "$dynamicRef" | "$anchor" | "$dynamicAnchor" => {

@@ -41,7 +41,7 @@ impl Schemas {
 
     /// The same in a dynamic scope given by the numbers of its resources, from the entry's to the place's: the first of
     /// these that has the name decides. A path and the numbers of its resources, repeated neighbours left out, lead to
-    /// the same place (`numbers_tell_the_dynamic_scope`, a law of `js_places`). It takes no memory.
+    /// the same place (`numbers_determine_the_dynamic_scope`, a law of `js_places`). It takes no memory.
     pub fn dynamic_target_in(&self, place: Place, resources: &[usize]) -> Place
         requires { has_keyword (codes "$dynamicRef") self.now place ≡ true }
         ensures { StandsFor self.now result (option_and_then
@@ -59,7 +59,7 @@ impl Schemas {
         requires { has_keyword (codes "$dynamicRef") self.now place ≡ true }
         ensures { IsFirstTarget self.now place result.place (option_copied result.name) }
     {
-        match reference_under(&self.kept.references.dynamic, place.number) {
+        match reference_under(&self.checked.references.dynamic, place.number) {
             Some(reference) => FirstTarget {
                 place: Place {
                     number: reference.target,
@@ -128,7 +128,7 @@ impl Schemas {
         ensures { Finds self.now result
             (option_and_then (dynamic_anchor (sites self.now) name.now) (slice_get (roots (sites self.now)) resource)) }
     {
-        match anchored(self.kept.resources.anchors.as_slice(), resource, name) {
+        match anchored(self.checked.resources.anchors.as_slice(), resource, name) {
             Some(number) => Some(Place { number }),
             None => None,
         }

@@ -2,15 +2,15 @@
 ghost use Rattle.std.specs.Prelude.{◌≡◌, ◌≤◌, true, None, OnOk, IfOk, IfErr, find, length, map, option_map, slice_get};
 ghost use Rattle.url.specs.Parser.{parse_url};
 ghost use Rattle.js_places.specs.code.Index.{standing, standing_of};
-ghost use Rattle.js_bundle.specs.code.KeptSite.{kept_standing};
-ghost use Rattle.js_bundle.specs.code.KeptSite.{kept_site_of};
+ghost use Rattle.js_bundle.specs.code.CheckedSite.{checked_standing};
+ghost use Rattle.js_bundle.specs.code.CheckedSite.{checked_site_of};
 ghost use Rattle.js_places.specs.Names.{is_known_as, is_read, named};
 ghost use Rattle.js_places.specs.Resource.{sites};
 ghost use Rattle.js_bundle.specs.Schemas.{entry, StandsFor, IsEntryFault, IsNameFault, IsReadEntry};
 ghost use Rattle.js_places.specs.PlaceNumber.{is_place};
 ghost use Rattle.js_places.specs.Url.{decoded_fragment, longest_uri};
 
-use crate::check::kept_site::KeptSite;
+use crate::check::checked_site::CheckedSite;
 use crate::place::Place;
 use crate::refusal::EntryFault;
 use crate::schemas::Schemas;
@@ -52,8 +52,8 @@ impl Schemas {
     {
         let fragment = uri::decoded_fragment(alloc, &url)?;
         let bare = uri::without_fragment(url)?;
-        let root = self.kept_root_named(uri::printed(&bare));
-        match number_by_fragment(alloc, &self.kept.index, root, fragment.as_slice()) {
+        let root = self.checked_root_named(uri::printed(&bare));
+        match number_by_fragment(alloc, &self.checked.index, root, fragment.as_slice()) {
             Ok(Some(number)) => Ok(Place { number }),
             Ok(None) => Err(EntryFault::Unresolved),
             Err(NameFault::NotRead) => Err(EntryFault::BadUri),
@@ -62,18 +62,19 @@ impl Schemas {
     }
 
     // The root of the resource that has the URI.
-    fn kept_root_named(&self, uri: &str) -> Option<Root<'_>>
+    fn checked_root_named(&self, uri: &str) -> Option<Root<'_>>
         ensures { option_map standing_of result ≡ option_map standing (find (is_known_as uri.now) (sites self.now)) }
     {
-        match self.kept.index.known.number_of(uri) {
-            Some(number) => kept_root_at(self.kept.sites.as_slice(), number),
+        match self.checked.index.known.number_of(uri) {
+            Some(number) => checked_root_at(self.checked.sites.as_slice(), number),
             None => None,
         }
     }
 }
 
-fn kept_root_at(sites: &[KeptSite], number: usize) -> Option<Root<'_>>
-    ensures { option_map standing_of result ≡ option_map kept_standing (slice_get (map kept_site_of sites.now) number) }
+fn checked_root_at(sites: &[CheckedSite], number: usize) -> Option<Root<'_>>
+    ensures { option_map standing_of result
+        ≡ option_map checked_standing (slice_get (map checked_site_of sites.now) number) }
 {
     match sites.get(number) {
         Some(site) => Some(Root::new(site.document, &site.pointer)),

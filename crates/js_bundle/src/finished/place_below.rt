@@ -10,9 +10,9 @@ ghost use Rattle.js_places.specs.KeywordName.{keyword_name};
 ghost use Rattle.js_places.specs.Place.{holding, items_in};
 ghost use Rattle.js_places.specs.PlaceNumber.{is_place, place_at};
 ghost use Rattle.js_bundle.specs.Schemas.{below, fits, step_of, Finds, FindsSchema, Holds};
-ghost use Rattle.js_bundle.specs.code.KeptSite.{kept_site_of};
+ghost use Rattle.js_bundle.specs.code.CheckedSite.{checked_site_of};
 
-use crate::check::kept_site::KeptSite;
+use crate::check::checked_site::CheckedSite;
 use crate::place::{Place, Step};
 use crate::schemas::Schemas;
 use js_doc::Doc;
@@ -58,10 +58,10 @@ impl Schemas {
             → Holds s.schema keyword.now (step_of step.entry) u
             → FindsSchema self.now (option_map (λ e. e.0) result) u }
     {
-        let edges = self.kept.edges.as_slice();
+        let edges = self.checked.edges.as_slice();
         let places = places_under(edges, place.number, KeywordName::of(keyword));
         match held_by(schema, keyword, step) {
-            Some(held) => place_with(self.kept.sites.as_slice(), places, step, held),
+            Some(held) => place_with(self.checked.sites.as_slice(), places, step, held),
             None => None,
         }
     }
@@ -69,12 +69,12 @@ impl Schemas {
 
 // The one of these places to which the step leads, with the schema that is held there.
 fn place_with<'a>(
-    sites: &[KeptSite],
+    sites: &[CheckedSite],
     places: &[usize],
     step: Step<'_>,
     held: &'a Doc,
 ) -> Option<(Place, &'a Doc)>
-    ensures found { (n : ℕ) → IsNumberAt (map kept_site_of sites.now) places.now (step_of step.entry) n
+    ensures found { (n : ℕ) → IsNumberAt (map checked_site_of sites.now) places.now (step_of step.entry) n
         → option_map (λ e. e.0) result ≡ Some n }
     ensures schema { MatchOption result (Unit {0}) (λ e. value_of e.1.now ≡ value_of held.now) }
 {
@@ -167,8 +167,8 @@ fn at_rank(places: &[usize], rank: usize) -> Option<usize>
 }
 
 // The rank of the place to which the step leads, among these that a keyword holds.
-fn rank_in(sites: &[KeptSite], places: &[usize], step: Step<'_>) -> usize
-    ensures { (n : ℕ) → IsNumberAt (map kept_site_of sites.now) places.now (step_of step.entry) n
+fn rank_in(sites: &[CheckedSite], places: &[usize], step: Step<'_>) -> usize
+    ensures { (n : ℕ) → IsNumberAt (map checked_site_of sites.now) places.now (step_of step.entry) n
         → slice_get places.now result ≡ Some n }
 {
     match step {
@@ -179,14 +179,14 @@ fn rank_in(sites: &[KeptSite], places: &[usize], step: Step<'_>) -> usize
 }
 
 // How many of the places stand at names that come before this one. Their names ascend.
-fn rank_by_name(sites: &[KeptSite], places: &[usize], name: &str) -> usize
-    ensures { (n : ℕ) → IsRankOf (map kept_site_of sites.now) name.now places.now n → result ≡ n }
+fn rank_by_name(sites: &[CheckedSite], places: &[usize], name: &str) -> usize
+    ensures { (n : ℕ) → IsRankOf (map checked_site_of sites.now) name.now places.now n → result ≡ n }
 {
     places.partition_point(|number| stands_before(sites, *number, name))
 }
 
-fn stands_before(sites: &[KeptSite], number: usize, name: &str) -> bool
-    ensures { result ≡ stands_before (map kept_site_of sites.now) name.now number }
+fn stands_before(sites: &[CheckedSite], number: usize, name: &str) -> bool
+    ensures { result ≡ stands_before (map checked_site_of sites.now) name.now number }
 {
     let Some(site) = sites.get(number) else {
         return false;

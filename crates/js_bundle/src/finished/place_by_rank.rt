@@ -35,7 +35,7 @@ impl Schemas {
         ensures schema { MatchOption result (Unit {0})
             (λ n. option_map (λ s. s.schema) (place_at self.now n) ≡ Some (value_of _held.now)) }
     {
-        let edges = self.kept.edges.as_slice();
+        let edges = self.checked.edges.as_slice();
         with_rank(places_under(edges, place.number, which), rank)
     }
 }

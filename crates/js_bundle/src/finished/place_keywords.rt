@@ -17,8 +17,8 @@ use js_assert::{Assertion, Pattern};
 use js_places::{KeywordName, part_of_place};
 
 impl Schemas {
-    /// The assertion that the keyword is at the place. None where the place hasn't the keyword, or it is no assertion
-    /// (JSON Schema Validation, section 6).
+    /// The assertion that the keyword is at the place. None if the place doesn't have the keyword, or the keyword is no
+    /// assertion (JSON Schema Validation, section 6).
     pub fn assertion(&self, place: Place, keyword: &str) -> Option<&Assertion>
         requires { is_place self.now place ≡ true }
         ensures { option_map (λ a. a.now) result ≡ option_and_then (assertion keyword.now) (place_at self.now place) }
@@ -44,7 +44,7 @@ impl Schemas {
         requires { is_place self.now place ≡ true }
         ensures { option_map assertions_at (place_at self.now place) ≡ Some result.now }
     {
-        let built = &self.kept.built;
+        let built = &self.checked.built;
         part_of_place(
             built.all.assertions.as_slice(),
             built.assertion_ends.as_slice(),
@@ -58,7 +58,7 @@ impl Schemas {
         requires { is_place self.now place ≡ true }
         ensures { option_map member_keywords (place_at self.now place) ≡ Some result.now }
     {
-        let table = &self.kept.keywords;
+        let table = &self.checked.keywords;
         part_of_place(table.names.as_slice(), table.ends.as_slice(), place.number)
     }
 
@@ -67,7 +67,7 @@ impl Schemas {
         ensures patterns { option_map patterns_at (place_at self.now place) ≡ Some result.now }
         ensures read { AreRead self.now }
     {
-        let built = &self.kept.built;
+        let built = &self.checked.built;
         part_of_place(
             built.all.patterns.as_slice(),
             built.pattern_ends.as_slice(),
@@ -80,7 +80,7 @@ impl Schemas {
         requires { is_place self.now place ≡ true }
         ensures { result ≡ has_keyword (codes "$ref") self.now place }
     {
-        target_under(self.kept.references.plain.as_slice(), place.number).is_some()
+        target_under(self.checked.references.plain.as_slice(), place.number).is_some()
     }
 
     /// Whether the place has a `$dynamicRef` (JSON Schema Core, section 8.2.3.2).
@@ -88,7 +88,7 @@ impl Schemas {
         requires { is_place self.now place ≡ true }
         ensures { result ≡ has_keyword (codes "$dynamicRef") self.now place }
     {
-        reference_under(&self.kept.references.dynamic, place.number).is_some()
+        reference_under(&self.checked.references.dynamic, place.number).is_some()
     }
 }
 

@@ -5,10 +5,10 @@ ghost use Rattle.js_places.specs.Resource.{sites};
 ghost use Rattle.js_places.specs.ResourceNumber.{count_of_resources, number_of_resource};
 ghost use Rattle.js_places.specs.PlaceNumber.{is_place, place_at};
 ghost use Rattle.js_bundle.specs.Schemas.{resources, lent};
-ghost use Rattle.js_bundle.specs.code.KeptSite.{kept_site_of, document_uri, base_made, resource_listed};
+ghost use Rattle.js_bundle.specs.code.CheckedSite.{checked_site_of, document_uri, base_made, resource_listed};
 ghost use Rattle.js_places.specs.Url as spec;
 
-use crate::check::kept_site::KeptSite;
+use crate::check::checked_site::CheckedSite;
 use crate::place::Place;
 use crate::schemas::Schemas;
 use js_doc::Memory;
@@ -25,9 +25,9 @@ impl Schemas {
         ensures { IfOk result (λ v. map lent v.items ≡ resources self.now) }
     {
         let mut resources = Vec::new(alloc);
-        for number in 0..self.kept.sites.len() {
+        for number in 0..self.checked.sites.len() {
             let place = Place { number };
-            let site = self.kept_site(place);
+            let site = self.checked_site(place);
             push_listed(&mut resources, document_uri(site), place)?;
             push_listed(&mut resources, base_made(site), place)?;
         }
@@ -39,14 +39,14 @@ impl Schemas {
         requires { is_place self.now place ≡ true }
         ensures { option_and_then (number_of_resource (sites self.now)) (place_at self.now place) ≡ Some result }
     {
-        self.kept.resources.numbers[place.number]
+        self.checked.resources.numbers[place.number]
     }
 
     /// How many resources there are. Each number is below.
     pub fn resource_count(&self) -> usize
         ensures { result ≡ count_of_resources (sites self.now) }
     {
-        self.kept.resources.anchors.len()
+        self.checked.resources.anchors.len()
     }
 }
 
@@ -74,8 +74,8 @@ fn push_pair<T: Drop>(out: &mut Vec<T>, one: T) -> Result<(), Memory>
 }
 
 // The document's URI, at its root.
-fn document_uri(site: &KeptSite) -> Option<&str>
-    ensures { option_copied result ≡ document_uri (kept_site_of site.now) }
+fn document_uri(site: &CheckedSite) -> Option<&str>
+    ensures { option_copied result ≡ document_uri (checked_site_of site.now) }
 {
     if is_root(&site.pointer) {
         Some(uri::printed(&site.above.base))
@@ -85,11 +85,11 @@ fn document_uri(site: &KeptSite) -> Option<&str>
 }
 
 // What the `$id` makes, unless it is the document's URI at its root.
-fn base_made(site: &KeptSite) -> Option<&str>
-    ensures { option_copied result ≡ base_made (kept_site_of site.now) }
+fn base_made(site: &CheckedSite) -> Option<&str>
+    ensures { option_copied result ≡ base_made (checked_site_of site.now) }
 {
-    let told = is_root(&site.pointer) && keeps_base(site);
-    if site.identifies && !told {
+    let recorded = is_root(&site.pointer) && keeps_base(site);
+    if site.identifies && !recorded {
         Some(uri::printed(&site.own.base))
     } else {
         None
@@ -97,7 +97,7 @@ fn base_made(site: &KeptSite) -> Option<&str>
 }
 
 // Whether the place's base is that of the scope it is in.
-fn keeps_base(site: &KeptSite) -> bool
+fn keeps_base(site: &CheckedSite) -> bool
     ensures { result ≡ bytes_eq (spec.printed site.now.above.value.base) (spec.printed site.now.own.value.base) }
 {
     uri::printed(&site.above.base) == uri::printed(&site.own.base)

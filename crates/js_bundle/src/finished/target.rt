@@ -17,7 +17,7 @@ impl Schemas {
         ensures { StandsFor self.now result
             (option_and_then (ref_target (sites self.now)) (place_at self.now place)) }
     {
-        match target_under(self.kept.references.plain.as_slice(), place.number) {
+        match target_under(self.checked.references.plain.as_slice(), place.number) {
             Some(number) => Place { number },
             None => place, // never: each reference of finished schemas has its target
         }

@@ -28,7 +28,8 @@ asked documents (Members c) = members_asked documents c.value
 asked documents (Patterns c) = patterns_asked documents c.value
 
 -- of what was asked for before, this is the next, and the others are asked for afterwards
-abbrev pub IsNext : Documents → prelude.List (Application Site) → Option Applied → prelude.List (Application Site) → Type 0
+abbrev pub IsNext : Documents → prelude.List (Application Site) → Option Applied
+    → prelude.List (Application Site) → Type 0
 IsNext documents before o after = MatchOption o (before ≡ []) (λ a. before ≡ applied_of documents a ∷ after)
 
 -- ---- it was made for these
@@ -42,7 +43,8 @@ IsOne documents (Some a) = IsApplied documents a
 
 -- the place with the patterns, and that of the present one's schema
 abbrev pub ArePatterns : Documents → PatternCursor → Type 0
-ArePatterns documents c = IsSchemaAt documents c.place (value_of c.schema.now) × IsSchemaAt documents c.below (value_of c.schema_below.now)
+ArePatterns documents c = IsSchemaAt documents c.place (value_of c.schema.now)
+    × IsSchemaAt documents c.below (value_of c.schema_below.now)
 
 abbrev pub IsAsking : Documents → Asking → Type 0
 IsAsking documents (One one) = IsOne documents one

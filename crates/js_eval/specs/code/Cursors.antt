@@ -1,5 +1,6 @@
 -- The applications that the cursors of a walk still have to ask for.
-use Rattle.std.specs.Prelude.{◌≡◌, ℕ, ◌<◌, Bool, true, false, not, ◌||◌, List, [], ◌++◌, Option, Some, None, String, map, filter, drop, get_or}
+use Rattle.std.specs.Prelude.{◌≡◌, ℕ, ◌<◌, Bool, true, false, not, ◌||◌, List, [], ◌++◌, Option}
+use Rattle.std.specs.Prelude.{Some, None, String, map, filter, drop, get_or}
 use Rattle.std.specs.Borrow.{Bor}
 use Rattle.std.specs.Global.{Global}
 use Rattle.std.specs.Cmp.Lexicographic.{slice_cmp}
@@ -37,10 +38,12 @@ AreMarked marks count indexes = (i : ℕ) → i < count → is_marked marks i �
 
 -- the items from one on that aren't marked, with their indexes
 abbrev pub items_left : List Bool → ℕ → List Doc → List (ℕ × Value)
-items_left marks next items = filter (λ e. not (is_marked marks e.0)) (indexed_from next (map value_of (drop next items)))
+items_left marks next items =
+    filter (λ e. not (is_marked marks e.0)) (indexed_from next (map value_of (drop next items)))
 
 abbrev pub items_asked : Documents → ItemCursor → List (Application Site)
-items_asked documents c = map (λ e. applied documents c.held c.to (Index e.0) e.1) (items_left c.passed_over.items c.next c.items.now)
+items_asked documents c =
+    map (λ e. applied documents c.held c.to (Index e.0) e.1) (items_left c.passed_over.items c.next c.items.now)
 
 -- ---- members
 
@@ -66,7 +69,8 @@ is_matched patterns name = list_any (λ p. matches p.0 name) (named_in patterns)
 abbrev pub is_chosen : Choice → Text → Bool
 is_chosen choice.All name = true
 is_chosen (choice.Named named) name = has name named.now
-is_chosen (choice.Additional adjacent) name = not (is_named adjacent.properties name || is_matched adjacent.patterns name)
+is_chosen (choice.Additional adjacent) name =
+    not (is_named adjacent.properties name || is_matched adjacent.patterns name)
 is_chosen (choice.Except names) name = not (is_key names.keys name)
 
 -- those of the members that are chosen
@@ -81,29 +85,36 @@ members_asked documents c = map (λ m. applied documents c.held c.to (Name m.0) 
 -- a pattern's schema, applied to those of the members whose names it matches
 abbrev pub matching_asked : Documents → Site → Text → Text → Named → List (Application Site)
 matching_asked documents place keyword pattern members =
-    map (λ m. application (schemas_of documents) place keyword (Name pattern) (Name m.0) m.1) (filter (λ m. matches pattern m.0) members)
+    map (λ m. application (schemas_of documents) place keyword (Name pattern) (Name m.0) m.1)
+    (filter (λ m. matches pattern m.0) members)
 
 -- the schema at a place, by its pattern, on a member
 abbrev pub on_matched_member : Documents → ℕ → Text → Text × Value → Application Site
-on_matched_member documents place pattern m = record { place = numbered_site documents place; step = Name pattern; at = Name m.0; value = m.1 }
+on_matched_member documents place pattern m =
+    record { place = numbered_site documents place; step = Name pattern; at = Name m.0; value = m.1 }
 
 -- the schema at a place, on those of the members that are left and that its pattern matches
-abbrev pub present_asked : Documents → Option NamedPattern → ℕ → Text → List (String Global × Doc) → List (Application Site)
+abbrev pub present_asked : Documents → Option NamedPattern → ℕ → Text → List (String Global × Doc)
+    → List (Application Site)
 present_asked documents None place name left = []
-present_asked documents (Some pattern) place name left = map (on_matched_member documents place name) (filter (λ m. matches pattern.text.now m.0) (map pair_of left))
+present_asked documents (Some pattern) place name left =
+    map (on_matched_member documents place name) (filter (λ m. matches pattern.text.now m.0) (map pair_of left))
 
 -- the applications of the patterns that are still to come
 abbrev pub coming_asked : Documents → PatternCursor → List (String Global × Doc) → List (Application Site)
-coming_asked documents c patterns = flat_map (λ p. matching_asked documents (numbered_site documents c.place) c.keyword.now p.0 c.members.now) (map pair_of patterns)
+coming_asked documents c patterns = flat_map (λ p.
+    matching_asked documents (numbered_site documents c.place) c.keyword.now p.0 c.members.now) (map pair_of patterns)
 
 abbrev pub patterns_asked : Documents → PatternCursor → List (Application Site)
-patterns_asked documents c = present_asked documents c.present c.below c.name.now c.left ++ coming_asked documents c c.patterns
+patterns_asked documents c = present_asked documents c.present c.below c.name.now c.left
+    ++ coming_asked documents c c.patterns
 
 -- this pattern is the present one, and all members are left for it
 pub record IsBegun (documents : Documents) (name : Text) (pattern : NamedPattern) (c d : PatternCursor) : Type 0 where
   pub present : d.present ≡ Some pattern
   pub pattern_is : pattern.text.now ≡ name
-  pub asks : present_asked documents d.present d.below d.name.now d.left ≡ matching_asked documents (numbered_site documents c.place) c.keyword.now name c.members.now
+  pub asks : present_asked documents d.present d.below d.name.now d.left
+      ≡ matching_asked documents (numbered_site documents c.place) c.keyword.now name c.members.now
   pub is : IsSchemaAt documents d.below (value_of d.schema_below.now)
   pub place : d.place ≡ c.place
   pub schema : d.schema ≡ c.schema

@@ -16,11 +16,13 @@ use Rattle.js_eval.specs.declared.cursors.list_cursor.ListCursor.{ListCursor}
 
 abbrev pub list_asked : Documents → ListCursor → List (Application Site)
 list_asked documents c =
-    map (λ e. application (schemas_of documents) (numbered_site documents c.at.place) c.at.keyword.name.now (Index e.0) Alone (instance_of c.value))
+    map (λ e. application (schemas_of documents) (numbered_site documents c.at.place) c.at.keyword.name.now (Index e.0)
+    Alone (instance_of c.value))
     (indexed_from c.next (map value_of (drop c.next c.list.now)))
 
 -- the list is that of the keyword of a place with this schema
 abbrev pub IsList : Documents → ListCursor → Type 0
 IsList documents c =
-    IsSchemaAt documents c.at.place (value_of c.at.schema.now) × (held_at c.at.keyword.kind ≡ is_index) × IsIn (value_of c.at.schema.now) (keyword_of c.at.keyword)
+    IsSchemaAt documents c.at.place (value_of c.at.schema.now) × (held_at c.at.keyword.kind ≡ is_index)
+    × IsIn (value_of c.at.schema.now) (keyword_of c.at.keyword)
     × (map value_of c.list.now ≡ values (value_of c.at.keyword.argument.now))

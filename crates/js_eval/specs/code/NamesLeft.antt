@@ -22,7 +22,8 @@ use Rattle.js_eval.specs.declared.cursors.name_cursor.NameCursor.{NameCursor}
 
 -- the schema of a name, applied to the member of that name
 abbrev pub on_member : Documents → ℕ → Text → Text × doc.Value → Application Site
-on_member documents place keyword m = application (schemas_of documents) (numbered_site documents place) keyword (Name m.0) (Name m.0) m.1
+on_member documents place keyword m =
+    application (schemas_of documents) (numbered_site documents place) keyword (Name m.0) (Name m.0) m.1
 
 -- the members that may have a name that is left
 abbrev pub members_among : Among → doc.Named
@@ -34,7 +35,8 @@ abbrev pub names_left : doc.Named → List (String Global × Doc) → doc.Named
 names_left members names = filter (λ m. has m.0 (map pair_of names)) members
 
 abbrev pub names_asked : Documents → NameCursor → List (Application Site)
-names_asked documents c = map (on_member documents c.at.place c.at.keyword.name.now) (names_left (members_among c.among) c.names)
+names_asked documents c =
+    map (on_member documents c.at.place c.at.keyword.name.now) (names_left (members_among c.among) c.names)
 
 -- of all names, these are left after this many
 abbrev pub AreLeft : doc.Named → ℕ → List (String Global × Doc) → Type 0
@@ -43,6 +45,7 @@ AreLeft all rank names = map pair_of names ≡ drop rank all
 -- the names are those of the keyword of a place with this schema, and both sides ascend
 abbrev pub IsNames : Documents → NameCursor → Type 0
 IsNames documents c =
-    IsSchemaAt documents c.at.place (value_of c.at.schema.now) × (held_at c.at.keyword.kind ≡ is_name) × IsIn (value_of c.at.schema.now) (keyword_of c.at.keyword)
+    IsSchemaAt documents c.at.place (value_of c.at.schema.now) × (held_at c.at.keyword.kind ≡ is_name)
+    × IsIn (value_of c.at.schema.now) (keyword_of c.at.keyword)
     × AreLeft (entries (value_of c.at.keyword.argument.now)) c.rank c.names × (c.rank + length c.names < 2 ^ 64)
     × IsAscending (map pair_of c.names) × IsAscending (members_among c.among)

@@ -12,7 +12,7 @@ use js_walk::{Applied, Instance, KeywordAt, below_at_rank, subschema_at};
 
 /// Where to find the subschemas that a keyword applies to the parts of a value.
 #[derive(Clone, Copy)]
-pub(crate) enum Held<'a> {
+pub(crate) enum Subschemas<'a> {
     /// A single schema, which is the keyword's argument, and its place.
     One(Place, &'a Doc),
     /// One schema for each part, below the keyword with this name in this schema at this place. The step from the
@@ -22,7 +22,7 @@ pub(crate) enum Held<'a> {
 
 /// What a schema is applied to.
 #[derive(Clone, Copy)]
-pub(crate) enum To<'a> {
+pub(crate) enum AppliedTo<'a> {
     /// An item or a member.
     Part,
     /// The name of a member, as a string.
@@ -31,7 +31,7 @@ pub(crate) enum To<'a> {
     Whole(Instance<'a>),
 }
 
-impl<'a> Held<'a> {
+impl<'a> Subschemas<'a> {
     // The schema for the part at this step, after its place, and the step from the keyword to it.
     fn schema(&self, schemas: &'a Schemas, step: Step<'a>) -> (Place, &'a Doc, Step<'a>)
         requires { IsHeld schemas.now self.now }
@@ -40,8 +40,8 @@ impl<'a> Held<'a> {
         ensures step { step_of result.2 ≡ step_in self.now (step_of step.entry) }
     {
         match self {
-            Held::One(place, schema) => (*place, schema, Step::Alone),
-            Held::Each(place, schema, keyword) => {
+            Subschemas::One(place, schema) => (*place, schema, Step::Alone),
+            Subschemas::Each(place, schema, keyword) => {
                 let (below, held) = subschema_at(schemas, *place, schema, keyword, step);
                 (below, held, step)
             }
@@ -49,20 +49,20 @@ impl<'a> Held<'a> {
     }
 }
 
-impl<'a> To<'a> {
+impl<'a> AppliedTo<'a> {
     // The value, after the step to it.
     fn value(&self, step: Step<'a>, part: &'a Doc) -> (Step<'a>, Instance<'a>)
         ensures step { step_of result.0 ≡ at_in self.now (step_of step.entry) }
         ensures value { instance_of result.1 ≡ applied_value self.now (step_of step.entry) (value_of part.now) }
     {
         match self {
-            To::Part => (step, Instance::Doc(part)),
-            To::Name => match step {
+            AppliedTo::Part => (step, Instance::Doc(part)),
+            AppliedTo::Name => match step {
                 Step::Name(name) => (step, Instance::Name(name)),
                 Step::Alone => (step, Instance::Doc(part)),
                 Step::Index(_) => (step, Instance::Doc(part)),
             },
-            To::Whole(value) => (Step::Alone, *value),
+            AppliedTo::Whole(value) => (Step::Alone, *value),
         }
     }
 }
@@ -70,8 +70,8 @@ impl<'a> To<'a> {
 /// The application of a keyword to one part of a value. `step`: the step from the value to the part.
 pub(crate) fn apply_to_part<'a>(
     schemas: &'a Schemas,
-    held: &Held<'a>,
-    to: &To<'a>,
+    held: &Subschemas<'a>,
+    to: &AppliedTo<'a>,
     step: Step<'a>,
     part: &'a Doc,
 ) -> Applied<'a>

@@ -6,7 +6,7 @@ ghost use Rattle.js_eval.specs.code.Asked.{IsApplied, IsNext};
 ghost use Rattle.js_eval.specs.code.Cursors.{is_marked, items_asked, items_left};
 ghost use Rattle.js_walk.specs.code.Terms.{value_of};
 
-use crate::cursors::application::{Held, To, apply_to_part};
+use crate::cursors::application::{AppliedTo, Subschemas, apply_to_part};
 use js_bundle::{Schemas, Step};
 use js_doc::Doc;
 use js_walk::Applied;
@@ -14,8 +14,8 @@ use js_walk::Applied;
 /// The applications that a keyword still has to ask for, one for each item.
 #[derive(Drop)]
 pub(crate) struct ItemCursor<'a> {
-    pub held: Held<'a>,
-    pub to: To<'a>,
+    pub held: Subschemas<'a>,
+    pub to: AppliedTo<'a>,
     pub items: &'a [Doc],
     /// The index of the next item.
     pub next: usize,

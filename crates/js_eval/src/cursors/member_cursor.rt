@@ -10,7 +10,7 @@ ghost use Rattle.js_eval.specs.code.Asked.{IsApplied, IsNext};
 ghost use Rattle.js_eval.specs.code.Cursors.{is_chosen, is_named, members_asked, chosen_members, named_in};
 ghost use Rattle.js_walk.specs.code.Terms.{entries, value_of};
 
-use crate::cursors::application::{Held, To, apply_to_part};
+use crate::cursors::application::{AppliedTo, Subschemas, apply_to_part};
 use crate::schema::argument_in;
 use crate::searching::name_set::is_in;
 use crate::searching::searchers::{NamedPattern, PatternSearch};
@@ -42,8 +42,8 @@ pub(crate) struct Adjacent<'a> {
 /// The applications that a keyword still has to ask for, one for each chosen member.
 #[derive(Drop)]
 pub(crate) struct MemberCursor<'a> {
-    pub held: Held<'a>,
-    pub to: To<'a>,
+    pub held: Subschemas<'a>,
+    pub to: AppliedTo<'a>,
     pub members: Pairs<'a>,
     pub choice: Choice<'a>,
 }

@@ -9,7 +9,7 @@ ghost use Rattle.js_eval.specs.code.Cursors.{AreMarked};
 ghost use Rattle.js_walk.specs.code.Starting.{HoldsBy, HoldsOne, IsAtPlace, by_keyword, on_items};
 ghost use Rattle.js_walk.specs.code.Terms.{Documents, entries, instance_of, value_of, values};
 
-use crate::cursors::application::{Held, To};
+use crate::cursors::application::{AppliedTo, Subschemas};
 use crate::cursors::asking::Asking;
 use crate::cursors::item_cursor::ItemCursor;
 use crate::cursors::list_cursor::ListCursor;
@@ -54,8 +54,8 @@ pub(crate) fn prefix<'a>(start: &CursorStart<'_, 'a>) -> Asking<'a>
     let keyword = at.keyword;
     let list = array_in(keyword.argument);
     Asking::Items(ItemCursor {
-        held: Held::Each(at.place, at.schema, keyword.name),
-        to: To::Part,
+        held: Subschemas::Each(at.place, at.schema, keyword.name),
+        to: AppliedTo::Part,
         items: first_of(start.value.array(), list.len()),
         next: 0,
         passed_over: Vec::new(start.alloc),
@@ -104,8 +104,8 @@ fn from_index<'a>(start: &CursorStart<'_, 'a>, first: usize) -> Asking<'a>
 {
     let (below, held) = held_below(start.schemas, start.at);
     Asking::Items(ItemCursor {
-        held: Held::One(below, held),
-        to: To::Part,
+        held: Subschemas::One(below, held),
+        to: AppliedTo::Part,
         items: start.value.array(),
         next: first,
         passed_over: Vec::new(start.alloc),
@@ -139,8 +139,8 @@ pub(crate) fn unevaluated_items<'a>(
     let passed_over = marks_at(start.alloc, items.len(), indexes)?;
     let (below, held) = held_below(start.schemas, start.at);
     Ok(Asking::Items(ItemCursor {
-        held: Held::One(below, held),
-        to: To::Part,
+        held: Subschemas::One(below, held),
+        to: AppliedTo::Part,
         items,
         next: 0,
         passed_over,

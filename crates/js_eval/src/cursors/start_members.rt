@@ -15,7 +15,7 @@ ghost use Rattle.js_eval.specs.code.NamesLeft.{members_among};
 ghost use Rattle.js_walk.specs.code.Starting.{HoldsBy, HoldsOne, IsAtPlace, by_keyword, on_members, on_namesakes};
 ghost use Rattle.js_walk.specs.code.Terms.{Documents, entries, has, instance_of, texts_of, value_of};
 
-use crate::cursors::application::{Held, To};
+use crate::cursors::application::{AppliedTo, Subschemas};
 use crate::cursors::asking::{Asking, in_box};
 use crate::cursors::member_cursor::{Adjacent, Choice, MemberCursor, object_at};
 use crate::cursors::name_cursor::{Among, NameCursor};
@@ -57,8 +57,8 @@ pub(crate) fn dependent<'a>(start: &CursorStart<'_, 'a>) -> Result<Asking<'a>, M
             let at = start.at;
             let keyword = at.keyword;
             let cursor = MemberCursor {
-                held: Held::Each(at.place, at.schema, keyword.name),
-                to: To::Whole(start.value),
+                held: Subschemas::Each(at.place, at.schema, keyword.name),
+                to: AppliedTo::Whole(start.value),
                 members: named.pairs(),
                 choice: Choice::Named(members),
             };
@@ -105,8 +105,8 @@ fn named_members<'a>(
     if named.len() / MANY_MORE > members.len() {
         let keyword = at.keyword;
         let cursor = MemberCursor {
-            held: Held::Each(at.place, at.schema, keyword.name),
-            to: To::Part,
+            held: Subschemas::Each(at.place, at.schema, keyword.name),
+            to: AppliedTo::Part,
             members: members.pairs(),
             choice: Choice::Named(named),
         };
@@ -177,7 +177,7 @@ pub(crate) fn additional<'a>(start: &CursorStart<'_, 'a>) -> Result<Asking<'a>, 
         properties,
         patterns,
     });
-    let cursor = on_chosen(start, To::Part, members, choice);
+    let cursor = on_chosen(start, AppliedTo::Part, members, choice);
     Ok(Asking::Members(in_box(start.alloc, cursor)?))
 }
 
@@ -195,7 +195,7 @@ pub(crate) fn property_names<'a>(start: &CursorStart<'_, 'a>) -> Result<Asking<'
     let Some(members) = start.value.object() else {
         return Ok(Asking::One(None));
     };
-    let cursor = on_chosen(start, To::Name, members, Choice::All);
+    let cursor = on_chosen(start, AppliedTo::Name, members, Choice::All);
     Ok(Asking::Members(in_box(start.alloc, cursor)?))
 }
 
@@ -217,7 +217,7 @@ pub(crate) fn unevaluated_properties<'a>(
         return Ok(Asking::One(None));
     };
     let set = set_of(start.alloc, evaluated)?;
-    let cursor = on_chosen(start, To::Part, members, Choice::Except(set));
+    let cursor = on_chosen(start, AppliedTo::Part, members, Choice::Except(set));
     Ok(Asking::Members(in_box(start.alloc, cursor)?))
 }
 
@@ -225,7 +225,7 @@ pub(crate) fn unevaluated_properties<'a>(
 #[inline(always)]
 fn on_chosen<'a>(
     start: &CursorStart<'_, 'a>,
-    to: To<'a>,
+    to: AppliedTo<'a>,
     members: &'a Members,
     choice: Choice<'a>,
 ) -> MemberCursor<'a>
@@ -237,7 +237,7 @@ fn on_chosen<'a>(
 {
     let (below, schema) = held_below(start.schemas, start.at);
     MemberCursor {
-        held: Held::One(below, schema),
+        held: Subschemas::One(below, schema),
         to,
         members: members.pairs(),
         choice,

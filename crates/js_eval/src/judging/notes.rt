@@ -13,10 +13,10 @@ ghost use Rattle.js_walk.specs.Keywords as table;
 ghost use Rattle.js_walk.specs.Note as spec;
 ghost use Rattle.js_walk.specs.SchemaSet.{Text as Bytes};
 ghost use Rattle.js_walk.specs.Walk.Said.{keyword_says};
-ghost use Rattle.js_walk.specs.Walk.Told.{IsKeywordAt, says_at, schema_says};
+ghost use Rattle.js_walk.specs.Walk.Progress.{IsKeywordAt, says_at, schema_says};
 ghost use Rattle.js_tree.specs.Seen.{note_of};
 
-use crate::finished_world::Here;
+use crate::finished_world::FinishedSchemas;
 use crate::judging::passing::{look_up_assertion, satisfies};
 use crate::searching::name_set::{is_in, set_of};
 use crate::searching::searchers::Searchers;
@@ -25,7 +25,7 @@ use js_assert::Assertion;
 use js_bundle::Place;
 use js_doc::{Doc, Members, Memory, Text};
 use js_tree::{Indexes, Names, Note};
-use js_walk::{Instance, Judged, Keyword, Kind};
+use js_walk::{Instance, Keyword, KeywordVerdict, Kind};
 use std::alloc::Global;
 use std::collections::BTreeSet;
 
@@ -33,7 +33,7 @@ use std::collections::BTreeSet;
 #[derive(Clone, Copy)]
 pub(crate) struct Findings<'n, 'a> {
     /// Whether the keyword passes, and how many of its applications succeed.
-    pub judged: Judged,
+    pub judged: KeywordVerdict,
     /// The number of items that match the adjacent `contains`.
     pub matching: u64,
     /// The names of the members that the keyword has evaluated if it passes.
@@ -44,7 +44,7 @@ pub(crate) struct Findings<'n, 'a> {
 
 impl<'n, 'a> Findings<'n, 'a> {
     /// Those of a keyword that applies no schema.
-    pub fn of_leaf(judged: Judged, matching: u64) -> Findings<'n, 'a>
+    pub fn of_leaf(judged: KeywordVerdict, matching: u64) -> Findings<'n, 'a>
         ensures judged { result.judged ≡ judged }
         ensures matching { result.matching ≡ matching }
         ensures names { texts_of result.names.now ≡ [] }
@@ -63,10 +63,10 @@ impl<'n, 'a> Findings<'n, 'a> {
 ///
 /// # Errors
 /// `Memory` if an allocation fails.
-#[tactic(auto, unfolding(js_walk::specs::Walk::Told::says_at))]
+#[tactic(auto, unfolding(js_walk::specs::Walk::Progress::says_at))]
 pub(crate) fn make_keyword_note<'a>(
     alloc: Global,
-    here: &Here<'a>,
+    here: &FinishedSchemas<'a>,
     place: Place,
     value: Instance<'a>,
     keyword: Keyword<'a>,
@@ -77,7 +77,7 @@ pub(crate) fn make_keyword_note<'a>(
         (keyword_of keyword) }
     ensures { IfOk result (λ n. note_of n ≡ says_at (schemas_of here.now.schemas.now)
         (numbered_site here.now.schemas.now place) (instance_of value.entry) findings.entry.matching
-        (keyword_of keyword.entry) findings.entry.judged.held (texts_of findings.entry.names.now)
+        (keyword_of keyword.entry) findings.entry.judged.succeeded (texts_of findings.entry.names.now)
         findings.entry.indexes.now findings.entry.judged.passes) }
 {
     let Findings {
@@ -92,7 +92,7 @@ pub(crate) fn make_keyword_note<'a>(
     } else {
         let assertion = look_up_assertion(here.schemas, place, keyword);
         let error = error_of(alloc, &here.searchers, assertion, value, matching)?;
-        failure_of(alloc, kind, judged.held, error)
+        failure_of(alloc, kind, judged.succeeded, error)
     }
 }
 
@@ -100,10 +100,10 @@ pub(crate) fn make_keyword_note<'a>(
 ///
 /// # Errors
 /// `Memory` if an allocation fails.
-#[tactic(auto, unfolding(js_walk::specs::Walk::Told::schema_says))]
+#[tactic(auto, unfolding(js_walk::specs::Walk::Progress::schema_says))]
 pub(crate) fn make_schema_note<'a>(
     alloc: Global,
-    _here: &Here<'_>,
+    _here: &FinishedSchemas<'_>,
     _place: Place,
     schema: &Doc,
 ) -> Result<Note<'a>, Memory>
@@ -129,9 +129,9 @@ fn annotation_of<'a>(
     names: &[&'a str],
     indexes: &[usize],
 ) -> Result<Note<'a>, Memory>
-    ensures { (siblings : Named) (matching held : ℕ)
+    ensures { (siblings : Named) (matching succeeded : ℕ)
         → IfOk result (λ n. note_of n ≡ keyword_says siblings (instance_of value.entry) matching
-        (keyword_of keyword.entry) held (texts_of names.now) indexes.now true kind) }
+        (keyword_of keyword.entry) succeeded (texts_of names.now) indexes.now true kind) }
 {
     match kind {
         Kind::PrefixItems => Ok(true_or_largest(value, indexes)),
@@ -148,25 +148,25 @@ fn annotation_of<'a>(
     }
 }
 
-/// The note of a keyword that fails. `held`: the number of its applications that succeed; `error`: the error of its
-/// assertion, if it makes one and the value doesn't satisfy it.
+/// The note of a keyword that fails. `succeeded`: the number of its applications that succeed; `error`: the error of
+/// its assertion, if it makes one and the value doesn't satisfy it.
 ///
 /// # Errors
 /// `Memory` if an allocation fails.
 fn failure_of<'a>(
     alloc: Global,
     kind: Kind,
-    held: usize,
+    succeeded: usize,
     error: Option<String>,
 ) -> Result<Note<'a>, Memory>
     ensures { (siblings : Named) (v : JsonValue) (matching : ℕ) (k : table.Keyword) (names : List Bytes)
         (indexes : List ℕ)
         → option_map string_bytes error ≡ option_map_or (λ a. texts.error a v matching) (asserted k.0 k.1 siblings) None
-        → IfOk result (λ n. note_of n ≡ keyword_says siblings v matching k held names indexes false kind) }
+        → IfOk result (λ n. note_of n ≡ keyword_says siblings v matching k succeeded names indexes false kind) }
 {
     match kind {
         Kind::AnyOf => words(alloc, "no branch holds"),
-        Kind::OneOf => branches_hold(alloc, held),
+        Kind::OneOf => branches_hold(alloc, succeeded),
         Kind::Not => words(alloc, "the subschema holds"),
         Kind::Contains => words(alloc, "no matching item"),
         Kind::Assertion => Ok(error_or_none(error)),

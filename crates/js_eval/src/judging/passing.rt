@@ -7,7 +7,7 @@ ghost use Rattle.js_assert.specs.Assertion.{asserted};
 ghost use Rattle.js_assert.specs.Pattern.{matches};
 ghost use Rattle.js_walk.specs.Keywords as table;
 ghost use Rattle.js_walk.specs.Passes.{all, any, how_many, may_contain_none, passes_of};
-ghost use Rattle.js_walk.specs.Walk.Told.{IsKeywordAt, passes_at};
+ghost use Rattle.js_walk.specs.Walk.Progress.{IsKeywordAt, passes_at};
 ghost use Rattle.js_walk.specs.declared.keywords.kind.Kind.TheVariants.{Assertion as AssertionKind};
 ghost use Rattle.js_walk.specs.code.Terms.{IsSchemaAt, instance_of, is_place};
 ghost use Rattle.js_walk.specs.code.Terms.{keyword_of, numbered_site, schemas_of, value_of};
@@ -25,7 +25,7 @@ use std::alloc::Global;
 ///
 /// # Errors
 /// `Memory` if an allocation fails.
-#[tactic(auto, unfolding(js_walk::specs::Walk::Told::passes_at))]
+#[tactic(auto, unfolding(js_walk::specs::Walk::Progress::passes_at))]
 pub(crate) fn judge_keyword<'a>(
     alloc: Global,
     schemas: &'a Schemas,
@@ -39,7 +39,8 @@ pub(crate) fn judge_keyword<'a>(
 ) -> Result<bool, Memory>
     requires schema { IsSchemaAt schemas.now place (value_of schema.now) }
     requires keyword { IsKeywordAt (schemas_of schemas.now) (numbered_site schemas.now place) (keyword_of keyword) }
-    ensures { IfOk result (λ b. (verdicts : List Bool) → length verdicts ≡ tally.asked → how_many verdicts ≡ tally.held
+    ensures { IfOk result (λ b. (verdicts : List Bool) → length verdicts ≡ tally.asked
+        → how_many verdicts ≡ tally.succeeded
         → b ≡ passes_at (schemas_of schemas.now) (numbered_site schemas.now place) (instance_of value.entry) matching
         (keyword_of keyword.entry) verdicts) }
 {
@@ -65,12 +66,12 @@ pub(crate) fn passes_by_count(
     ensures { (matching : ℕ) (k : table.Keyword) (verdicts : List Bool)
         → (kind ≡ AssertionKind → option_map_or (λ a. spec.says a (instance_of value.entry) matching)
         (asserted k.0 k.1 (entries (value_of schema.now))) true ≡ said)
-        → length verdicts ≡ tally.asked → how_many verdicts ≡ tally.held
+        → length verdicts ≡ tally.asked → how_many verdicts ≡ tally.succeeded
         → result ≡ passes_of (entries (value_of schema.now)) (instance_of value.entry) matching k verdicts kind }
 {
     match kind {
         Kind::AnyOf => holds_any(tally),
-        Kind::OneOf => tally.held == 1,
+        Kind::OneOf => tally.succeeded == 1,
         Kind::Not => !holds_any(tally),
         Kind::If => true,
         Kind::Contains => contains(schema, value, tally),
@@ -82,21 +83,21 @@ pub(crate) fn passes_by_count(
 
 #[tactic(auto, using(crate::proofs::Counts::all_by_count))]
 fn holds_all(tally: Tally) -> bool
-    ensures { (verdicts : List Bool) → length verdicts ≡ tally.asked → how_many verdicts ≡ tally.held
+    ensures { (verdicts : List Bool) → length verdicts ≡ tally.asked → how_many verdicts ≡ tally.succeeded
         → result ≡ all verdicts }
 {
-    tally.held == tally.asked
+    tally.succeeded == tally.asked
 }
 
 #[tactic(auto, using(crate::proofs::Counts::any_by_count))]
 fn holds_any(tally: Tally) -> bool
-    ensures { (verdicts : List Bool) → how_many verdicts ≡ tally.held → result ≡ any verdicts }
+    ensures { (verdicts : List Bool) → how_many verdicts ≡ tally.succeeded → result ≡ any verdicts }
 {
-    tally.held != 0
+    tally.succeeded != 0
 }
 
 fn contains(schema: &Doc, value: Instance<'_>, tally: Tally) -> bool
-    ensures { (verdicts : List Bool) → how_many verdicts ≡ tally.held
+    ensures { (verdicts : List Bool) → how_many verdicts ≡ tally.succeeded
         → result ≡ on_array (instance_of value.entry)
         (λ _. any verdicts || may_contain_none (entries (value_of schema.now))) }
 {

@@ -2,13 +2,14 @@
 ghost use Rattle.std.specs.Prelude.{OnOk};
 ghost use Rattle.js_tree.specs.Events.{opening};
 
-use crate::finished_world::Here;
+use crate::finished_world::FinishedSchemas;
 use crate::judging::notes::{Findings, make_keyword_note, make_schema_note};
 use js_bundle::Place;
 use js_doc::{Doc, Memory, Text};
 use js_tree::{Collector, Head};
 use js_walk::{
-    HeldText, Instance, Judged, Keyword, Reporter, Trail, World, absolute_keyword, absolute_schema,
+    HeldText, Instance, Keyword, KeywordVerdict, Reporter, Trail, World, absolute_keyword,
+    absolute_schema,
 };
 use std::alloc::Global;
 use std::marker::PhantomData;
@@ -20,14 +21,14 @@ pub(crate) struct Collecting<'a, C> {
     pub notes: PhantomData<&'a Doc>,
 }
 
-impl<'a, C: Collector<'a>> Reporter<Here<'a>, HeldText> for Collecting<'a, C> {
+impl<'a, C: Collector<'a>> Reporter<FinishedSchemas<'a>, HeldText> for Collecting<'a, C> {
     ghost takes = { λ c e d. C.takes c.collector e d.collector };
 
     #[inline(never)]
     fn open_schema(
         &mut self,
         alloc: Global,
-        world: &Here<'a>,
+        world: &FinishedSchemas<'a>,
         place: Place,
         keyword_location: &Trail<HeldText>,
         instance_location: &Trail<HeldText>,
@@ -40,7 +41,7 @@ impl<'a, C: Collector<'a>> Reporter<Here<'a>, HeldText> for Collecting<'a, C> {
     fn open_keyword(
         &mut self,
         alloc: Global,
-        world: &Here<'a>,
+        world: &FinishedSchemas<'a>,
         place: Place,
         keyword: Keyword<'a>,
         keyword_location: &Trail<HeldText>,
@@ -54,11 +55,11 @@ impl<'a, C: Collector<'a>> Reporter<Here<'a>, HeldText> for Collecting<'a, C> {
     fn close_keyword(
         &mut self,
         alloc: Global,
-        world: &Here<'a>,
+        world: &FinishedSchemas<'a>,
         place: Place,
         value: Instance<'a>,
         keyword: Keyword<'a>,
-        judged: Judged,
+        judged: KeywordVerdict,
         matching: u64,
         names: &[&'a str],
         indexes: &[usize],
@@ -77,11 +78,11 @@ impl<'a, C: Collector<'a>> Reporter<Here<'a>, HeldText> for Collecting<'a, C> {
     fn leaf_keyword(
         &mut self,
         alloc: Global,
-        world: &Here<'a>,
+        world: &FinishedSchemas<'a>,
         place: Place,
         value: Instance<'a>,
         keyword: Keyword<'a>,
-        judged: Judged,
+        judged: KeywordVerdict,
         matching: u64,
         keyword_location: &mut Trail<HeldText>,
         instance_location: &Trail<HeldText>,
@@ -107,7 +108,7 @@ impl<'a, C: Collector<'a>> Reporter<Here<'a>, HeldText> for Collecting<'a, C> {
     fn close_schema(
         &mut self,
         alloc: Global,
-        world: &Here<'a>,
+        world: &FinishedSchemas<'a>,
         place: Place,
         schema: &'a Doc,
         valid: bool,

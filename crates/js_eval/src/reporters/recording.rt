@@ -4,12 +4,14 @@ ghost use Rattle.js_doc.specs.Fragment.{fragment_token};
 ghost use Rattle.js_rows.specs.RelativeState.{TakesLeafAt, relative_after, relative_state};
 ghost use Rattle.js_walk.specs.code.Standard.{IsWrittenAsItIs};
 
-use crate::finished_world::Here;
+use crate::finished_world::FinishedSchemas;
 use crate::judging::notes::{Findings, make_keyword_note, make_schema_note};
 use js_bundle::Place;
 use js_doc::{Doc, Memory, push_fragment_token};
 use js_rows::RelativeRows;
-use js_walk::{HeldText, Instance, Judged, Keyword, Reporter, Trail, World, is_written_as_it_is};
+use js_walk::{
+    HeldText, Instance, Keyword, KeywordVerdict, Reporter, Trail, World, is_written_as_it_is,
+};
 use std::alloc::Global;
 
 /// Adds a row for each node of the result. Its methods aren't inlined: that keeps the notes that they make out of the
@@ -22,7 +24,7 @@ pub(crate) struct Recording<'a> {
     pub token: String,
 }
 
-impl<'a> Reporter<Here<'a>, HeldText> for Recording<'a> {
+impl<'a> Reporter<FinishedSchemas<'a>, HeldText> for Recording<'a> {
     ghost takes = { λ c e d. relative_state d.rows ≡ relative_after (relative_state c.rows) e };
 
     #[inline(always)]
@@ -34,7 +36,7 @@ impl<'a> Reporter<Here<'a>, HeldText> for Recording<'a> {
     fn open_schema(
         &mut self,
         _alloc: Global,
-        world: &Here<'a>,
+        world: &FinishedSchemas<'a>,
         place: Place,
         keyword_location: &Trail<HeldText>,
         instance_location: &Trail<HeldText>,
@@ -52,7 +54,7 @@ impl<'a> Reporter<Here<'a>, HeldText> for Recording<'a> {
     fn open_keyword(
         &mut self,
         _alloc: Global,
-        world: &Here<'a>,
+        world: &FinishedSchemas<'a>,
         place: Place,
         keyword: Keyword<'a>,
         keyword_location: &Trail<HeldText>,
@@ -80,11 +82,11 @@ impl<'a> Reporter<Here<'a>, HeldText> for Recording<'a> {
     fn close_keyword(
         &mut self,
         alloc: Global,
-        world: &Here<'a>,
+        world: &FinishedSchemas<'a>,
         place: Place,
         value: Instance<'a>,
         keyword: Keyword<'a>,
-        judged: Judged,
+        judged: KeywordVerdict,
         matching: u64,
         names: &[&'a str],
         indexes: &[usize],
@@ -104,11 +106,11 @@ impl<'a> Reporter<Here<'a>, HeldText> for Recording<'a> {
     fn leaf_keyword(
         &mut self,
         alloc: Global,
-        world: &Here<'a>,
+        world: &FinishedSchemas<'a>,
         place: Place,
         value: Instance<'a>,
         keyword: Keyword<'a>,
-        judged: Judged,
+        judged: KeywordVerdict,
         matching: u64,
         keyword_location: &mut Trail<HeldText>,
         instance_location: &Trail<HeldText>,
@@ -139,7 +141,7 @@ impl<'a> Reporter<Here<'a>, HeldText> for Recording<'a> {
     fn close_schema(
         &mut self,
         alloc: Global,
-        world: &Here<'a>,
+        world: &FinishedSchemas<'a>,
         place: Place,
         schema: &'a Doc,
         valid: bool,

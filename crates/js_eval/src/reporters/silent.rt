@@ -1,7 +1,7 @@
 //! A reporter that ignores every event.
 use js_bundle::Place;
 use js_doc::Memory;
-use js_walk::{Judged, PointerText, Reporter, Trail, World};
+use js_walk::{KeywordVerdict, PointerText, Reporter, Trail, World};
 use std::alloc::Global;
 
 /// Ignores every event, for a walk that only needs the verdict.
@@ -46,7 +46,7 @@ impl<W: World, H: PointerText + Drop> Reporter<W, H> for Silent {
         _place: Place,
         _value: W::Value,
         _keyword: W::Keyword,
-        _judged: Judged,
+        _judged: KeywordVerdict,
         _matching: u64,
         _names: &[W::Name],
         _indexes: &[usize],
@@ -61,7 +61,7 @@ impl<W: World, H: PointerText + Drop> Reporter<W, H> for Silent {
         _place: Place,
         _value: W::Value,
         _keyword: W::Keyword,
-        _judged: Judged,
+        _judged: KeywordVerdict,
         _matching: u64,
         _keyword_location: &mut Trail<H>,
         _instance_location: &Trail<H>,

@@ -11,9 +11,9 @@ use std::alloc::Global;
 use std::cell::RefCell;
 
 /// The maximal number of searchers kept.
-const MOST_KEPT: usize = 2_048;
+const MOST_CACHED: usize = 2_048;
 
-/// The number of bytes searched after which all kept searchers are dropped. The memory of a searcher grows with the
+/// The number of bytes searched after which all cached searchers are dropped. The memory of a searcher grows with the
 /// bytes that it has searched, so this limits the sum to some tens of megabytes, except for patterns made to take more.
 const MOST_SEARCHED: usize = 1 << 20;
 
@@ -38,16 +38,16 @@ pub(crate) struct PatternSearch<'s, 'p> {
 /// keywords need it.
 #[derive(Drop)]
 pub(crate) struct Searchers<'p> {
-    kept: RefCell<Kept<'p>>,
+    cache: RefCell<Cache<'p>>,
     /// The stored matches: an entry for each schema being applied that has `additionalProperties` and
     /// `patternProperties`, the innermost last.
     answers: RefCell<Vec<AllAnswers<'p>>>,
 }
 
-/// The kept searchers, sorted by the text of their patterns, and the number of bytes searched. If either limit is
+/// The cached searchers, sorted by the text of their patterns, and the number of bytes searched. If either limit is
 /// exceeded, all searchers are dropped.
 #[derive(Drop)]
-struct Kept<'p> {
+struct Cache<'p> {
     all: Vec<Marked<'p>>,
     searched: usize,
 }
@@ -61,10 +61,10 @@ struct Marked<'p> {
 }
 
 impl<'p> Searchers<'p> {
-    /// Without kept searchers.
+    /// Without cached searchers.
     pub fn new(alloc: Global) -> Searchers<'p> {
         Searchers {
-            kept: RefCell::new(Kept {
+            cache: RefCell::new(Cache {
                 all: Vec::new(alloc),
                 searched: 0,
             }),
@@ -86,10 +86,10 @@ impl<'p> Searchers<'p> {
         ensures { IfOk result (λ b. b ≡ matches named.entry.text.now name.now) }
     {
         let NamedPattern { pattern, text } = named;
-        match self.kept.try_borrow_mut() {
-            Ok(mut kept) => match search_again(&mut kept, text, name) {
+        match self.cache.try_borrow_mut() {
+            Ok(mut cache) => match search_again(&mut cache, text, name) {
                 Some(found) => Ok(found),
-                None => search_first(alloc, &mut kept, pattern, text, name),
+                None => search_first(alloc, &mut cache, pattern, text, name),
             },
             Err(_) => pattern.holds(alloc, name),
         }
@@ -103,64 +103,64 @@ impl<'p> Searchers<'p> {
     /// `Memory` if an allocation fails.
     pub fn keep_answers(&self, answers: AllAnswers<'p>) -> Result<(), Memory> {
         match self.answers.try_borrow_mut() {
-            Ok(mut kept) => Ok(kept.push(answers)?),
+            Ok(mut entries) => Ok(entries.push(answers)?),
             Err(_) => Ok(()),
         }
     }
 
     /// Drops the entry that was stored last.
     pub fn drop_answers(&self) {
-        if let Ok(mut kept) = self.answers.try_borrow_mut() {
-            let _ = kept.pop();
+        if let Ok(mut entries) = self.answers.try_borrow_mut() {
+            let _ = entries.pop();
         }
     }
 
-    /// Whether one of the patterns matches the name, by the entry stored last; None if it doesn't tell.
+    /// Whether one of the patterns matches the name, by the entry stored last; None if it doesn't say.
     pub fn any_kept(&self, patterns: &Members, name: &str) -> Option<bool>
         ensures { MatchOption result (Unit {0}) (λ b. b ≡ list_any (λ p. matches p.0 name.now) patterns.now) }
     {
         match self.answers.try_borrow_mut() {
-            Ok(mut kept) => kept.last_mut()?.find_any(patterns, name),
+            Ok(mut entries) => entries.last_mut()?.find_any(patterns, name),
             Err(_) => None,
         }
     }
 
     /// Goes on to the next pattern in the entry stored last.
     pub fn begin_kept(&self) {
-        if let Ok(mut kept) = self.answers.try_borrow_mut() {
-            if let Some(answers) = kept.last_mut() {
+        if let Ok(mut entries) = self.answers.try_borrow_mut() {
+            if let Some(answers) = entries.last_mut() {
                 answers.begin_next();
             }
         }
     }
 
-    /// Whether the pattern matches the name, by the entry stored last; None if it doesn't tell.
+    /// Whether the pattern matches the name, by the entry stored last; None if it doesn't say.
     pub fn kept_answer(&self, pattern: &str, name: &str) -> Option<bool>
         ensures { MatchOption result (Unit {0}) (λ b. b ≡ matches pattern.now name.now) }
     {
         match self.answers.try_borrow_mut() {
-            Ok(mut kept) => kept.last_mut()?.find(pattern, name),
+            Ok(mut entries) => entries.last_mut()?.find(pattern, name),
             Err(_) => None,
         }
     }
 }
 
 // Counts the bytes of one more search. Above the limit, drops all searchers first.
-fn count(kept: &mut Kept<'_>, bytes: usize) {
-    if kept.searched > MOST_SEARCHED {
-        kept.all.clear();
-        kept.searched = 0;
+fn count(cache: &mut Cache<'_>, bytes: usize) {
+    if cache.searched > MOST_SEARCHED {
+        cache.all.clear();
+        cache.searched = 0;
     }
-    kept.searched = kept.searched.saturating_add(bytes);
+    cache.searched = cache.searched.saturating_add(bytes);
 }
 
-// Searches with the kept searcher for the pattern with this text, if there is one.
-fn search_again(kept: &mut Kept<'_>, text: &str, name: &str) -> Option<bool>
+// Searches with the cached searcher for the pattern with this text, if there is one.
+fn search_again(cache: &mut Cache<'_>, text: &str, name: &str) -> Option<bool>
     ensures { MatchOption result (Unit {0}) (λ b. b ≡ matches text.now name.now) }
 {
-    count(kept, name.len());
-    let index = place_of(kept.all.as_slice(), text);
-    let marked = kept.all.get_mut(index)?;
+    count(cache, name.len());
+    let index = place_of(cache.all.as_slice(), text);
+    let marked = cache.all.get_mut(index)?;
     if marked.text == text {
         return Some(marked.searcher.holds(name));
     }
@@ -168,16 +168,16 @@ fn search_again(kept: &mut Kept<'_>, text: &str, name: &str) -> Option<bool>
 }
 
 // The index of the searcher for the pattern with this text, or where it belongs.
-fn place_of(kept: &[Marked<'_>], text: &str) -> usize {
-    kept.partition_point(|marked| marked.text < text)
+fn place_of(cache: &[Marked<'_>], text: &str) -> usize {
+    cache.partition_point(|marked| marked.text < text)
 }
 
 // Searches with a new searcher, and keeps it if there is memory. It isn't inlined: until it is boxed, a searcher takes
-// much of the stack, and searches with a kept one shouldn't pay for that.
+// much of the stack, and searches with a cached one shouldn't pay for that.
 #[inline(never)]
 fn search_first<'p>(
     alloc: Global,
-    kept: &mut Kept<'p>,
+    cache: &mut Cache<'p>,
     pattern: &'p Pattern,
     text: &'p str,
     name: &str,
@@ -187,17 +187,17 @@ fn search_first<'p>(
 {
     let mut searcher = pattern.searcher(alloc)?;
     let found = searcher.holds(name);
-    keep(kept, Marked { text, searcher });
+    keep(cache, Marked { text, searcher });
     Ok(found)
 }
 
 // Keeps a searcher, if there is memory. If there are too many, drops the others first.
-fn keep<'p>(kept: &mut Kept<'p>, marked: Marked<'p>) {
-    if kept.all.len() >= MOST_KEPT {
-        kept.all.clear();
+fn keep<'p>(cache: &mut Cache<'p>, marked: Marked<'p>) {
+    if cache.all.len() >= MOST_CACHED {
+        cache.all.clear();
     }
-    let index = place_of(kept.all.as_slice(), marked.text);
-    if index <= kept.all.len() {
-        let _ = kept.all.insert(index, marked);
+    let index = place_of(cache.all.as_slice(), marked.text);
+    if index <= cache.all.len() {
+        let _ = cache.all.insert(index, marked);
     }
 }

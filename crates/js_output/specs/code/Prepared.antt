@@ -25,7 +25,8 @@ rows_form _ t = verbose t
 abbrev pub IsPrepared : Prepared → Bool → Value → Type 0
 IsPrepared (prepared.Verdict v) valid value = (v ≡ valid) × (flag v ≡ value)
 IsPrepared (prepared.Rows format rows locations) valid value =
-    (t : ResultTree) × AreRowsOf rows t × HasRoomFor locations rows × (t.root.valid ≡ valid) × (rows_form format t ≡ value)
+    (t : ResultTree) × AreRowsOf rows t × HasRoomFor locations rows × (t.root.valid ≡ valid)
+    × (rows_form format t ≡ value)
 IsPrepared (prepared.Tree t) valid value = (t.root.valid ≡ valid) × (verbose t ≡ value)
 
 abbrev pub ArePrepared : Prepared → Type 0

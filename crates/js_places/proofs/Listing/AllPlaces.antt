@@ -1,16 +1,17 @@
 -- The list of places of a whole bundle has exactly the places of its documents, each once.
-use Rattle.std.proofs.Common.{◌≡◌, ℕ, zero, suc, ◌+◌, List, [], ◌∷◌, ◌++◌, inl, inr, Some, slice_get, refl, subst, arith}
+use Rattle.std.proofs.Common.{◌≡◌, ℕ, zero, suc, ◌+◌, List, [], ◌∷◌, ◌++◌, inl, inr}
+use Rattle.std.proofs.Common.{Some, slice_get, subst, arith}
 use Rattle.std.specs.List.{AllByRecursion}
 use Rattle.js_doc.specs.Pointer.{Tokens}
 use Rattle.js_doc.specs.Value.{Value}
 use Rattle.js_places.specs.Document.{Document, Documents}
-use Rattle.js_places.specs.Place.{IsPlace, at_root, SchemaPlace, places_at, places_from, all_places}
+use Rattle.js_places.specs.Place.{IsPlace, SchemaPlace, places_at, places_from, all_places}
 use Rattle.js_places.specs.PlaceLaws.{ListsPlace, IsPlaceOf, ListsIn, AreDistinct, ListsAll}
 use Rattle.js_places.specs.Seen.{AreRead}
 use Rattle.js_places.proofs.Listing.PlacesApart.{all_as}
 use Rattle.js_places.proofs.Listing.EachListedOnce.{all_distinct}
-use Rattle.js_places.proofs.Listing.LeastSetListed.{all_append, sound, complete}
-use Rattle.js_places.proofs.Standing.{both_all, of_document, of_source}
+use Rattle.js_places.proofs.Listing.LeastSetListed.{complete}
+use Rattle.js_places.proofs.Standing.{IsOf, all_of, of_document}
 
 in_left : (n : ℕ) (p : Tokens) (v : Value) (xs ys : List SchemaPlace) → ListsIn n p v xs → ListsIn n p v (xs ++ ys)
 in_left n p v [] ys h = absurd h
@@ -21,51 +22,37 @@ in_right : (n : ℕ) (p : Tokens) (v : Value) (xs ys : List SchemaPlace) → Lis
 in_right n p v [] ys h = h
 in_right n p v (x ∷ xs) ys h = inr (in_right n p v xs ys h)
 
-in_document : (n : ℕ) (p : Tokens) (v : Value) (xs : List SchemaPlace) → AllByRecursion (λ t. t.document ≡ n) xs → ListsPlace p v xs → ListsIn n p v xs
+in_document : (n : ℕ) (p : Tokens) (v : Value) (xs : List SchemaPlace) → AllByRecursion (λ t. t.document ≡ n) xs
+    → ListsPlace p v xs → ListsIn n p v xs
 in_document n p v [] a h = absurd h
 in_document n p v (x ∷ xs) a (inl e) = inl (a.0, e.0, e.1)
 in_document n p v (x ∷ xs) a (inr h) = inr (in_document n p v xs a.1 h)
 
 -- the places of the documents, where the first has the number k
-listed_from : (k : ℕ) (ds : Documents) (j n : ℕ) (d : Document) (p : Tokens) (v : Value) → n ≡ k + j → slice_get ds j ≡ Some d → IsPlace d.root p v → ListsIn n p v (places_from k ds)
+listed_from : (k : ℕ) (ds : Documents) (j n : ℕ) (d : Document) (p : Tokens) (v : Value) → n ≡ k + j
+    → slice_get ds j ≡ Some d → IsPlace d.root p v → ListsIn n p v (places_from k ds)
 listed_from k [] j n d p v is e h = absurd (cc)
 listed_from k (c ∷ ds) zero n d p v is e h =
     let same : d ≡ c = cc in
     let number : k ≡ n = omega (arith, is) in
     in_left n p v (places_at k c.uri [] [] c.root) (places_from (suc k) ds)
     (subst (λ m. ListsIn m p v (places_at k c.uri [] [] c.root)) number
-    (in_document k p v (places_at k c.uri [] [] c.root) (of_document k c.uri c.root [] []) (complete k c.uri c.root p v (subst (λ b. IsPlace b.root p v) same h))))
+    (in_document k p v (places_at k c.uri [] [] c.root) (of_document k c.uri c.root [] [])
+    (complete k c.uri c.root p v (subst (λ b. IsPlace b.root p v) same h))))
 listed_from k (c ∷ ds) (suc j) n d p v is e h =
-    in_right n p v (places_at k c.uri [] [] c.root) (places_from (suc k) ds) (listed_from (suc k) ds j n d p v (omega (arith, is)) e h)
+    in_right n p v (places_at k c.uri [] [] c.root) (places_from (suc k) ds)
+    (listed_from (suc k) ds j n d p v (omega (arith, is)) e h)
 
-pub record IsFrom (k : ℕ) (ds : Documents) (t : SchemaPlace) : Type 0 where
-  pub index : ℕ
-  pub number : t.document ≡ k + index
-  pub document : Document
-  pub found : slice_get ds index ≡ Some document
-  pub uri : t.uri ≡ document.uri
-  pub place : IsPlace document.root t.spot.pointer t.spot.schema
-
-sound_from : (k : ℕ) (ds : Documents) → AllByRecursion (IsFrom k ds) (places_from k ds)
-sound_from k [] = tt
-sound_from k (d ∷ ds) =
-    all_append (IsFrom k (d ∷ ds)) (places_at k d.uri [] [] d.root) (places_from (suc k) ds)
-    (both_all (λ t. (t.document ≡ k) × (t.uri ≡ d.uri)) (λ t. IsPlace d.root t.spot.pointer t.spot.schema) (IsFrom k (d ∷ ds))
-    (λ t e h. record { index = 0; number = omega (arith, e.0); document = d; found = refl; uri = e.1; place = h }) (places_at k d.uri [] [] d.root)
-    (of_source k d.uri d.root [] []) (sound k d.uri d.root d.root [] [] at_root))
-    (all_as (IsFrom (suc k) ds) (IsFrom k (d ∷ ds))
-    (λ t o. record { index = suc o.index; number = omega (arith, o.number); document = o.document; found = o.found; uri = o.uri; place = o.place }) (places_from (suc k) ds)
-    (sound_from (suc k) ds))
-
-place_of : (documents : Documents) (t : SchemaPlace) → IsFrom 0 documents t → IsPlaceOf documents t
+place_of : (documents : Documents) (t : SchemaPlace) → IsOf 0 documents t → IsPlaceOf documents t
 place_of documents t o =
-    let number : o.index ≡ t.document = omega (arith, o.number) in
+    let number : o.index ≡ t.document = omega (arith, o.numbered) in
     (o.document, subst (λ i. slice_get documents i ≡ Some o.document) number o.found, o.uri, o.place)
 
 pub lists_all_places : (documents : Documents) → ListsAll documents
 lists_all_places documents =
     record {
-      sound = all_as (IsFrom 0 documents) (IsPlaceOf documents) (place_of documents) (all_places documents) (sound_from 0 documents);
+      sound = all_as (IsOf 0 documents) (IsPlaceOf documents) (place_of documents) (all_places documents)
+          (all_of 0 documents);
       complete = λ n d p v e h. listed_from 0 documents n n d p v (omega arith) e h;
     }
 

@@ -1,5 +1,5 @@
--- The numbers of the places that each keyword of a place holds, as they follow from the numbers in scan order: the first
--- place that a place holds comes next, and the next one after all that stand below that.
+-- The numbers of the places that each keyword of a place holds, as they follow from the numbers in scan order: the
+-- first place that a place holds comes next, and the next one after all that stand below that.
 use Rattle.std.specs.Prelude.{ℕ, suc, ◌+◌, List, [], ◌∷◌, ◌++◌, map}
 use Rattle.js_doc.specs.Value.{Value, list, object, Items, no_items, item, Members, no_members, member}
 use Rattle.js_places.specs.declared.index.edges.Edges.{Edges}
@@ -28,7 +28,8 @@ abbrev mutual
 
   pub count_of_keywords : Members → ℕ
   count_of_keywords no_members = 0
-  count_of_keywords (member k v ms) = by_holding 0 (holding k) (count v) (count_in_list v) (count_in_object v) + count_of_keywords ms
+  count_of_keywords (member k v ms) =
+      by_holding 0 (holding k) (count v) (count_in_list v) (count_in_object v) + count_of_keywords ms
 
   pub count_in_list : Value → ℕ
   count_in_list (list vs) = count_of_items vs
@@ -81,7 +82,8 @@ one_entry h entry = by_holding [] h (entry ∷ []) (entry ∷ []) (entry ∷ [])
 
 abbrev pub held_by_keywords : ℕ → Members → List HeldNumbers
 held_by_keywords n no_members = []
-held_by_keywords n (member k v ms) = one_entry (holding k) (keyword_name k, numbers_held (holding k) n v) ++ held_by_keywords (n + count_of_keyword k v) ms
+held_by_keywords n (member k v ms) = one_entry (holding k) (keyword_name k, numbers_held (holding k) n v)
+    ++ held_by_keywords (n + count_of_keyword k v) ms
 
 -- what the keywords of the place with this number hold
 abbrev pub held_by_place : ℕ → Value → List HeldNumbers
@@ -98,7 +100,8 @@ abbrev mutual
   pub edges_of_keywords : ℕ → Members → List (List HeldNumbers)
   edges_of_keywords n no_members = []
   edges_of_keywords n (member k v ms) =
-      by_holding [] (holding k) (edges_at n v) (edges_in_list n v) (edges_in_object n v) ++ edges_of_keywords (n + count_of_keyword k v) ms
+      by_holding [] (holding k) (edges_at n v) (edges_in_list n v) (edges_in_object n v)
+      ++ edges_of_keywords (n + count_of_keyword k v) ms
 
   pub edges_in_list : ℕ → Value → List (List HeldNumbers)
   edges_in_list n (list vs) = edges_of_items n vs

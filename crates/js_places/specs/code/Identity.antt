@@ -10,7 +10,8 @@ use Rattle.js_places.specs.Url.{raw_fragment}
 
 -- the `$id` gives a URI under this base, with no fragment or an empty one
 abbrev pub is_bare_by : Parts → Value → Bool
-is_bare_by base id = option_map_or (λ uri. is_empty (raw_fragment uri)) (option_and_then (joined base) (as_text id)) false
+is_bare_by base id = option_map_or (λ uri. is_empty (raw_fragment uri))
+    (option_and_then (joined base) (as_text id)) false
 
 -- so does that of the schema
 abbrev pub is_bare : Parts → Value → Bool

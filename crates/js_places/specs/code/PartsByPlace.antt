@@ -7,7 +7,8 @@ abbrev pub ends_from : {A : Type 0} → (Site → List A) → ℕ → List Site 
 ends_from part n [] = []
 ends_from part n (place ∷ places) = (n + length (part place)) ∷ ends_from part (n + length (part place)) places
 
-pub record ArePartsByPlace {A : Type 0} (part : Site → List A) (places : List Site) (listed : List A) (ending : List ℕ) : Type 0 where
+pub record ArePartsByPlace {A : Type 0} (part : Site
+    → List A) (places : List Site) (listed : List A) (ending : List ℕ) : Type 0 where
   pub all : listed ≡ flat_map part places
   pub ends : ending ≡ ends_from part 0 places
 

@@ -1,11 +1,11 @@
--- Where places stand, as the first pass tells it: their keys in the index, which are roots of resources, and what is
+-- Where places stand, as the first pass notes it: their keys in the index, which are roots of resources, and what is
 -- kept of their absolute locations.
 use Rattle.std.specs.Prelude.{◌≡◌, ◌-◌, List, [], ◌∷◌, ◌++◌, length, Option, map, slice_get}
 use Rattle.js_places.specs.declared.index.positions.Positions.{Positions}
 use Rattle.js_places.specs.declared.index.positions.TextPrefixes.{TextPrefixes}
 use Rattle.js_places.specs.code.TextPrefix.{BeginsKey, BeginsLocation}
 use Rattle.js_places.specs.code.Index.{HasPlaceAdded, IsIndexOf}
-use Rattle.js_places.specs.code.KeptLocation.{kept_location}
+use Rattle.js_places.specs.code.StoredLocation.{stored_location}
 use Rattle.js_places.specs.Resource.{Site}
 use Rattle.js_places.specs.ResourceNumber.{begins_resource}
 
@@ -16,7 +16,7 @@ pub record BeginTexts (prefixes : TextPrefixes) (place : Site) : Type 0 where
 pub record ArePositionsOf (positions : Positions) (all : List Site) : Type 0 where
   pub index : IsIndexOf positions.index all
   pub roots : positions.roots.items ≡ map begins_resource all
-  pub locations : positions.locations.items ≡ map kept_location all
+  pub locations : positions.locations.items ≡ map stored_location all
 
 -- the last of these, if there is one
 abbrev pub IsLast : List Site → Option Site → Type 0
@@ -26,4 +26,4 @@ IsLast places last = last ≡ slice_get places (length places - 1)
 pub record HasPositionAdded (old : Positions) (before : List Site) (place : Site) (new : Positions) : Type 0 where
   pub index : HasPlaceAdded old.index place (length before) new.index
   pub roots : new.roots.items ≡ old.roots.items ++ begins_resource place ∷ []
-  pub locations : new.locations.items ≡ old.locations.items ++ kept_location place ∷ []
+  pub locations : new.locations.items ≡ old.locations.items ++ stored_location place ∷ []

@@ -1,5 +1,5 @@
--- The scan, with the scope of a place handed down to the places below it. `proofs/Scanned` shows that it lists the sites
--- of the places, in their order.
+-- The scan, with the base scope of a place passed down to the places below it. `proofs/Scanned` shows that it lists the
+-- sites of the places, in their order.
 use Rattle.std.specs.Prelude.{◌≡◌, ℕ, suc, List, [], ◌∷◌, ◌++◌, take, decimal, codes, if◌then◌else◌, is_some}
 use Rattle.js_doc.specs.Pointer.{Tokens}
 use Rattle.js_doc.specs.Seen.{value_of}
@@ -8,7 +8,7 @@ use Rattle.js_places.specs.declared.scan.holding.Holding.{Holding}
 use Rattle.js_places.specs.declared.scan.holding.Holding.TheVariants.{One, Listed, Named, Nothing}
 use Rattle.js_places.specs.declared.scan.holding.Role.{Role}
 use Rattle.js_places.specs.declared.scan.holding.Role.TheVariants.{Keywords, Schemas}
-use Rattle.js_places.specs.declared.scan.scope.Scope.{Scope}
+use Rattle.js_places.specs.declared.scan.base_scope.BaseScope.{BaseScope}
 use Rattle.js_places.specs.declared.scan.site.Site as rust
 use Rattle.js_places.specs.Document.{Documents}
 use Rattle.js_places.specs.Keyword.{Text, has_argument}
@@ -16,18 +16,33 @@ use Rattle.js_places.specs.Place.{holding}
 use Rattle.js_places.specs.Resource.{Site, sites, identified, scope_below, root_scope}
 
 abbrev pub site_of : rust.Site → Site
-site_of s = record { document = s.document; pointer = s.pointer.value; above = s.above.value; own = s.own.value; identifies = s.identifies; schema = value_of s.schema.now }
+site_of s = record {
+  document = s.document;
+  pointer = s.pointer.value;
+  above = s.above.value;
+  own = s.own.value;
+  identifies = s.identifies;
+  schema = value_of s.schema.now;
+}
 
--- ---- the scan, with the scope handed down
+-- ---- the scan, with the scope passed down
 
-abbrev pub handed_down : Scope → Tokens → Value → Scope
-handed_down above p v = scope_below above (record { pointer = p; schema = v })
+abbrev pub passed_down : BaseScope → Tokens → Value → BaseScope
+passed_down above p v = scope_below above (record { pointer = p; schema = v })
 
-abbrev pub own_scope : Scope → Tokens → Value → Scope
-own_scope above p v = record { resource = if has_argument (codes "$id") v then p else above.resource; base = (handed_down above p v).base }
+abbrev pub own_scope : BaseScope → Tokens → Value → BaseScope
+own_scope above p v = record
+    { resource = if has_argument (codes "$id") v then p else above.resource; base = (passed_down above p v).base }
 
-abbrev pub site_scanned : ℕ → Scope → Tokens → Value → Site
-site_scanned d above p v = record { document = d; pointer = p; above = above; own = own_scope above p v; identifies = is_some (identified above.base v); schema = v }
+abbrev pub site_scanned : ℕ → BaseScope → Tokens → Value → Site
+site_scanned d above p v = record {
+  document = d;
+  pointer = p;
+  above = above;
+  own = own_scope above p v;
+  identifies = is_some (identified above.base v);
+  schema = v;
+}
 
 -- how a member holds schemas: by its name if it is a keyword
 abbrev pub holding_as : Role → Text → Holding
@@ -41,31 +56,35 @@ sites_held Named one listed named = named
 sites_held Nothing one listed named = []
 
 abbrev mutual
-  pub sites_at : ℕ → Scope → Tokens → Value → List Site
-  sites_at d above p (object ms) = site_scanned d above p (object ms) ∷ sites_of_members Keywords d (handed_down above p (object ms)) p ms
+  pub sites_at : ℕ → BaseScope → Tokens → Value → List Site
+  sites_at d above p (object ms) = site_scanned d above p (object ms)
+      ∷ sites_of_members Keywords d (passed_down above p (object ms)) p ms
   sites_at d above p v = site_scanned d above p v ∷ []
 
-  pub sites_of_members : Role → ℕ → Scope → Tokens → Members → List Site
+  pub sites_of_members : Role → ℕ → BaseScope → Tokens → Members → List Site
   sites_of_members r d above p no_members = []
   sites_of_members r d above p (member k v ms) =
-      sites_held (holding_as r k) (sites_at d above (p ++ k ∷ []) v) (sites_in_list d above (p ++ k ∷ []) v) (sites_in_object d above (p ++ k ∷ []) v)
+      sites_held (holding_as r k) (sites_at d above (p ++ k ∷ []) v) (sites_in_list d above (p ++ k ∷ []) v)
+      (sites_in_object d above (p ++ k ∷ []) v)
       ++ sites_of_members r d above p ms
 
-  pub sites_in_list : ℕ → Scope → Tokens → Value → List Site
+  pub sites_in_list : ℕ → BaseScope → Tokens → Value → List Site
   sites_in_list d above p (list vs) = sites_of_items d above p 0 vs
   sites_in_list d above p _ = []
 
-  pub sites_of_items : ℕ → Scope → Tokens → ℕ → Items → List Site
+  pub sites_of_items : ℕ → BaseScope → Tokens → ℕ → Items → List Site
   sites_of_items d above p i no_items = []
-  sites_of_items d above p i (item v vs) = sites_at d above (p ++ decimal i ∷ []) v ++ sites_of_items d above p (suc i) vs
+  sites_of_items d above p i (item v vs) = sites_at d above (p ++ decimal i ∷ []) v
+      ++ sites_of_items d above p (suc i) vs
 
-  pub sites_in_object : ℕ → Scope → Tokens → Value → List Site
+  pub sites_in_object : ℕ → BaseScope → Tokens → Value → List Site
   sites_in_object d above p (object ms) = sites_of_members Schemas d above p ms
   sites_in_object d above p _ = []
 
 -- the sites of what one member holds
-abbrev pub sites_of_member : Role → ℕ → Scope → Tokens → Text → Value → List Site
-sites_of_member r d above p k v = sites_held (holding_as r k) (sites_at d above (p ++ k ∷ []) v) (sites_in_list d above (p ++ k ∷ []) v) (sites_in_object d above (p ++ k ∷ []) v)
+abbrev pub sites_of_member : Role → ℕ → BaseScope → Tokens → Text → Value → List Site
+sites_of_member r d above p k v = sites_held (holding_as r k) (sites_at d above (p ++ k ∷ []) v)
+    (sites_in_list d above (p ++ k ∷ []) v) (sites_in_object d above (p ++ k ∷ []) v)
 
 abbrev pub sites_from : ℕ → Documents → List Site
 sites_from n [] = []

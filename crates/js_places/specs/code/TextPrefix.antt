@@ -1,13 +1,14 @@
--- How the texts begin that tell where a place stands: with as many tokens of its pointer, or of its way from the
+-- How the texts begin that say where a place stands: with as many tokens of its pointer, or of its way from the
 -- resource's root. Those of the next place go on from there.
-use Rattle.std.specs.Prelude.{◌≡◌, ℕ, List, suc, [], ◌∷◌, ◌++◌, Option, bytes_eq, codes, decimal, drop, take, string_bytes, if◌then◌else◌}
+use Rattle.std.specs.Prelude.{◌≡◌, ℕ, List, suc, [], ◌∷◌, ◌++◌, Option, bytes_eq, codes}
+use Rattle.std.specs.Prelude.{decimal, drop, take, string_bytes, if◌then◌else◌}
 use Rattle.std.specs.Option.{option_map_or}
-use Rattle.js_doc.specs.Fragment.{fragment_text, fragment_token}
+use Rattle.js_doc.specs.Fragment.{fragment_text}
 use Rattle.js_doc.specs.Pointer.{Tokens, pointer_text, token_text}
-use Rattle.js_places.specs.declared.index.text_prefix.Notation.{Notation}
-use Rattle.js_places.specs.declared.index.text_prefix.Notation.TheVariants.{Plain, Fragment}
+use Rattle.js_doc.specs.declared.token.Notation.{Notation}
+use Rattle.js_doc.specs.declared.token.Notation.TheVariants.{Plain, Fragment}
 use Rattle.js_places.specs.declared.index.text_prefix.TextPrefix.{TextPrefix}
-use Rattle.js_places.specs.code.KeptLocation.{repeated}
+use Rattle.js_places.specs.code.StoredLocation.{repeated}
 use Rattle.js_places.specs.Location.{canonical, way}
 use Rattle.js_places.specs.Resource.{Site}
 
@@ -23,23 +24,21 @@ shared_with before place = option_map_or (λ b. tokens_alike place.pointer b.poi
 
 -- ---- tokens as text
 
-abbrev pub token_written : Notation → List ℕ → List ℕ
-token_written Plain token = token_text token
-token_written Fragment token = fragment_token token
-
 abbrev pub text_of_tokens : Notation → Tokens → List ℕ
 text_of_tokens Plain tokens = pointer_text tokens
 text_of_tokens Fragment tokens = fragment_text tokens
 
 -- the prefix is a head and the first tokens
-pub record BeginsWithTokens (head : List ℕ) (form : Notation) (tokens : Tokens) (prefix : TextPrefix) : Type 0 where
-  pub text : string_bytes prefix.text ≡ head ++ text_of_tokens form (take prefix.tokens tokens)
+pub record BeginsWithTokens (head : List ℕ) (notation : Notation) (tokens : Tokens) (prefix : TextPrefix) : Type 0 where
+  pub text : string_bytes prefix.text ≡ head ++ text_of_tokens notation (take prefix.tokens tokens)
 
--- the prefix goes on to the first tokens, so many of them, and the text to all
-pub record IsExtended (form : Notation) (tokens : Tokens) (count : ℕ) (old new : TextPrefix) (whole : List ℕ) : Type 0 where
+-- the prefix goes on to the first `count` tokens, and the text to all
+pub record IsExtended (notation : Notation) (tokens : Tokens) (count : ℕ) (old new : TextPrefix)
+    (whole : List ℕ) : Type 0 where
   pub reached : new.tokens ≡ count
-  pub prefix : string_bytes new.text ≡ string_bytes old.text ++ text_of_tokens form (drop old.tokens (take count tokens))
-  pub text : whole ≡ string_bytes new.text ++ text_of_tokens form (drop count tokens)
+  pub prefix : string_bytes new.text ≡ string_bytes old.text
+      ++ text_of_tokens notation (drop old.tokens (take count tokens))
+  pub text : whole ≡ string_bytes new.text ++ text_of_tokens notation (drop count tokens)
 
 -- of the key of a place
 abbrev pub BeginsKey : TextPrefix → Site → Type 0

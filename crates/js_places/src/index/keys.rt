@@ -5,8 +5,8 @@ ghost use Rattle.js_places.specs.code.TextPrefix.{BeginsKey, shared_with};
 ghost use Rattle.js_places.specs.code.Index.{place_key, name_key};
 ghost use Rattle.js_places.specs.code.Scan.{site_of};
 
-use crate::index::text_prefix::{Neighbours, Notation, TextPrefix, push_tokens, room_for};
-use js_doc::{Memory, Pointer, push_token};
+use crate::index::text_prefix::{Neighbours, TextPrefix, push_tokens, room_for};
+use js_doc::{Memory, Notation, Pointer, push_token};
 use std::alloc::Global;
 
 /// The key of where a place stands: the document's number and the pointer's tokens, as a pointer's text.

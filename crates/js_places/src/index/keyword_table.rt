@@ -15,13 +15,6 @@ pub struct KeywordTable {
     pub ends: Vec<usize>,
 }
 
-// By hand, so that it is proved here alone, and crates that own a table call it.
-impl Drop for KeywordTable {
-    fn drop(self) {
-        let KeywordTable { names, ends } = self;
-    }
-}
-
 fn push_members(names: &mut Vec<KeywordName>, members: &Members) -> Result<(), Memory>
     ensures { OnOk result (names.new.items ≡ names.old.items ++ map (λ m. keyword_name m.0) members.now) }
 {
@@ -61,5 +54,12 @@ impl KeywordTable {
         push_names(&mut self.names, site)?;
         self.ends.push(self.names.len())?;
         Ok(())
+    }
+}
+
+// By hand, so that it is proved here alone, and crates that own a table call it.
+impl Drop for KeywordTable {
+    fn drop(self) {
+        let KeywordTable { names, ends } = self;
     }
 }

@@ -3,23 +3,23 @@ ghost use Rattle.std.specs.Prelude.{◌≡◌, ◌≤◌, ◌-◌, ◌++◌, ◌
 ghost use Rattle.std.specs.Prelude.{string_bytes, IfOk, OnOk, MatchOption};
 ghost use Rattle.js_doc.specs.Fragment.{fragment_text};
 ghost use Rattle.js_places.specs.Finding.{tokens_of};
-ghost use Rattle.js_places.specs.code.KeptLocation.{kept_location, repeated};
+ghost use Rattle.js_places.specs.code.StoredLocation.{stored_location, repeated};
 ghost use Rattle.js_places.specs.code.TextPrefix.{BeginsLocation, shared_with};
 ghost use Rattle.js_places.specs.code.Scan.{site_of};
 ghost use Rattle.js_places.specs.Url.{printed};
 
-use crate::index::kept_location::{KeptLocation, is_long, repeated};
-use crate::index::text_prefix::{Neighbours, Notation, TextPrefix, push_tokens};
-use crate::scan::scope::Scope;
+use crate::index::stored_location::{StoredLocation, is_long, repeated};
+use crate::index::text_prefix::{Neighbours, TextPrefix, push_tokens};
+use crate::scan::base_scope::BaseScope;
 use crate::scan::site::Site;
 use crate::uri;
-use js_doc::{Memory, Pointer, Text, Token, push_fragment_token};
+use js_doc::{Memory, Notation, Pointer, Text, Token, push_fragment_token};
 use std::alloc::Global;
 
 /// The absolute location of what stands at the pointer in a resource, or of a keyword there.
 pub fn absolute_location(
     alloc: Global,
-    scope: &Scope,
+    scope: &BaseScope,
     pointer: &Pointer,
     keyword: Option<&str>,
 ) -> Result<String, Memory>
@@ -35,7 +35,7 @@ pub fn absolute_location(
 }
 
 // The resource's URI and a `#`.
-fn push_resource_uri(text: &mut String, scope: &Scope) -> Result<(), Memory>
+fn push_resource_uri(text: &mut String, scope: &BaseScope) -> Result<(), Memory>
     ensures { OnOk result (string_bytes text.new ≡ string_bytes text.old ++ (printed scope.now.base ++ codes "#")) }
 {
     text.push_str(uri::printed(&scope.base))?;
@@ -56,11 +56,11 @@ fn push_keyword(text: &mut String, keyword: Option<&str>) -> Result<(), Memory>
 pub(crate) fn next_location(
     prefix: &mut TextPrefix,
     pair: Neighbours<'_>,
-) -> Result<KeptLocation, Memory>
+) -> Result<StoredLocation, Memory>
     requires before { MatchOption pair.before (Unit {0}) (λ b. BeginsLocation prefix.old (site_of b.now)) }
     requires shared { pair.shared ≡ shared_with (option_map (λ b. site_of b.now) pair.before) (site_of pair.site.now) }
     ensures begins { OnOk result (BeginsLocation prefix.new (site_of pair.entry.site.now)) }
-    ensures location { IfOk result (λ l. l ≡ kept_location (site_of pair.entry.site.now)) }
+    ensures location { IfOk result (λ l. l ≡ stored_location (site_of pair.entry.site.now)) }
 {
     let site = pair.site;
     let root = site.own.resource.tokens().len();
@@ -68,7 +68,7 @@ pub(crate) fn next_location(
     let count = way.len().saturating_sub(1);
     begin_location(prefix, pair, pair.shared.saturating_sub(root).min(count))?;
     let text = prefix.extend(pair.alloc, Notation::Fragment, way, count)?;
-    Ok(KeptLocation {
+    Ok(StoredLocation {
         text: Text::new(text),
         is_fragment: is_long(uri::printed(&site.own.base)),
     })
@@ -110,7 +110,7 @@ fn begins_as(before: &Site<'_>, site: &Site<'_>) -> bool
         && before.own.resource.tokens().len() == site.own.resource.tokens().len()
 }
 
-fn begin_location_anew(prefix: &mut TextPrefix, scope: &Scope) -> Result<(), Memory>
+fn begin_location_anew(prefix: &mut TextPrefix, scope: &BaseScope) -> Result<(), Memory>
     ensures text { OnOk result (string_bytes prefix.new.text ≡ repeated (printed scope.now.base) ++ codes "#") }
     ensures none { OnOk result (prefix.new.tokens ≡ 0) }
 {

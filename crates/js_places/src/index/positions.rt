@@ -4,10 +4,10 @@ ghost use Rattle.js_places.specs.code.Positions.{BeginTexts, IsLast, ArePosition
 ghost use Rattle.js_places.specs.code.Scan.{site_of};
 
 use crate::index::Index;
-use crate::index::kept_location::KeptLocation;
 use crate::index::keys::next_key;
 use crate::index::location::next_location;
 use crate::index::resource_table::begins_resource;
+use crate::index::stored_location::StoredLocation;
 use crate::index::text_prefix::{Neighbours, TextPrefix, shared_with};
 use crate::scan::site::Site;
 use js_doc::Memory;
@@ -20,7 +20,7 @@ pub struct Positions {
     /// Of each, whether it is the root of its own resource.
     pub roots: Vec<bool>,
     /// The absolute location of each.
-    pub locations: Vec<KeptLocation>,
+    pub locations: Vec<StoredLocation>,
 }
 
 /// How the texts of a place begin. Those of the next one continue from there.

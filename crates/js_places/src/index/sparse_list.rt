@@ -13,7 +13,7 @@ pub fn add_entry(
     entry: Option<usize>,
 ) -> Result<(), Memory>
     requires { length entries.old.items ≤ number }
-    ensures told { OnOk result
+    ensures recorded { OnOk result
         (HasEntryAdded (under_number entries.old.items) number entry (under_number entries.new.items)) }
     ensures long { OnOk result (length entries.new.items ≤ number + 1) }
 {
@@ -42,7 +42,7 @@ pub(crate) fn mark_at(marks: &[bool], number: usize) -> bool
     ensures { result ≡ unwrap_or (slice_get marks.now number) false }
 {
     match marks.get(number) {
-        Some(told) => *told,
+        Some(recorded) => *recorded,
         None => false,
     }
 }

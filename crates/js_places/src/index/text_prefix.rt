@@ -4,17 +4,8 @@ ghost use Rattle.js_places.specs.code.TextPrefix as spec;
 ghost use Rattle.js_places.specs.code.Scan.{site_of};
 
 use crate::scan::site::Site;
-use js_doc::{Memory, Token, push_fragment_token, push_token};
+use js_doc::{Memory, Notation, Token, push_token_in};
 use std::alloc::Global;
-
-/// How tokens are written (RFC 6901, sections 5 and 6).
-#[derive(Clone, Copy)]
-pub(crate) enum Notation {
-    /// As a pointer's text.
-    Plain,
-    /// As a URI's fragment.
-    Fragment,
-}
 
 /// The prefix of such a text: all of it but the last token, which is all that places side by side differ in.
 #[derive(Drop)]
@@ -42,31 +33,36 @@ impl TextPrefix {
         }
     }
 
-    /// Continues it to so many of the tokens, and returns the text with all of them.
+    /// Continues it to the first `count` tokens, and returns the text with all of them.
     pub(crate) fn extend(
         &mut self,
         alloc: Global,
-        form: Notation,
+        notation: Notation,
         tokens: &[Token],
         count: usize,
     ) -> Result<String, Memory>
         requires { count ≤ length tokens.now }
-        ensures { IfOk result (λ t. spec.IsExtended form tokens.now count self.old self.new (string_bytes t)) }
+        ensures { IfOk result (λ t. spec.IsExtended notation tokens.now count self.old self.new (string_bytes t)) }
     {
-        self.continue_to(form, tokens, count)?;
+        self.continue_to(notation, tokens, count)?;
         let mut text = self.text_with_room(alloc, tokens)?;
-        push_tokens(&mut text, form, tokens, count)?;
+        push_tokens(&mut text, notation, tokens, count)?;
         Ok(text)
     }
 
     // Adds the first tokens to it.
-    fn continue_to(&mut self, form: Notation, tokens: &[Token], count: usize) -> Result<(), Memory>
+    fn continue_to(
+        &mut self,
+        notation: Notation,
+        tokens: &[Token],
+        count: usize,
+    ) -> Result<(), Memory>
         requires { count ≤ length tokens.now }
-        ensures text { OnOk result (string_bytes self.new.text
-            ≡ string_bytes self.old.text ++ spec.text_of_tokens form (drop self.old.tokens (take count tokens.now))) }
+        ensures text { OnOk result (string_bytes self.new.text ≡ string_bytes self.old.text
+            ++ spec.text_of_tokens notation (drop self.old.tokens (take count tokens.now))) }
         ensures tokens { OnOk result (self.new.tokens ≡ count) }
     {
-        push_tokens(&mut self.text, form, &tokens[..count], self.tokens)?;
+        push_tokens(&mut self.text, notation, &tokens[..count], self.tokens)?;
         self.tokens = count;
         Ok(())
     }
@@ -88,26 +84,17 @@ impl TextPrefix {
 /// Writes the tokens after the first ones.
 pub(crate) fn push_tokens(
     text: &mut String,
-    form: Notation,
+    notation: Notation,
     tokens: &[Token],
     from: usize,
 ) -> Result<(), Memory>
     ensures { OnOk result (string_bytes text.new
-        ≡ string_bytes text.old ++ spec.text_of_tokens form (drop from tokens.now)) }
+        ≡ string_bytes text.old ++ spec.text_of_tokens notation (drop from tokens.now)) }
 {
     for i in from..tokens.len() {
-        push_one(text, form, tokens[i].as_str())?;
+        push_token_in(text, notation, tokens[i].as_str())?;
     }
     Ok(())
-}
-
-fn push_one(text: &mut String, form: Notation, token: &str) -> Result<(), Memory>
-    ensures { OnOk result (string_bytes text.new ≡ string_bytes text.old ++ spec.token_written form token.now) }
-{
-    match form {
-        Notation::Plain => push_token(text, token),
-        Notation::Fragment => push_fragment_token(text, token),
-    }
 }
 
 /// How many bytes the tokens after the first ones take, at least.

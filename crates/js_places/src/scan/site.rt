@@ -4,7 +4,7 @@ ghost use Rattle.js_doc.specs.Seen.{value_of};
 ghost use Rattle.js_places.specs.Resource.{identified, scope_or};
 ghost use Rattle.js_places.specs.code.Identity.{is_bare};
 
-use crate::scan::scope::Scope;
+use crate::scan::base_scope::BaseScope;
 use js_doc::{Doc, Pointer};
 use std::sync::Arc;
 
@@ -13,10 +13,10 @@ use std::sync::Arc;
 pub struct Site<'a> {
     pub document: usize,
     pub pointer: Arc<Pointer>,
-    /// The scope that the place is in.
-    pub above: Arc<Scope>,
+    /// The base scope that the place is in.
+    pub above: Arc<BaseScope>,
     /// Its own.
-    pub own: Arc<Scope>,
+    pub own: Arc<BaseScope>,
     /// Whether its `$id` makes a base.
     pub identifies: bool,
     /// Whether its `$id` gives a URI without a fragment, or with an empty one.
@@ -26,5 +26,5 @@ pub struct Site<'a> {
     pub schema: &'a Doc,
     pub ghost based: { own.value.base
         ≡ (scope_or (identified above.value.base (value_of schema.now)) pointer.value above.value).base },
-    pub ghost told: { bare ≡ is_bare above.value.base (value_of schema.now) },
+    pub ghost recorded: { bare ≡ is_bare above.value.base (value_of schema.now) },
 }

@@ -8,4 +8,5 @@ Gathers old new before after text = (gone : List ℕ) × Goes old new gone × (b
 
 -- or a beginning of them has gone out, and it has stopped
 abbrev pub GathersOrStops : {T E : Type 0} → Progress → Progress → List ℕ → List ℕ → List ℕ → Result T E → Type 0
-GathersOrStops old new before after text result = MatchResult result (λ _. Gathers old new before after text) (λ _. Stops old new (before ++ text))
+GathersOrStops old new before after text result =
+    MatchResult result (λ _. Gathers old new before after text) (λ _. Stops old new (before ++ text))

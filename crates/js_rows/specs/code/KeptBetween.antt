@@ -16,17 +16,20 @@ use Rattle.js_rows.specs.declared.keeping.Lengths.{Lengths}
 use Rattle.js_rows.specs.declared.rows.RelativeRow.{RelativeRow}
 use Rattle.js_rows.specs.declared.marks.Left.{Left}
 
--- What is left of a tree with this mark and of the trees after it: `stays` puts its root before these, and `below` is left
--- of the trees below a root that goes.
-abbrev pub by_mark : Left → (Forest OutputUnit → Forest OutputUnit) → Forest OutputUnit → Forest OutputUnit → Forest OutputUnit
+-- What is left of a tree with this mark and of the trees after it: `stays` puts its root before these, and `below` is
+-- left of the trees below a root that goes.
+abbrev pub by_mark : Left → (Forest OutputUnit → Forest OutputUnit) → Forest OutputUnit
+    → Forest OutputUnit → Forest OutputUnit
 by_mark m stays below after = if m.stays then stays after else (if m.below then (below ⊹ after) else after)
 
 -- the trees, where the removed nodes between them and the kept node above add this to its locations
 abbrev pub kept_between : Bool → List ℕ → List ℕ → Forest OutputUnit → Forest OutputUnit
 kept_between verdict keyword instance empty = empty
 kept_between verdict keyword instance (tree u below after) =
-    by_mark (mark_of verdict u (left_trees verdict below)) (tree (placed_unit keyword instance u) (kept_between verdict [] [] below))
-    (kept_between verdict (keyword ++ u.keyword) (instance ++ u.instance) below) (kept_between verdict keyword instance after)
+    by_mark (mark_of verdict u (left_trees verdict below))
+    (tree (placed_unit keyword instance u) (kept_between verdict [] [] below))
+    (kept_between verdict (keyword ++ u.keyword) (instance ++ u.instance) below)
+    (kept_between verdict keyword instance after)
 
 -- the root stays
 abbrev pub kept_relative : ResultTree → ResultTree
@@ -65,7 +68,8 @@ AreMarksOfTrees rows marks = (v : Bool) × (f : Forest OutputUnit) × AreMarkedR
 
 -- and those of one tree
 abbrev pub IsMarked : List RelativeRow → List Left → Type 0
-IsMarked rows marks = (v : Bool) × (u : OutputUnit) × (below : Forest OutputUnit) × AreMarkedRows rows marks v (tree u below empty)
+IsMarked rows marks = (v : Bool) × (u : OutputUnit) × (below : Forest OutputUnit)
+    × AreMarkedRows rows marks v (tree u below empty)
 
 -- as much is pending as before
 pub record StaysPending (old : Keeper) (new : Keeper) : Type 0 where
@@ -75,13 +79,16 @@ pub record StaysPending (old : Keeper) (new : Keeper) : Type 0 where
 -- what is left of the trees was added
 abbrev pub KeepsTrees : {T E : Type 0} → Keeper → List RelativeRow → List Left → Keeper → Result T E → Type 0
 KeepsTrees old rows marks new result =
-    (v : Bool) (f : Forest OutputUnit) (keyword instance : List ℕ) → IsPending old.between old.start keyword instance → AreMarkedRows rows marks v f
+    (v : Bool) (f : Forest OutputUnit) (keyword instance : List ℕ) → IsPending old.between old.start keyword instance
+    → AreMarkedRows rows marks v f
     → OnOk result (AreAdded old.kept.items new.kept.items (kept_between v keyword instance f))
 
 -- what is said to be left of the tree was added
-abbrev pub KeepsTree : {T E : Type 0} → (Bool → List ℕ → List ℕ → OutputUnit → Forest OutputUnit → Forest OutputUnit) → Keeper → List RelativeRow → List Left → Keeper → Result T E → Type 0
+abbrev pub KeepsTree : {T E : Type 0} → (Bool → List ℕ → List ℕ → OutputUnit → Forest OutputUnit → Forest OutputUnit)
+    → Keeper → List RelativeRow → List Left → Keeper → Result T E → Type 0
 KeepsTree left old rows marks new result =
-    (v : Bool) (u : OutputUnit) (below : Forest OutputUnit) (keyword instance : List ℕ) → IsPending old.between old.start keyword instance → AreMarkedRows rows marks v (tree u below empty)
+    (v : Bool) (u : OutputUnit) (below : Forest OutputUnit) (keyword instance : List ℕ)
+    → IsPending old.between old.start keyword instance → AreMarkedRows rows marks v (tree u below empty)
     → OnOk result (AreAdded old.kept.items new.kept.items (left v keyword instance u below))
 
 abbrev pub left_of_tree : Bool → List ℕ → List ℕ → OutputUnit → Forest OutputUnit → Forest OutputUnit

@@ -1,6 +1,7 @@
 -- What basic lists and what condensing keeps of trees that have only what their locations add, below a node with given
 -- locations.
-use Rattle.std.specs.Prelude.{◌≡◌, ℕ, Bool, true, List, [], ◌∷◌, ◌++◌, ◌&&◌, ◌||◌, nat_lt, if◌then◌else◌, map, Result, MatchResult}
+use Rattle.std.specs.Prelude.{◌≡◌, ℕ, Bool, true, List, [], ◌∷◌, ◌++◌, ◌&&◌, ◌||◌, nat_lt}
+use Rattle.std.specs.Prelude.{if◌then◌else◌, map, Result, MatchResult}
 use Rattle.js_doc.specs.BytesOut.{Goes, Progress, Stops}
 use Rattle.js_doc.specs.Compact.{comma_if, compact}
 use Rattle.js_doc.specs.Value.{Value}
@@ -35,7 +36,8 @@ pub record AllListed (old : Progress) (new : Progress) (later : Bool) (vs : List
 
 -- or it has stopped
 abbrev pub AreListed : {E : Type 0} → Progress → Progress → Bool → List Value → Result Bool E → Type 0
-AreListed old new later vs result = MatchResult result (λ now. AllListed old new later vs now) (λ _. Stops old new (values_text later vs))
+AreListed old new later vs result =
+    MatchResult result (λ now. AllListed old new later vs now) (λ _. Stops old new (values_text later vs))
 
 -- ---- basic
 
@@ -45,7 +47,8 @@ leaves us = map (λ u. node_value u []) us
 
 -- the units that are listed of the trees
 abbrev pub listed : Bool → List ℕ → List ℕ → Forest OutputUnit → List Value
-listed verdict keyword instance f = leaves (units_below noted (pruned_below (has_verdict verdict) (placed keyword instance f)))
+listed verdict keyword instance f =
+    leaves (units_below noted (pruned_below (has_verdict verdict) (placed keyword instance f)))
 
 -- the unit, if it has a note
 abbrev pub if_noted : OutputUnit → List Value
@@ -67,6 +70,7 @@ abbrev pub condensed : Bool → List ℕ → List ℕ → Forest OutputUnit → 
 condensed verdict keyword instance f = kept_below noted (pruned_below (has_verdict verdict) (placed keyword instance f))
 
 -- the rows and the marks are those of the trees
-pub record AreMarkedRows (rows : List RelativeRow) (marks : List Left) (verdict : Bool) (f : Forest OutputUnit) : Type 0 where
+pub record AreMarkedRows (rows : List RelativeRow) (marks : List Left) (verdict : Bool)
+    (f : Forest OutputUnit) : Type 0 where
   pub rows_are : AreRowsOfTrees rows f
   pub marks_are : marks ≡ marked verdict f

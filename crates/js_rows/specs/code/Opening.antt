@@ -13,4 +13,5 @@ schema_kept text = take (length text - 30) (drop 29 text)
 
 -- what is written before the token of an absolute location
 abbrev pub opening_front : Bool → List ℕ → Bool → List ℕ
-opening_front later schema slash = comma_if later ++ (codes "{\"absoluteKeywordLocation\":\"" ++ (schema ++ part slash []))
+opening_front later schema slash = comma_if later
+    ++ (codes "{\"absoluteKeywordLocation\":\"" ++ (schema ++ part slash []))

@@ -12,7 +12,7 @@ use Rattle.js_rows.specs.code.Differing.{none_there, siblings_differ}
 abbrev pub is_digit : ℕ → Bool
 is_digit b = nat_lt 47 b && nat_lt b 58
 
--- so many digits, or none, which ranks behind all indexes
+-- of a number of digits; none rank behind all indexes
 abbrev pub rank_of : ℕ → ℕ
 rank_of zero = 100
 rank_of (suc digits) = suc digits

@@ -46,4 +46,5 @@ after_children instance keyword note valid = 93 ∷ (error_behind note valid ++ 
 -- what goes before the children of a node, or all of a node without any
 abbrev pub start_text : Bool → Bool → RelativeRow → List ℕ → List ℕ → List ℕ → List ℕ
 start_text true later r keyword absolute instance = before_children later absolute (note_of r.note) r.valid
-start_text false later r keyword absolute instance = comma_if later ++ compact (node_value (unit_there r keyword absolute instance) [])
+start_text false later r keyword absolute instance = comma_if later
+    ++ compact (node_value (unit_there r keyword absolute instance) [])

@@ -1,5 +1,7 @@
 //! Calls of js_assert. The words of a question: the call that is marked, and the texts that are taken.
-use super::telling::{mark_begin, mark_begin_if, mark_end, say, tell, tell_error, tell_text};
+use super::writing::{
+    mark_begin, mark_begin_if, mark_end, push_answer, push_error, push_text_answer, say,
+};
 use crate::word_at;
 use js_assert::{Assertion, Pattern};
 use js_doc::{Doc, Members, read};
@@ -12,7 +14,7 @@ pub fn answer_on_pattern(rt: &HostRuntime, words: &[&str], answers: &mut String)
     mark_end(rt);
     match made {
         Ok(pattern) => asked_of_pattern(rt, call, &pattern, word_at(words, 2), answers),
-        Err(fault) => tell(answers, fault),
+        Err(fault) => push_answer(answers, fault),
     }
 }
 
@@ -34,11 +36,11 @@ fn asked_of_pattern(
             mark_begin_if(rt, call == "search");
             let is_found = searcher.holds(text);
             mark_end(rt);
-            tell(answers, made);
+            push_answer(answers, made);
             say(answers, " ");
-            tell(answers, is_found);
+            push_answer(answers, is_found);
         }
-        Err(fault) => tell(answers, fault),
+        Err(fault) => push_answer(answers, fault),
     }
 }
 
@@ -58,7 +60,7 @@ fn assertion_read(rt: &HostRuntime, words: &[&str], argument: &Doc, answers: &mu
     match made {
         Ok(Some(assertion)) => asked_on(rt, call, &assertion, word_at(words, 3), answers),
         Ok(None) => say(answers, "no assertion"),
-        Err(fault) => tell(answers, fault),
+        Err(fault) => push_answer(answers, fault),
     }
 }
 
@@ -86,17 +88,17 @@ fn asked_of_assertion(
         "holds" => {
             let made = assertion.holds(rt.alloc(), value, 0);
             mark_end(rt);
-            tell(answers, made);
+            push_answer(answers, made);
         }
         "error" => {
             let made = assertion.error(rt.alloc(), value, 0);
             mark_end(rt);
-            tell_text(answers, made);
+            push_text_answer(answers, made);
         }
         _ => {
             let made = assertion.check(rt.alloc(), value, 0);
             mark_end(rt);
-            tell_error(answers, made);
+            push_error(answers, made);
         }
     }
 }

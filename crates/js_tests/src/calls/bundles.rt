@@ -1,5 +1,5 @@
 //! A bundle made of documents. After an allocation is refused, the call is made once more.
-use super::telling::{mark_begin, mark_begin_if, mark_end, say, tell};
+use super::writing::{mark_begin, mark_begin_if, mark_end, push_answer, say};
 use js_bundle::{Bundle, Refusal, Schemas};
 use js_doc::{Doc, read};
 
@@ -18,7 +18,7 @@ pub fn finished_schemas(
     match made {
         Ok(schemas) => Some(schemas),
         Err((refusal, bundle)) => {
-            tell_refusal(answers, refusal);
+            push_refusal(answers, refusal);
             bundle.finish(rt.alloc()).ok()
         }
     }
@@ -47,7 +47,7 @@ fn add_document(
         let made = bundle.add(uri, text.as_bytes());
         mark_end(rt);
         if let Err(refusal) = made {
-            tell_refusal(answers, refusal);
+            push_refusal(answers, refusal);
             let _ = bundle.add(uri, text.as_bytes());
         }
     } else if let Ok(value) = read(rt.alloc(), text.as_bytes()) {
@@ -61,12 +61,12 @@ fn add_value(rt: &HostRuntime, bundle: &mut Bundle, uri: &str, value: Doc, answe
     let made = bundle.add_doc(uri, value);
     mark_end(rt);
     if let Err((refusal, value)) = made {
-        tell_refusal(answers, refusal);
+        push_refusal(answers, refusal);
         let _ = bundle.add_doc(uri, value);
     }
 }
 
-fn tell_refusal(answers: &mut String, refusal: Refusal) {
-    tell(answers, refusal.kind);
+fn push_refusal(answers: &mut String, refusal: Refusal) {
+    push_answer(answers, refusal.kind);
     say(answers, "\u{1e}");
 }

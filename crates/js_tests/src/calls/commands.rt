@@ -2,7 +2,7 @@
 //! fails; how many bytes the output takes a call, and the write or flush that fails; then the program's words.
 use super::fakes::{SlowReader, SlowWriter};
 use super::number;
-use super::telling::{say, say_bytes, tell};
+use super::writing::{push_answer, say, say_bytes};
 use crate::word_at;
 use js_command::{Files, command};
 use js_output::{Fault, Sink, Source, read_all};
@@ -24,9 +24,9 @@ pub fn answer_of_command(rt: &HostRuntime, words: &[&str], answers: &mut String)
         &mut Sink::new(&mut output),
         &mut Sink::new(&mut line),
     );
-    tell(answers, status);
+    push_answer(answers, status);
     say(answers, ", ");
-    tell(answers, output.calls);
+    push_answer(answers, output.calls);
     say(answers, "; ");
     say_bytes(answers, output.got.as_slice());
     say(answers, "; ");

@@ -3,8 +3,8 @@
 //! fails.
 use super::fakes::{SlowReader, SlowWriter};
 use super::number;
-use super::telling::{mark_begin, mark_end, say, say_bytes, tell, tell_text};
 use super::trees::format_named;
+use super::writing::{mark_begin, mark_end, push_answer, push_text_answer, say, say_bytes};
 use crate::word_at;
 use js_output::{
     Fault, Sink, Source, read_all, refusal_line, run, run_pair, run_places, run_suite,
@@ -64,23 +64,23 @@ fn performed<R: Read, W: Write>(
 ) {
     let alloc = rt.alloc();
     match word_at(words, 0) {
-        "pair" => tell_run(answers, run_pair(alloc, source, out)),
-        "suite" => tell_run(answers, run_suite(alloc, documents, source, out)),
-        "places" => tell_run(answers, run_places(alloc, documents, out)),
+        "pair" => push_outcome(answers, run_pair(alloc, source, out)),
+        "suite" => push_outcome(answers, run_suite(alloc, documents, source, out)),
+        "places" => push_outcome(answers, run_places(alloc, documents, out)),
         format => {
             let format = format_named(format);
             let made = run(alloc, documents, word_at(words, 1), source, format, out);
-            tell_run(answers, made);
+            push_outcome(answers, made);
         }
     }
 }
 
-fn tell_run<A: Debug + Drop>(answers: &mut String, made: Result<A, Fault>) {
+fn push_outcome<A: Debug + Drop>(answers: &mut String, made: Result<A, Fault>) {
     match made {
-        Ok(answer) => tell(answers, answer),
+        Ok(answer) => push_answer(answers, answer),
         Err(fault) => {
             let line = refusal_line(*answers.allocator(), &fault);
-            tell_text(answers, line);
+            push_text_answer(answers, line);
         }
     }
 }

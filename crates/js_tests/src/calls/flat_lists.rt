@@ -2,8 +2,8 @@
 ghost use Rattle.std.specs.Prelude.{IfSome};
 ghost use Rattle.js_tree.specs.FlatState.{IsWholeTree, flat_state};
 
-use super::telling::{make_room, mark_begin, mark_end, tell_value};
-use super::trees::{format_named, tell_units};
+use super::trees::{format_named, push_units};
+use super::writing::{make_room, mark_begin, mark_end, push_value};
 use js_tree::{Flat, Format, flat_condense, flat_doc, flat_prune, flat_units, put_flat};
 
 /// What the call answers on the rows; if it takes a format, on what that format shows of them. There is no answer if
@@ -38,7 +38,7 @@ fn noted(rt: &HostRuntime, flat: &Flat, answers: &mut String)
     mark_begin(rt);
     let found = flat_units(rt.alloc(), flat);
     mark_end(rt);
-    tell_units(answers, found);
+    push_units(answers, found);
 }
 
 fn changed(rt: &HostRuntime, call: &str, flat: Flat, answers: &mut String)
@@ -89,7 +89,7 @@ fn made_of(rt: &HostRuntime, call: &str, format: Format, flat: &Flat, answers: &
     mark_begin(rt);
     let made = flat_doc(rt.alloc(), flat, format);
     mark_end(rt);
-    tell_value(answers, made);
+    push_value(answers, made);
 }
 
 fn show_rows(answers: &mut String, flat: &Flat, format: Format)

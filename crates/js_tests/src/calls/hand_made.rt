@@ -1,6 +1,6 @@
 //! Result trees made by hand. The words of a question: the value of a note, the events of a tree, the call, and its
 //! argument.
-use super::telling::{mark_begin, mark_end, say, tell};
+use super::writing::{mark_begin, mark_end, push_answer, say};
 use super::{flat_lists, trees};
 use crate::word_at;
 use js_doc::{Doc, Memory, Text, read};
@@ -16,20 +16,20 @@ pub fn answer_on_hand_made(rt: &HostRuntime, words: &[&str], answers: &mut Strin
 fn answer_on_events(rt: &HostRuntime, value: &Doc, words: &[&str], answers: &mut String) {
     let events = word_at(words, 1);
     match word_at(words, 2) {
-        "enter_and_leave" => told_by_events(rt, answers),
+        "enter_and_leave" => reported_by_events(rt, answers),
         "verdict" => {
             let mut verdict = Verdict::new();
-            let _ = tell_all(rt.alloc(), events, value, &mut verdict);
-            tell(answers, verdict.valid());
+            let _ = report_all(rt.alloc(), events, value, &mut verdict);
+            push_answer(answers, verdict.valid());
         }
         call if call.contains("flat") => {
             let mut flat = Flat::new(rt.alloc());
-            let _ = tell_all(rt.alloc(), events, value, &mut flat);
+            let _ = report_all(rt.alloc(), events, value, &mut flat);
             flat_lists::answer_on_flat_list(rt, call, word_at(words, 3), flat, answers);
         }
         call => {
             let mut boxed = Boxed::new(rt.alloc());
-            let _ = tell_all(rt.alloc(), events, value, &mut boxed);
+            let _ = report_all(rt.alloc(), events, value, &mut boxed);
             answer_on_boxed(rt, call, word_at(words, 3), boxed, answers);
         }
     }
@@ -53,20 +53,20 @@ pub fn answer_on_boxed(
 }
 
 // Without memory the events end.
-fn tell_all<'a, C: Collector<'a>>(
+fn report_all<'a, C: Collector<'a>>(
     alloc: Global,
     events: &str,
     value: &'a Doc,
     into: &mut C,
 ) -> Result<(), Memory> {
     for sign in events.chars() {
-        tell_one(alloc, sign, value, into)?;
+        report_one(alloc, sign, value, into)?;
     }
     Ok(())
 }
 
 // A letter opens a node of that name, and another sign closes one, `-` and `!` one that fails.
-fn tell_one<'a, C: Collector<'a>>(
+fn report_one<'a, C: Collector<'a>>(
     alloc: Global,
     sign: char,
     value: &'a Doc,
@@ -117,7 +117,7 @@ fn names<'a>(alloc: Global) -> Vec<&'a str> {
 }
 
 // The verdict on a failing root over a passing node. Their texts are made before the marked call.
-fn told_by_events(rt: &HostRuntime, answers: &mut String) {
+fn reported_by_events(rt: &HostRuntime, answers: &mut String) {
     let root = head(rt.alloc(), 'r');
     let node = head(rt.alloc(), 'a');
     let mut verdict = Verdict::new();
@@ -128,5 +128,5 @@ fn told_by_events(rt: &HostRuntime, answers: &mut String) {
     let _ = verdict.leave(false, Note::Silent);
     let valid = verdict.valid();
     mark_end(rt);
-    tell(answers, valid);
+    push_answer(answers, valid);
 }

@@ -4,7 +4,9 @@ ghost use Rattle.std.specs.Prelude.{◌≡◌, true};
 ghost use Rattle.js_bundle.specs.Schemas.{is_place};
 
 use super::number;
-use super::telling::{mark_begin, mark_begin_if, mark_end, say, show, tell, tell_error, tell_text};
+use super::writing::{
+    mark_begin, mark_begin_if, mark_end, push_answer, push_error, push_text_answer, say, show,
+};
 use crate::word_at;
 use js_bundle::{Place, Schemas, Step};
 use js_doc::{Doc, read};
@@ -30,7 +32,7 @@ pub fn answer_at_place(rt: &HostRuntime, schemas: &Schemas, words: &[&str], answ
             answers,
         ),
         Ok(_) => say(answers, "an entry is a place"),
-        Err(fault) => tell(answers, fault),
+        Err(fault) => push_answer(answers, fault),
     }
 }
 
@@ -38,12 +40,12 @@ fn asked(rt: &HostRuntime, at: &KnownPlace, words: &[&str], answers: &mut String
     let first = word_at(words, 2);
     let second = word_at(words, 3);
     match word_at(words, 1) {
-        "entry" => tell_location(answers, at.schemas, Some(at.place)),
+        "entry" => push_location(answers, at.schemas, Some(at.place)),
         "absolute" => {
             mark_begin(rt);
             let made = at.schemas.absolute(rt.alloc(), at.place, Some(first));
             mark_end(rt);
-            tell_text(answers, made);
+            push_text_answer(answers, made);
         }
         "standing" => standing(rt, at, answers),
         "alone" => below(rt, at, first, Step::Alone, answers),
@@ -66,7 +68,7 @@ fn asked(rt: &HostRuntime, at: &KnownPlace, words: &[&str], answers: &mut String
 }
 
 // The absolute location of a place, or `none`.
-fn tell_location(answers: &mut String, schemas: &Schemas, place: Option<Place>) {
+fn push_location(answers: &mut String, schemas: &Schemas, place: Option<Place>) {
     match place {
         Some(place) if schemas.has(place) => {
             let (location, rest) = schemas.location_of(place);
@@ -92,7 +94,7 @@ fn standing(rt: &HostRuntime, at: &KnownPlace, answers: &mut String) {
     let count = at.schemas.resource_count();
     mark_end(rt);
     let _ = write!(answers, "{has} {start}{rest}, document {number} at ");
-    tell_text(answers, pointer.text(rt.alloc()));
+    push_text_answer(answers, pointer.text(rt.alloc()));
     let _ = write!(answers, ", resource {rank} of {count}, {uri}: ");
     show(answers, schema);
     let _ = write!(answers, " {names:?}");
@@ -106,10 +108,10 @@ fn below(rt: &HostRuntime, at: &KnownPlace, keyword: &str, step: Step<'_>, answe
         .schemas
         .schema_below(at.place, at.schemas.schema(at.place), keyword, step);
     mark_end(rt);
-    tell_location(answers, at.schemas, next);
+    push_location(answers, at.schemas, next);
     if let Some((next_again, schema)) = with_schema {
         say(answers, " ");
-        tell_location(answers, at.schemas, Some(next_again));
+        push_location(answers, at.schemas, Some(next_again));
         say(answers, ": ");
         show(answers, schema);
     }
@@ -121,7 +123,7 @@ fn said(rt: &HostRuntime, at: &KnownPlace, keyword: &str, value: &Doc, answers: 
     let assertion = at.schemas.assertion(at.place, keyword);
     mark_end(rt);
     match assertion {
-        Some(assertion) => tell_error(answers, assertion.check(rt.alloc(), value, 1)),
+        Some(assertion) => push_error(answers, assertion.check(rt.alloc(), value, 1)),
         None => say(answers, "no assertion"),
     }
 }
@@ -132,7 +134,7 @@ fn matched(rt: &HostRuntime, at: &KnownPlace, name: &str, text: &str, answers: &
     let pattern = at.schemas.pattern(at.place, name);
     mark_end(rt);
     match pattern {
-        Some(pattern) => tell(answers, pattern.holds(rt.alloc(), text)),
+        Some(pattern) => push_answer(answers, pattern.holds(rt.alloc(), text)),
         None => say(answers, "no pattern"),
     }
 }
@@ -150,7 +152,7 @@ fn target(rt: &HostRuntime, at: &KnownPlace, answers: &mut String) {
     if is_dynamic && led_to.is_none() {
         say(answers, "dynamic");
     } else {
-        tell_location(answers, at.schemas, led_to);
+        push_location(answers, at.schemas, led_to);
     }
 }
 
@@ -186,9 +188,9 @@ fn dynamic_target(rt: &HostRuntime, at: &KnownPlace, path: &[Place], answers: &m
         let by_path = at.schemas.dynamic_target(at.place, path);
         let by_numbers = at.schemas.dynamic_target_in(at.place, numbers.as_slice());
         mark_end(rt);
-        tell_location(answers, at.schemas, Some(by_path));
+        push_location(answers, at.schemas, Some(by_path));
         say(answers, " ");
-        tell_location(answers, at.schemas, Some(by_numbers));
+        push_location(answers, at.schemas, Some(by_numbers));
     }
 }
 
@@ -200,11 +202,11 @@ fn places(rt: &HostRuntime, schemas: &Schemas, answers: &mut String) {
     match made {
         Ok(places) => {
             for place in places.iter() {
-                tell_location(answers, schemas, Some(*place));
+                push_location(answers, schemas, Some(*place));
                 say(answers, "\n");
             }
         }
-        Err(fault) => tell(answers, fault),
+        Err(fault) => push_answer(answers, fault),
     }
 }
 
@@ -218,10 +220,10 @@ fn resources(rt: &HostRuntime, schemas: &Schemas, answers: &mut String) {
             for (uri, root) in resources.iter() {
                 say(answers, uri);
                 say(answers, ": ");
-                tell_location(answers, schemas, Some(*root));
+                push_location(answers, schemas, Some(*root));
                 say(answers, "\n");
             }
         }
-        Err(fault) => tell(answers, fault),
+        Err(fault) => push_answer(answers, fault),
     }
 }

@@ -2,7 +2,7 @@
 //! text, the call, and its argument.
 
 use super::places::KnownPlace;
-use super::telling::{mark_begin, mark_begin_if, mark_end, say, tell};
+use super::writing::{mark_begin, mark_begin_if, mark_end, push_answer, say};
 use super::{flat_lists, hand_made, number, trees};
 use crate::word_at;
 use js_bundle::Schemas;
@@ -28,7 +28,7 @@ fn walked(rt: &HostRuntime, at: &KnownPlace, value: &Doc, words: &[&str], answer
             mark_begin(rt);
             let made = verdict(rt.alloc(), at.schemas, at.place, value);
             mark_end(rt);
-            tell(answers, made);
+            push_answer(answers, made);
         }
         "walk_into_verdict" => judged(rt, at, value, answers),
         "walk_into_boxed" => boxed(rt, at, value, answers),
@@ -43,8 +43,8 @@ fn judged(rt: &HostRuntime, at: &KnownPlace, value: &Doc, answers: &mut String) 
     let made = walk_into(rt.alloc(), at.schemas, at.place, value, Verdict::new());
     mark_end(rt);
     match made {
-        Ok(verdict) => tell(answers, verdict.valid()),
-        Err((fault, _verdict)) => tell(answers, fault),
+        Ok(verdict) => push_answer(answers, verdict.valid()),
+        Err((fault, _verdict)) => push_answer(answers, fault),
     }
 }
 
@@ -55,7 +55,7 @@ fn boxed(rt: &HostRuntime, at: &KnownPlace, value: &Doc, answers: &mut String) {
     mark_end(rt);
     match made {
         Ok(boxed) => hand_made::answer_on_boxed(rt, "", "", boxed, answers),
-        Err((fault, _boxed)) => tell(answers, fault),
+        Err((fault, _boxed)) => push_answer(answers, fault),
     }
 }
 
@@ -66,7 +66,7 @@ fn on_tree(rt: &HostRuntime, at: &KnownPlace, value: &Doc, words: &[&str], answe
     mark_end(rt);
     match made {
         Ok(tree) => trees::answer_on_tree(rt, call, word_at(words, 3), tree, answers),
-        Err(fault) => tell(answers, fault),
+        Err(fault) => push_answer(answers, fault),
     }
 }
 
@@ -78,7 +78,7 @@ fn on_rows(rt: &HostRuntime, at: &KnownPlace, value: &Doc, words: &[&str], answe
     mark_end(rt);
     match made {
         Ok(flat) => flat_lists::answer_on_flat_list(rt, call, word_at(words, 3), flat, answers),
-        Err((fault, _flat)) => tell(answers, fault),
+        Err((fault, _flat)) => push_answer(answers, fault),
     }
 }
 
@@ -107,7 +107,7 @@ impl<'a> Collector<'a> for Refusing {
 // How many calls are left after the walk, or the fault.
 fn refused(rt: &HostRuntime, at: &KnownPlace, value: &Doc, left: usize, answers: &mut String) {
     match walk_into(rt.alloc(), at.schemas, at.place, value, Refusing { left }) {
-        Ok(refusing) => tell(answers, refusing.left),
-        Err((fault, _refusing)) => tell(answers, fault),
+        Ok(refusing) => push_answer(answers, refusing.left),
+        Err((fault, _refusing)) => push_answer(answers, fault),
     }
 }

@@ -1,6 +1,6 @@
 //! Calls on a result tree.
 use super::number;
-use super::telling::{make_room, mark_begin, mark_end, say, tell, tell_value};
+use super::writing::{make_room, mark_begin, mark_end, push_answer, push_value, say};
 use js_doc::Memory;
 use js_tree::{
     Format, Move, Rule, Tree, Unit, apply, condense, form, is_merged, is_normal, merge_condense,
@@ -23,7 +23,7 @@ fn formed(rt: &HostRuntime, format: Format, tree: Tree, answers: &mut String) {
     mark_begin(rt);
     let made = form(rt.alloc(), tree, format);
     mark_end(rt);
-    tell_value(answers, made);
+    push_value(answers, made);
 }
 
 fn changed(rt: &HostRuntime, call: &str, tree: Tree, answers: &mut String) {
@@ -43,25 +43,25 @@ fn looked_at(rt: &HostRuntime, call: &str, tree: &Tree, answers: &mut String) {
             mark_begin(rt);
             let found = units(rt.alloc(), tree);
             mark_end(rt);
-            tell_units(answers, found);
+            push_units(answers, found);
         }
         "tree_doc" => {
             mark_begin(rt);
             let made = tree_doc(rt.alloc(), tree);
             mark_end(rt);
-            tell_value(answers, made);
+            push_value(answers, made);
         }
         "is_normal" => {
             mark_begin(rt);
             let holds = is_normal(tree);
             mark_end(rt);
-            tell(answers, holds);
+            push_answer(answers, holds);
         }
         "is_merged" => {
             mark_begin(rt);
             let holds = is_merged(tree);
             mark_end(rt);
-            tell(answers, holds);
+            push_answer(answers, holds);
         }
         _ => {
             make_room(answers);
@@ -79,8 +79,8 @@ fn applied(rt: &HostRuntime, moves: &[Move], tree: Tree, answers: &mut String) {
         let made = apply(tree, first);
         mark_end(rt);
         match made {
-            Ok(left) => tell_left(answers, "done", &left),
-            Err((_refused, left)) => tell_left(answers, "0", &left),
+            Ok(left) => push_tree(answers, "done", &left),
+            Err((_refused, left)) => push_tree(answers, "0", &left),
         }
     }
 }
@@ -90,16 +90,16 @@ fn replayed(rt: &HostRuntime, moves: &[Move], tree: Tree, answers: &mut String) 
     let made = replay(tree, moves);
     mark_end(rt);
     match made {
-        Ok(left) => tell_left(answers, "done", &left),
+        Ok(left) => push_tree(answers, "done", &left),
         Err((number, left)) => {
-            tell(answers, number);
-            tell_left(answers, "", &left);
+            push_answer(answers, number);
+            push_tree(answers, "", &left);
         }
     }
 }
 
 // The number of the first move that isn't possible, or `done`, and the tree that is left.
-fn tell_left(answers: &mut String, made: &str, left: &Tree) {
+fn push_tree(answers: &mut String, made: &str, left: &Tree) {
     say(answers, made);
     say(answers, " ");
     show_tree(answers, left);
@@ -120,7 +120,7 @@ pub fn format_named(name: &str) -> Format {
 }
 
 /// The units' keyword locations, a line each, or the fault's name.
-pub fn tell_units(answers: &mut String, found: Result<Vec<&Unit>, Memory>) {
+pub fn push_units(answers: &mut String, found: Result<Vec<&Unit>, Memory>) {
     match found {
         Ok(units) => {
             for unit in units.iter() {
@@ -128,7 +128,7 @@ pub fn tell_units(answers: &mut String, found: Result<Vec<&Unit>, Memory>) {
                 say(answers, "\n");
             }
         }
-        Err(fault) => tell(answers, fault),
+        Err(fault) => push_answer(answers, fault),
     }
 }
 

@@ -1,6 +1,7 @@
 //! Calls of js_doc. The words of a question: the call, and the texts that it takes.
-use super::telling::{
-    make_room, mark_begin, mark_end, say, show, tell, tell_pointer, tell_text, tell_value,
+use super::writing::{
+    make_room, mark_begin, mark_end, push_answer, push_pointer, push_text_answer, push_value, say,
+    show,
 };
 use crate::word_at;
 use js_doc::{
@@ -17,7 +18,7 @@ pub fn answer_on_value(rt: &HostRuntime, words: &[&str], answers: &mut String) {
             mark_begin(rt);
             let made = read(rt.alloc(), source);
             mark_end(rt);
-            tell_value(answers, made);
+            push_value(answers, made);
         }
         "from_value" => {
             if let Ok(value) = Value::from_slice(rt.alloc(), source) {
@@ -36,7 +37,7 @@ fn converted(rt: &HostRuntime, value: &Value, answers: &mut String) {
     mark_begin(rt);
     let made = from_value(rt.alloc(), value);
     mark_end(rt);
-    tell_value(answers, made);
+    push_value(answers, made);
 }
 
 fn asked_of_value(rt: &HostRuntime, call: &str, doc: &Doc, more: &str, answers: &mut String) {
@@ -45,13 +46,13 @@ fn asked_of_value(rt: &HostRuntime, call: &str, doc: &Doc, more: &str, answers: 
             mark_begin(rt);
             let made = doc.copy(rt.alloc());
             mark_end(rt);
-            tell_value(answers, made);
+            push_value(answers, made);
         }
         "text" => {
             mark_begin(rt);
             let made = text(rt.alloc(), doc);
             mark_end(rt);
-            tell_text(answers, made);
+            push_text_answer(answers, made);
         }
         "put_text" => {
             make_room(answers);
@@ -76,7 +77,7 @@ fn compared(rt: &HostRuntime, doc: &Doc, other: &Doc, answers: &mut String) {
     mark_begin(rt);
     let is_equal = *doc == *other;
     mark_end(rt);
-    tell(answers, is_equal);
+    push_answer(answers, is_equal);
 }
 
 fn found_at(rt: &HostRuntime, doc: &Doc, pointer: &Pointer, answers: &mut String) {
@@ -121,10 +122,10 @@ fn member_put(rt: &HostRuntime, mut members: Members, name: &str, answers: &mut 
         mark_begin(rt);
         let made = members.put(name, Doc::Truth(true));
         mark_end(rt);
-        tell(answers, made);
+        push_answer(answers, made);
         say(answers, " ");
     }
-    tell_value(answers, Ok::<Doc, Memory>(Doc::Members(members)));
+    push_value(answers, Ok::<Doc, Memory>(Doc::Members(members)));
 }
 
 /// The text of the pointer that is made, or what a pointer answers.
@@ -135,13 +136,13 @@ pub fn answer_on_pointer(rt: &HostRuntime, words: &[&str], answers: &mut String)
             mark_begin(rt);
             let made = Pointer::parse(rt.alloc(), source);
             mark_end(rt);
-            tell_pointer(answers, made);
+            push_pointer(answers, made);
         }
         "from_fragment" => {
             mark_begin(rt);
             let made = Pointer::from_fragment(rt.alloc(), source);
             mark_end(rt);
-            tell_pointer(answers, made);
+            push_pointer(answers, made);
         }
         call => {
             if let Ok(mut pointer) = Pointer::parse(rt.alloc(), source) {
@@ -164,29 +165,29 @@ fn asked_of_pointer(
         "copy" => {
             let made = pointer.copy(alloc);
             mark_end(rt);
-            tell_pointer(answers, made);
+            push_pointer(answers, made);
         }
         "further" => {
             let made = pointer.further(alloc, token);
             mark_end(rt);
-            tell_pointer(answers, made);
+            push_pointer(answers, made);
         }
         "fragment" => {
             let made = pointer.fragment(alloc);
             mark_end(rt);
-            tell_text(answers, made);
+            push_text_answer(answers, made);
         }
         "text" => {
             let made = pointer.text(alloc);
             mark_end(rt);
-            tell_text(answers, made);
+            push_text_answer(answers, made);
         }
         _ => {
             let made = pointer.push(token);
             mark_end(rt);
-            tell(answers, made);
+            push_answer(answers, made);
             say(answers, " ");
-            tell_text(answers, pointer.text(alloc));
+            push_text_answer(answers, pointer.text(alloc));
         }
     }
 }
@@ -204,6 +205,6 @@ pub fn answer_on_token(rt: &HostRuntime, words: &[&str], answers: &mut String) {
     mark_end(rt);
     match made {
         Ok(()) => say(answers, out.as_str()),
-        Err(fault) => tell(answers, fault),
+        Err(fault) => push_answer(answers, fault),
     }
 }

@@ -6,7 +6,7 @@ use Rattle.js_tree.specs.OutputUnit.{OutputUnit, noted}
 use Rattle.js_tree.specs.Kept.{kept_below}
 use Rattle.js_tree.specs.Pruned.{pruned_below}
 use Rattle.js_tree.specs.Result.{ResultTree, has_verdict}
-use Rattle.js_tree.specs.Step.{at_least_one, at_least_two}
+use Rattle.js_tree.specs.Rewrite.{at_least_one, at_least_two}
 use Rattle.js_tree.specs.declared.reducing.compacting.Keep.{Keep}
 use Rattle.js_tree.specs.declared.reducing.compacting.Keep.TheVariants.{Verdict, Noted}
 use Rattle.js_tree.specs.declared.collecting.flat.Row.{Row}
@@ -22,7 +22,8 @@ left_of k t = record { root = t.root; below = left k t.below }
 -- of how many trees something is left
 abbrev pub left_tree_count : Keep → Forest OutputUnit → ℕ
 left_tree_count k empty = 0
-left_tree_count k (tree u below after) = if at_least_one (node_count (left k (tree u below empty))) then suc (left_tree_count k after) else left_tree_count k after
+left_tree_count k (tree u below after) = if at_least_one (node_count (left k (tree u below empty))) then suc
+    (left_tree_count k after) else left_tree_count k after
 
 -- whether a node is left, if something is left of this many of its children's trees
 abbrev pub stays : Keep → OutputUnit → ℕ → Bool
@@ -38,7 +39,12 @@ room Noted here below = if here then suc below else below
 abbrev pub marked_rows : Keep → Forest OutputUnit → List Row
 marked_rows k empty = []
 marked_rows k (tree u below after) =
-    record { unit = u; size = suc (node_count below); room = node_count (left k (tree u below empty)); stays = stays k u (left_tree_count k below) } ∷ (marked_rows k below ++ marked_rows k after)
+    record {
+      unit = u;
+      size = suc (node_count below);
+      room = node_count (left k (tree u below empty));
+      stays = stays k u (left_tree_count k below);
+    } ∷ (marked_rows k below ++ marked_rows k after)
 
 -- how many rows go with a dropped row of this size
 abbrev pub gone_with : Keep → ℕ → ℕ
@@ -54,10 +60,12 @@ gathered k (suc n) (r ∷ rs) = gathered k n rs
 -- The rows from first to end are those of marked trees; `trees` and `nodes` count what is left of those before next.
 abbrev pub IsRemaining : List Row → ℕ → ℕ → ℕ → ℕ → ℕ → Type 0
 IsRemaining rows first end next trees nodes =
-    (k : Keep) (f : Forest OutputUnit) (rest : List Row) → drop first rows ≡ marked_rows k f ++ rest → first + node_count f ≡ end
+    (k : Keep) (f : Forest OutputUnit) (rest : List Row) → drop first rows ≡ marked_rows k f ++ rest
+    → first + node_count f ≡ end
     → (g : Forest OutputUnit) × (drop next rows ≡ marked_rows k g ++ rest) × (next + node_count g ≡ end)
     × (trees + left_tree_count k g ≡ left_tree_count k f) × (nodes + node_count (left k g) ≡ node_count (left k f))
 
 -- The rows from first to end are those of marked trees.
 abbrev pub AreMarkedTrees : List Row → ℕ → ℕ → Type 0
-AreMarkedTrees rows first end = (k : Keep) × (f : Forest OutputUnit) × (rest : List Row) × (drop first rows ≡ marked_rows k f ++ rest) × (first + node_count f ≡ end)
+AreMarkedTrees rows first end = (k : Keep) × (f : Forest OutputUnit) × (rest : List Row)
+    × (drop first rows ≡ marked_rows k f ++ rest) × (first + node_count f ≡ end)

@@ -6,4 +6,5 @@ use Rattle.js_tree.specs.Forest.{Forest, empty, tree, node_count}
 abbrev pub ends_after : {A : Type 0} → ℕ → Forest A → Bool
 ends_after zero f = true
 ends_after (suc n) empty = false
-ends_after (suc n) (tree a below after) = if ltb n (node_count below) then false else ends_after (n - node_count below) after
+ends_after (suc n) (tree a below after) =
+    if ltb n (node_count below) then false else ends_after (n - node_count below) after

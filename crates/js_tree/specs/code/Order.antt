@@ -28,14 +28,16 @@ note_order m n = nat_cmp (note_rank m) (note_rank n)
 
 -- by verdict, instance location, absolute keyword location and note
 abbrev pub unit_order : OutputUnit → OutputUnit → Ordering
-unit_order u v = ordering_then (bool_cmp u.valid v.valid) (ordering_then (slice_cmp nat_cmp u.instance v.instance) (ordering_then (slice_cmp nat_cmp u.absolute v.absolute) (note_order u.note v.note)))
+unit_order u v = ordering_then (bool_cmp u.valid v.valid) (ordering_then (slice_cmp nat_cmp u.instance v.instance)
+    (ordering_then (slice_cmp nat_cmp u.absolute v.absolute) (note_order u.note v.note)))
 
 -- tree by tree; in a tree by its root, and then by the trees below it
 abbrev pub forest_order : Forest OutputUnit → Forest OutputUnit → Ordering
 forest_order empty empty = Equal
 forest_order empty (tree v under others) = Less
 forest_order (tree u below after) empty = Greater
-forest_order (tree u below after) (tree v under others) = ordering_then (ordering_then (unit_order u v) (forest_order below under)) (forest_order after others)
+forest_order (tree u below after) (tree v under others) =
+    ordering_then (ordering_then (unit_order u v) (forest_order below under)) (forest_order after others)
 
 abbrev pub result_tree_order : ResultTree → ResultTree → Ordering
 result_tree_order t u = ordering_then (unit_order t.root u.root) (forest_order t.below u.below)

@@ -10,4 +10,5 @@ use Rattle.js_tree.specs.declared.collecting.flat.Row.{Row}
 
 -- the text of the tree, shown in this way, is put
 abbrev pub PutsTree : {T E : Type 0} → List Row → (ResultTree → Value) → Progress → Progress → Result T E → Type 0
-PutsTree rows shown old new result = (t : ResultTree) → map row_of rows ≡ flat_form t → Puts old new (compact (shown t)) result
+PutsTree rows shown old new result = (t : ResultTree) → map row_of rows ≡ flat_form t
+    → Puts old new (compact (shown t)) result

@@ -34,6 +34,7 @@ is_lifted (Prune v) = false
 is_lifted Condense = true
 is_lifted Merge = true
 
--- one of so many first trees is alike to the one with this index
+-- one of the first `count` trees is alike to the one with this index
 abbrev pub comes_again : List ResultTree → ℕ → ℕ → ResultTree → Bool
-comes_again ts count i d = has_alike same_but_keyword (forest_of (take count ts)) (get_or ts i d).root (get_or ts i d).below
+comes_again ts count i d =
+    has_alike same_but_keyword (forest_of (take count ts)) (get_or ts i d).root (get_or ts i d).below

@@ -58,7 +58,6 @@ impl<'a> Collector<'a> for Boxed<'a> {
     ghost use Rattle.std.specs.Prelude.{◌≡◌, IfOk, IfErr, IsOk, IsSome, []};
     ghost use Rattle.js_tree.specs.BoxedState.{boxed_after, boxed_state};
     ghost use Rattle.js_tree.specs.Events.{opening, closing};
-    ghost use Rattle.js_tree.specs.Seen.{note_of};
 
     ghost takes = { λ a e b. boxed_state b ≡ boxed_after (boxed_state a) e };
 
@@ -74,10 +73,10 @@ impl<'a> Collector<'a> for Boxed<'a> {
                 children: Vec::new(self.alloc),
             };
             self.nodes.push(node)?;
+            Ok(())
         } else {
-            drop(head);
+            Ok(drop(head))
         }
-        Ok(())
     }
 
     fn leave(&mut self, valid: bool, note: Note<'a>) -> Result<(), Memory>

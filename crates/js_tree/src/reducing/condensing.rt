@@ -3,7 +3,7 @@ ghost use Rattle.std.specs.Prelude.{◌≡◌, ◌↔◌, IsTrue};
 ghost use Rattle.js_tree.specs.Forest.{forest_of};
 ghost use Rattle.js_tree.specs.OutputUnit.{noted};
 ghost use Rattle.js_tree.specs.Result.{Normal, Run, kept, units};
-ghost use Rattle.js_tree.specs.Step.{all_stand};
+ghost use Rattle.js_tree.specs.Rewrite.{all_stand};
 
 use crate::reducing::reduction::{Reduction, reduce_children};
 use crate::tree::Tree;

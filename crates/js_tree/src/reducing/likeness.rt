@@ -53,10 +53,11 @@ pub(crate) fn are_alike(a: &Tree, b: &Tree) -> bool
 fn all_alike(a: &[Tree], b: &[Tree]) -> bool
     ensures { result ≡ alike same_but_keyword (forest_of a.now) (forest_of b.now) }
 {
-    if a.len() != b.len() {
+    let count = a.len();
+    if count != b.len() {
         return false;
     }
-    for i in 0..a.len() {
+    for i in 0..count {
         if !are_alike(&a[i], &b[i]) {
             return false;
         }

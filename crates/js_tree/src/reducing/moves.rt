@@ -2,10 +2,10 @@
 ghost use Rattle.std.specs.Prelude.{false, ◌≡◌, ◌+◌, ◌<◌, ◌≤◌, if◌then◌else◌, length, take, vec_len, MatchResult, IfOk};
 ghost use Rattle.std.specs.Prelude.{IsTrue};
 ghost use Rattle.js_tree.specs.Forest.{forest_of, node_count, empty, tree as node};
-ghost use Rattle.js_tree.specs.MergedResult.{merged, NormalOfThree, StepOfThree};
+ghost use Rattle.js_tree.specs.MergedResult.{merged, NormalOfThree, RewriteOfThree};
 ghost use Rattle.js_tree.specs.Moves.{all_of_two, of_two, with_only_child};
 ghost use Rattle.js_tree.specs.OutputUnit.{noted};
-ghost use Rattle.js_tree.specs.Result.{kept, Normal, ResultStep, moved, replayed};
+ghost use Rattle.js_tree.specs.Result.{kept, Normal, Rewrite, moved, replayed};
 ghost use Rattle.js_tree.specs.code.Search.{Searched, moved_tree};
 ghost use Rattle.js_tree.specs.declared.reducing.moves.Rule.TheVariants.{Drop, Merge};
 
@@ -52,8 +52,8 @@ enum Search {
 pub fn apply<'a>(tree: Tree<'a>, chosen: &Move) -> Result<Tree<'a>, (NoMove, Tree<'a>)>
     ensures moved { MatchResult result (λ made. moved chosen.now tree.entry ≡ Some made)
         (λ refused. (moved chosen.now tree.entry ≡ None) × (refused.1 ≡ tree.entry)) }
-    ensures step { IfOk result (λ made. IsTrue (of_two chosen.now.rule) → ResultStep tree.entry made) }
-    ensures step_of_three { IfOk result (λ made. StepOfThree tree.entry made) }
+    ensures step { IfOk result (λ made. IsTrue (of_two chosen.now.rule) → Rewrite tree.entry made) }
+    ensures step_of_three { IfOk result (λ made. RewriteOfThree tree.entry made) }
 {
     if chosen.position == 0 {
         return Err((NoMove, tree));

@@ -18,14 +18,13 @@ use js_doc::{Out, Stopped};
 pub fn put_tree<O: Out>(tree: &Tree, out: &mut O) -> Result<(), Stopped>
     ensures { Puts (O.progress out.old) (O.progress out.new) (compact (verbose tree.now)) result }
 {
-    let unit = &tree.unit;
     let children = tree.children.as_slice();
     if children.is_empty() {
-        return put_leaf(unit, out);
+        return put_leaf(&tree.unit, out);
     }
-    put_front(unit, out)?;
+    put_front(&tree.unit, out)?;
     put_trees(children, out)?;
-    put_back(unit, out)
+    put_back(&tree.unit, out)
 }
 
 /// Writes the trees as the items of an array, and its closing bracket.

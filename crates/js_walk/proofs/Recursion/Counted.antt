@@ -8,8 +8,10 @@ use Rattle.js_assert.specs.Laws.{is_counting}
 use Rattle.js_walk.specs.Keywords.{comes_before_else}
 use Rattle.js_walk.proofs.Recursion.Before.{CountsLater}
 
-not_named : (name other : List ℕ) (b : Bool) → bytes_eq name other ≡ b → comes_before_else other ≡ false → comes_before_else name ≡ true → b ≡ false
-not_named name other true e o h = absurd (let n = (bytes_eq-Decides name other).0 e in let z : true ≡ false = sym h ∙ (ap comes_before_else n ∙ o) in cc)
+not_named : (name other : List ℕ) (b : Bool) → bytes_eq name other ≡ b → comes_before_else other ≡ false
+    → comes_before_else name ≡ true → b ≡ false
+not_named name other true e o h = absurd (let n = (bytes_eq-Decides name other).0 e in
+    let z : true ≡ false = sym h ∙ (ap comes_before_else n ∙ o) in cc)
 not_named name other false e o h = refl
 
 neither : (name : List ℕ) → comes_before_else name ≡ true → is_counting name ≡ false

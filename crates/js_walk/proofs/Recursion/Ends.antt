@@ -9,14 +9,17 @@ use Rattle.js_walk.proofs.Limits.{settled_from_depth, depth_from_settled, size_f
 use Rattle.js_tree.specs.Events.{Event}
 use Rattle.js_walk.specs.Walk.Reported.{Reported}
 use Rattle.js_walk.specs.Walk.Steps.{NodeDone}
-use Rattle.js_walk.specs.Walk.Told.{HasNone}
-use Rattle.js_walk.specs.declared.walking.way.Way.{Way}
+use Rattle.js_walk.specs.Walk.Progress.{HasNone}
+use Rattle.js_walk.specs.declared.walking.walk_state.WalkState.{WalkState}
 
-module _ {M H K C P : Type 0} (S : SchemaSet P) (text_of : M → List ℕ) (takes : C → Event → C → Type 0) (place : P) (v : Value) (n : ℕ) where
-  pub led : (valid : Bool) (path : List P) (w w' : Way M H K) (c d : C) → path ≡ [] → n ≡ most_levels → w.left ≡ most_nodes → w.keyword ≡ [] → w.instance ≡ [] → NodeDone S text_of takes n path place v valid w w' c d → Reported S place v takes valid c d
+module _ {M H K C P : Type 0} (S : SchemaSet P) (text_of : M → List ℕ) (takes : C → Event → C
+    → Type 0) (place : P) (v : Value) (n : ℕ) where
+  pub led : (valid : Bool) (path : List P) (w w' : WalkState M H K) (c d : C) → path ≡ [] → n ≡ most_levels
+      → w.left ≡ most_nodes → w.keyword ≡ [] → w.instance ≡ [] → NodeDone S text_of takes n path place v valid w w' c d
+      → Reported S place v takes valid c d
   led valid path w w' c d p e l k i walk =
       let done = rw p at walk in
-      let t = done.told at_root (record { schemas = k; value = i }) in
+      let t = done.reported at_root (record { schemas = k; value = i }) in
       let s = done.walked.settled in
       let deep = depth_from_settled S n n [] place at_root v t.result s t.node s in
       let many = size_from_settled S n n [] place at_root v t.result s t.node s in
@@ -30,11 +33,14 @@ module _ {M H K C P : Type 0} (S : SchemaSet P) (text_of : M → List ℕ) (take
       }
 
 module _ {P : Type 0} (S : SchemaSet P) (place : P) (v : Value) (n : ℕ) where
-  pub none_led : (path : List P) (old : ℕ) → path ≡ [] → n ≡ most_levels → old ≡ most_nodes → HasNone S n path place v old → (t : ResultTree) → IsResult S [] place at_root v t → IsWithinLimits t → ⊥
+  pub none_led : (path : List P) (old : ℕ) → path ≡ [] → n ≡ most_levels → old ≡ most_nodes
+      → HasNone S n path place v old → (t : ResultTree) → IsResult S [] place at_root v t → IsWithinLimits t → ⊥
   none_led path old p e l one t is stands =
       let none = rw p at one in
-      let settled = settled_from_depth S is.bound n [] place at_root v t is.settled is.node (let d = stands.deep in omega (arith, d, e)) in
+      let settled = settled_from_depth S is.bound n [] place at_root v t is.settled is.node (let d = stands.deep in
+      omega (arith, d, e)) in
       elim none [
         | inl s ↦ (let z : true ≡ false = sym settled ∙ s in cc)
-        | inr x ↦ (let many = size_from_settled S is.bound n [] place at_root v t is.settled is.node settled in let m = stands.many in absurd (omega (arith, x, many, m, l)))
+        | inr x ↦ (let many = size_from_settled S is.bound n [] place at_root v t is.settled is.node settled in
+            let m = stands.many in absurd (omega (arith, x, many, m, l)))
       ]

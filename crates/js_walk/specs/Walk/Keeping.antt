@@ -14,9 +14,9 @@ keeps Nowhere holds own given = []
 
 -- the verdict of `if`, and how many items match `contains`, after a keyword of which this many applications hold
 abbrev pub condition_step : Kind → ℕ → Option Bool → Option Bool
-condition_step If held before = Some (held == 1)
-condition_step _ held before = before
+condition_step If succeeded before = Some (succeeded == 1)
+condition_step _ succeeded before = before
 
 abbrev pub matching_step : Kind → ℕ → ℕ → ℕ
-matching_step Contains held before = held
-matching_step _ held before = before
+matching_step Contains succeeded before = succeeded
+matching_step _ succeeded before = before

@@ -5,16 +5,21 @@ use Rattle.js_doc.specs.Value.{Value, Named}
 use Rattle.js_assert.specs.Assertion.{asserted}
 use Rattle.js_assert.specs.ErrorText as assertion
 use Rattle.js_walk.specs.Keywords.{Keyword}
-use Rattle.js_walk.specs.Note.{Note, silent, error, value, error_or_none, if_any, largest, are_all_items, true_or, said_of_array, said_of_object, member_names_among}
+use Rattle.js_walk.specs.Note.{Note, silent, error, value, error_or_none, if_any, largest, are_all_items}
+use Rattle.js_walk.specs.Note.{true_or, said_of_array, said_of_object, member_names_among}
 use Rattle.js_walk.specs.Note as note
 use Rattle.js_walk.specs.SchemaSet.{Text}
 use Rattle.js_walk.specs.declared.keywords.kind.Kind.{Kind}
-use Rattle.js_walk.specs.declared.keywords.kind.Kind.TheVariants.{AnyOf, OneOf, Not, PrefixItems, Items, Contains, Properties, PatternProperties, AdditionalProperties, UnevaluatedItems, UnevaluatedProperties, Assertion, Annotation}
+use Rattle.js_walk.specs.declared.keywords.kind.Kind.TheVariants.{AnyOf, OneOf, Not, PrefixItems, Items, Contains}
+use Rattle.js_walk.specs.declared.keywords.kind.Kind.TheVariants.{Properties, PatternProperties, AdditionalProperties}
+use Rattle.js_walk.specs.declared.keywords.kind.Kind.TheVariants.{UnevaluatedItems, UnevaluatedProperties, Assertion}
+use Rattle.js_walk.specs.declared.keywords.kind.Kind.TheVariants.{Annotation}
 
-module _ (siblings : Named) (v : Value) (matching : ℕ) (k : Keyword) (held : ℕ) (names : List Text) (indexes : List ℕ) where
+module _ (siblings : Named) (v : Value) (matching : ℕ) (k : Keyword) (succeeded : ℕ) (names : List Text)
+    (indexes : List ℕ) where
   abbrev fails : Kind → Note
   fails AnyOf = error (codes "no branch holds")
-  fails OneOf = error (decimal held ++ codes " branches hold")
+  fails OneOf = error (decimal succeeded ++ codes " branches hold")
   fails Not = error (codes "the subschema holds")
   fails Contains = error (codes "no matching item")
   fails Assertion = error_or_none (option_map_or (λ a. assertion.error a v matching) (asserted k.0 k.1 siblings) None)

@@ -10,7 +10,7 @@ use Rattle.js_walk.specs.declared.keywords.kind.Kind.{Kind}
 use Rattle.js_walk.specs.declared.keywords.kind.Kind.TheVariants.{Assertion, Annotation}
 use Rattle.js_walk.specs.declared.walking.tally.Others.{Others}
 use Rattle.js_walk.specs.declared.walking.tally.Together.{Together}
-use Rattle.js_walk.specs.Walk.Told.{keywords_at, passes_at}
+use Rattle.js_walk.specs.Walk.Progress.{keywords_at, passes_at}
 
 -- a keyword of this kind may apply schemas
 abbrev pub may_apply : Kind → Bool

@@ -1,4 +1,5 @@
--- The keywords that apply schemas, by which keywords of the standard the members of a schema are (of private functions).
+-- The keywords that apply schemas, by which keywords of the standard the members of a schema are (of private
+-- functions).
 use Rattle.std.specs.Prelude.{ℕ, Bool, true, List, drop, filter}
 use Rattle.std.specs.List.{list_any}
 use Rattle.js_doc.specs.Value.{Named}

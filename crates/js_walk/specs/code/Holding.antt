@@ -7,7 +7,11 @@ use Rattle.js_doc.specs.Members.{get}
 use Rattle.js_doc.specs.Value.{Value}
 use Rattle.js_walk.specs.Keywords.{Keyword}
 use Rattle.js_walk.specs.declared.keywords.kind.Kind.{Kind}
-use Rattle.js_walk.specs.declared.keywords.kind.Kind.TheVariants.{AllOf, AnyOf, OneOf, Not, If, Then, Else, DependentSchemas, PrefixItems, Items, Contains, Properties, PatternProperties, AdditionalProperties, PropertyNames, UnevaluatedItems, UnevaluatedProperties}
+use Rattle.js_walk.specs.declared.keywords.kind.Kind.TheVariants.{AllOf, AnyOf, OneOf, Not, If, Then, Else}
+use Rattle.js_walk.specs.declared.keywords.kind.Kind.TheVariants.{DependentSchemas, PrefixItems, Items, Contains}
+use Rattle.js_walk.specs.declared.keywords.kind.Kind.TheVariants.{Properties, PatternProperties, AdditionalProperties}
+use Rattle.js_walk.specs.declared.keywords.kind.Kind.TheVariants.{PropertyNames, UnevaluatedItems}
+use Rattle.js_walk.specs.declared.keywords.kind.Kind.TheVariants.{UnevaluatedProperties}
 
 -- the steps to the schemas that it holds
 abbrev pub held_at : Kind → Step → Bool

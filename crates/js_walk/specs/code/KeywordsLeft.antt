@@ -18,21 +18,22 @@ abbrev pub members_left : InTurn → Named
 members_left (Every c) = map pair_of c.left
 members_left (Applying c) = applicators_from c.members.now c.rank
 
--- the keyword that is kept, or else these
-abbrev pub kept_or : Option Keyword → List table.Keyword → List table.Keyword
-kept_or None others = others
-kept_or (Some k) others = keyword_of k ∷ []
+-- the keyword that is deferred, or else these
+abbrev pub deferred_or : Option Keyword → List table.Keyword → List table.Keyword
+deferred_or None others = others
+deferred_or (Some k) others = keyword_of k ∷ []
 
--- up to `if`: of all that is left, where `else` may be kept already
+-- up to `if`: of all that is left, where `else` may be deferred already
 abbrev pub up_to_if : Option Keyword → Named → List table.Keyword
-up_to_if kept left = first_turn left ++ (kept_or kept (second_turn left) ++ last_turn left)
+up_to_if deferred left = first_turn left ++ (deferred_or deferred (second_turn left) ++ last_turn left)
 
--- after `if`: what may be kept comes first
+-- after `if`: what may be deferred comes first
 abbrev pub after_if : Option Keyword → Named → List table.Keyword
-after_if kept left = kept_or kept [] ++ ever left
+after_if deferred left = deferred_or deferred [] ++ ever left
 
 abbrev pub keywords_left : KeywordCursor → List table.Keyword
-keywords_left c = cond c.is_past_if (after_if c.kept (members_left c.left)) (up_to_if c.kept (members_left c.left))
+keywords_left c = cond c.is_past_if (after_if c.deferred (members_left c.left))
+    (up_to_if c.deferred (members_left c.left))
 
 abbrev pub keywords_in : Keywords → List table.Keyword
 keywords_in Nothing = []

@@ -28,7 +28,8 @@ HoldsOne documents k = IsAtPlace documents k × HoldsBy is_alone k
 
 -- the schema that a step through the keyword leads to, on a value that a step leads to
 abbrev pub by_keyword : Documents → KeywordAt → Step → Step → Value → Application Site
-by_keyword documents k step on v = application (schemas_of documents) (numbered_site documents k.place) k.keyword.name.now step on v
+by_keyword documents k step on v =
+    application (schemas_of documents) (numbered_site documents k.place) k.keyword.name.now step on v
 
 -- the keyword's schema, on items with their indexes
 abbrev pub on_items : Documents → KeywordAt → List (ℕ × Value) → List (Application Site)

@@ -64,4 +64,5 @@ last_turn (m ∷ ms) = if_last (turn_of m.0) m (ever ms) (last_turn ms)
 
 -- the keywords that have a node, in the order of their nodes
 abbrev pub in_order : Named → List Keyword
-in_order ms = filter (λ k. comes_before_else k.0) ms ++ (filter (λ k. is_else k.0) ms ++ filter (λ k. comes_after_else k.0) ms)
+in_order ms = filter (λ k. comes_before_else k.0) ms
+    ++ (filter (λ k. is_else k.0) ms ++ filter (λ k. comes_after_else k.0) ms)

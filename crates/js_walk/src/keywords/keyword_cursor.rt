@@ -2,7 +2,7 @@
 ghost use Rattle.std.specs.Prelude.{◌≡◌, ◌++◌, ◌∷◌, [], List, MatchOption, false, filter, true};
 ghost use Rattle.js_doc.specs.Members.{IsAscending};
 ghost use Rattle.js_walk.specs.Keywords as table;
-ghost use Rattle.js_walk.specs.code.KeywordsLeft.{kept_or, keywords_in, keywords_left, members_left};
+ghost use Rattle.js_walk.specs.code.KeywordsLeft.{deferred_or, keywords_in, keywords_left, members_left};
 ghost use Rattle.js_walk.specs.code.Standard.{keyword_names_of};
 ghost use Rattle.js_walk.specs.code.Terms.{entries, keyword_of, value_of};
 ghost use Rattle.js_walk.specs.code.Turns.{ever, in_order};
@@ -19,19 +19,19 @@ use js_doc::{Doc, Members};
 /// The keywords of a schema that are still to come.
 #[derive(Drop)]
 pub enum Keywords<'a> {
-    /// There is none: the schema is `true` or `false`, or the walk visits none of its keywords.
+    /// There is none: the schema is `true` or `false`.
     Nothing,
     /// The keywords of an object.
     Of(KeywordCursor<'a>),
 }
 
 /// The keywords of an object that are still to come. They ascend by name, except that `else` comes right after `if`.
-/// One pass over the members is enough: `else` is kept until the first name after `if`, and then that keyword is kept
-/// until `else` is out.
+/// One pass over the members is enough: `else` is deferred until the first name after `if`, and then that keyword is
+/// deferred until `else` is out.
 #[derive(Drop)]
 pub struct KeywordCursor<'a> {
     pub(crate) is_past_if: bool,
-    pub(crate) kept: Option<Keyword<'a>>,
+    pub(crate) deferred: Option<Keyword<'a>>,
     pub(crate) left: InTurn<'a>,
 }
 
@@ -81,11 +81,7 @@ impl<'a> Keywords<'a> {
         ensures ascending { IsAscending members.now }
     {
         names_ascend(members);
-        if has_applicator(names) {
-            Keywords::Of(KeywordCursor::new(InTurn::Applying(Applying::new(names, members))))
-        } else {
-            Keywords::Nothing
-        }
+        Keywords::Of(KeywordCursor::new(InTurn::Applying(Applying::new(names, members))))
     }
 
     /// The next keyword. It isn't inlined, to keep its locals out of the recursive function's stack frame.
@@ -108,7 +104,7 @@ impl<'a> KeywordCursor<'a> {
     {
         KeywordCursor {
             is_past_if: false,
-            kept: None,
+            deferred: None,
             left,
         }
     }
@@ -133,10 +129,10 @@ impl<'a> KeywordCursor<'a> {
             match turn {
                 Turn::Never => {}
                 Turn::First => return Some(keyword),
-                Turn::Second => self.kept = kept_or(self.kept, keyword),
+                Turn::Second => self.deferred = deferred_or(self.deferred, keyword),
                 Turn::Last => {
                     self.is_past_if = true;
-                    return Some(kept_before(&mut self.kept, keyword));
+                    return Some(deferred_before(&mut self.deferred, keyword));
                 }
             }
         }
@@ -149,9 +145,9 @@ impl<'a> KeywordCursor<'a> {
         ensures { MatchOption result (keywords_left self.old ≡ [])
             (λ k. keywords_left self.old ≡ keyword_of k ∷ keywords_left self.new) }
     {
-        match self.kept {
+        match self.deferred {
             Some(keyword) => {
-                self.kept = None;
+                self.deferred = None;
                 Some(keyword)
             }
             None => next_ever(&mut self.left),
@@ -159,25 +155,26 @@ impl<'a> KeywordCursor<'a> {
     }
 }
 
-// The keyword that is kept already, or else this one.
-fn kept_or<'a>(kept: Option<Keyword<'a>>, keyword: Keyword<'a>) -> Option<Keyword<'a>>
+// The keyword that is deferred already, or else this one.
+fn deferred_or<'a>(deferred: Option<Keyword<'a>>, keyword: Keyword<'a>) -> Option<Keyword<'a>>
     ensures { (others : List table.Keyword)
-        → kept_or result others ≡ kept_or kept.entry (keyword_of keyword.entry ∷ []) }
+        → deferred_or result others ≡ deferred_or deferred.entry (keyword_of keyword.entry ∷ []) }
 {
-    match kept {
-        Some(kept) => Some(kept),
+    match deferred {
+        Some(deferred) => Some(deferred),
         None => Some(keyword),
     }
 }
 
-// Returns the kept keyword and keeps this one in its place; without a kept one, returns this one.
-fn kept_before<'a>(kept: &mut Option<Keyword<'a>>, keyword: Keyword<'a>) -> Keyword<'a>
+// Returns the deferred keyword and defers this one in its place; without a deferred one, returns this one.
+fn deferred_before<'a>(deferred: &mut Option<Keyword<'a>>, keyword: Keyword<'a>) -> Keyword<'a>
     ensures { (left : List table.Keyword)
-        → kept_or kept.old [] ++ keyword_of keyword.entry ∷ left ≡ keyword_of result ∷ (kept_or kept.new [] ++ left) }
+        → deferred_or deferred.old [] ++ keyword_of keyword.entry ∷ left
+        ≡ keyword_of result ∷ (deferred_or deferred.new [] ++ left) }
 {
-    match *kept {
+    match *deferred {
         Some(before) => {
-            *kept = Some(keyword);
+            *deferred = Some(keyword);
             before
         }
         None => keyword,

@@ -1,6 +1,6 @@
 //! The dynamic scope of a walk (Core, section 7.1).
 ghost use Rattle.std.specs.Prelude.{◌≡◌, [], OnOk, length, take};
-ghost use Rattle.js_walk.specs.Walk.Scope.{HasGrown, ends_with};
+ghost use Rattle.js_walk.specs.Walk.DynamicScope.{HasGrown, ends_with};
 
 use js_doc::Memory;
 use std::alloc::Global;

@@ -1,16 +1,16 @@
 //! The leaves of a quiet walk: schemas none of whose keywords may apply schemas.
 ghost use Rattle.std.specs.Prelude.{◌≡◌, List, true};
-ghost use Rattle.js_assert.specs.Argument.{entries};
 ghost use Rattle.js_bundle.specs.Resource.{Site};
 ghost use Rattle.js_doc.specs.Members.{IsAscending};
 ghost use Rattle.js_tree.specs.Events.{Event};
 ghost use Rattle.js_walk.specs.Walk.Ended.{NodeEnds};
 ghost use Rattle.js_walk.specs.Walk.Visited.{AppliesNone};
+ghost use Rattle.js_walk.specs.code.Terms.{entries};
 
 use crate::walking::fault::WalkFault;
 use crate::walking::pointer_text::PointerText;
 use crate::walking::reporter::Reporter;
-use crate::walking::way::Way;
+use crate::walking::walk_state::WalkState;
 use crate::walking::world::World;
 use js_bundle::Place;
 use std::alloc::Global;
@@ -24,32 +24,32 @@ use std::alloc::Global;
 pub(crate) fn leaf_schema<W: World, H: PointerText + Drop, R: Reporter<W, H>>(
     alloc: Global,
     world: &W,
-    way: &mut Way<W::Name, H>,
+    state: &mut WalkState<W::Name, H>,
     depth: usize,
     place: Place,
     schema: W::Schema,
     value: W::Value,
 ) -> Result<bool, WalkFault>
+    requires ignores { (c d : R) (e : Event) → R.takes c e d }
     requires place { W.is_place world.now place ≡ true }
     requires schema { W.stands_at world.now place schema }
     requires ascending { IsAscending (entries ((W.schemas world.now).schema (W.site world.now place))) }
     requires applies { AppliesNone (W.schemas world.now) (W.site world.now place) }
-    requires ignores { (c d : R) (e : Event) → R.takes c e d }
     ensures { (above : List Site) (c : R) → NodeEnds (W.schemas world.now) W.text_of R.takes depth above
-        (W.site world.now place) (W.value_of value) result way.old way.new c c }
+        (W.site world.now place) (W.value_of value) result state.old state.new c c }
 {
     if depth == 0 {
         return Err(WalkFault::TooLarge);
     }
-    if way.left == 0 {
+    if state.left == 0 {
         return Err(WalkFault::TooLarge);
     }
     let accepted = world.accepts(place, schema);
     let others = world.others(alloc, place, value, 0)?;
-    let left = way.left - 1;
+    let left = state.left - 1;
     if left < others.count {
         return Err(WalkFault::TooLarge);
     }
-    way.left = left - others.count;
+    state.left = left - others.count;
     Ok(accepted & others.pass)
 }

@@ -5,7 +5,7 @@ ghost use Rattle.std.specs.Prelude.{◌≡◌, ◌≤◌, ◌<◌, true, map, le
 ghost use Rattle.std.specs.List.{dedup, list_all};
 ghost use Rattle.js_walk.specs.Walk.Ended.{KeywordEnds, NodeEnds};
 ghost use Rattle.js_walk.specs.Walk.Steps.{EachDone};
-ghost use Rattle.js_walk.specs.Walk.Told.{IsKeywordAt, SomeHasNone};
+ghost use Rattle.js_walk.specs.Walk.Progress.{IsKeywordAt, SomeHasNone};
 ghost use Rattle.js_walk.specs.Walk.Visited.{AreTogether, IsListed};
 ghost use Rattle.js_walk.specs.Fault.{OnTooLarge};
 
@@ -18,8 +18,8 @@ use crate::walking::steps::{
     begin_asking, close_keyword, close_schema, come_back, go_down, leaf_node, next_keyword,
     open_keyword, open_schema, others_of,
 };
-use crate::walking::tally::{Case, Judged, Judging, Known, Tally, Together};
-use crate::walking::way::{Start, Way};
+use crate::walking::tally::{Case, KeywordProgress, KeywordVerdict, Known, Tally, Together};
+use crate::walking::walk_state::{Start, WalkState};
 use crate::walking::world::World;
 use js_bundle::Place;
 use std::alloc::Global;
@@ -33,28 +33,28 @@ use std::alloc::Global;
 pub(crate) fn node<W: World, H: PointerText + Drop, R: Reporter<W, H>>(
     alloc: Global,
     world: &W,
-    way: &mut Way<W::Name, H>,
+    state: &mut WalkState<W::Name, H>,
     into: &mut R,
     depth: usize,
     place: Place,
     schema: W::Schema,
     value: W::Value,
 ) -> Result<bool, WalkFault>
-    requires path { list_all (W.is_place world.now) way.old.path ≡ true }
-    requires scope { way.old.scope ≡ dedup nat_eq (map (W.resource world.now) way.old.path) }
+    requires path { list_all (W.is_place world.now) state.old.path ≡ true }
+    requires scope { state.old.scope ≡ dedup nat_eq (map (W.resource world.now) state.old.path) }
     requires place { W.is_place world.now place ≡ true }
     requires schema { W.stands_at world.now place schema }
-    ensures { NodeEnds (W.schemas world.now) W.text_of R.takes depth (map (W.site world.now) way.old.path)
-        (W.site world.now place) (W.value_of value) result way.old way.new into.old into.new }
+    ensures { NodeEnds (W.schemas world.now) W.text_of R.takes depth (map (W.site world.now) state.old.path)
+        (W.site world.now place) (W.value_of value) result state.old state.new into.old into.new }
 {
     if depth == 0 {
         return Err(WalkFault::TooLarge);
     }
-    if way.left == 0 {
+    if state.left == 0 {
         return Err(WalkFault::TooLarge);
     }
-    let start = way.start();
-    open_schema(alloc, world, way, into, place)?;
+    let start = state.start();
+    open_schema(alloc, world, state, into, place)?;
     let known = Known {
         valid: world.accepts(place, schema),
         condition: None,
@@ -63,7 +63,7 @@ pub(crate) fn node<W: World, H: PointerText + Drop, R: Reporter<W, H>>(
     let quiet = into.is_quiet();
     let keywords = world.keywords(place, schema, quiet);
     let known = {
-        let mut judging = Judging { keywords, known };
+        let mut judging = KeywordProgress { keywords, known };
         let mut together = Together::unknown();
         'keywords: while let Some(keyword) = next_keyword(world, &mut judging) {
             let case = Case {
@@ -75,7 +75,7 @@ pub(crate) fn node<W: World, H: PointerText + Drop, R: Reporter<W, H>>(
             let judged = keyword_node(
                 alloc,
                 world,
-                way,
+                state,
                 into,
                 depth - 1,
                 case,
@@ -84,17 +84,21 @@ pub(crate) fn node<W: World, H: PointerText + Drop, R: Reporter<W, H>>(
                 &mut together,
             )?;
             let known = judging.known;
-            judging.known = known.with_keyword(world.kind(keyword), judged.passes, judged.held);
+            judging.known = known.with_keyword(
+                world.kind(keyword),
+                judged.passes,
+                judged.succeeded,
+            );
         }
         judging.known
     };
     let others = others_of(alloc, world, quiet, place, value, known.matching)?;
-    if way.left < others.count {
+    if state.left < others.count {
         return Err(WalkFault::TooLarge);
     }
-    way.left -= others.count;
+    state.left -= others.count;
     let valid = known.valid & others.pass;
-    close_schema(alloc, world, way, into, place, schema, start, valid)?;
+    close_schema(alloc, world, state, into, place, schema, start, valid)?;
     Ok(valid)
 }
 
@@ -107,26 +111,26 @@ pub(crate) fn node<W: World, H: PointerText + Drop, R: Reporter<W, H>>(
 fn applied_node<W: World, H: PointerText + Drop, R: Reporter<W, H>>(
     alloc: Global,
     world: &W,
-    way: &mut Way<W::Name, H>,
+    state: &mut WalkState<W::Name, H>,
     into: &mut R,
     depth: usize,
     place: Place,
     schema: W::Schema,
     value: W::Value,
 ) -> Result<bool, WalkFault>
-    requires path { list_all (W.is_place world.now) way.old.path ≡ true }
-    requires scope { way.old.scope ≡ dedup nat_eq (map (W.resource world.now) way.old.path) }
+    requires path { list_all (W.is_place world.now) state.old.path ≡ true }
+    requires scope { state.old.scope ≡ dedup nat_eq (map (W.resource world.now) state.old.path) }
     requires place { W.is_place world.now place ≡ true }
     requires schema { W.stands_at world.now place schema }
-    ensures { NodeEnds (W.schemas world.now) W.text_of R.takes depth (map (W.site world.now) way.old.path)
-        (W.site world.now place) (W.value_of value) result way.old way.new into.old into.new }
+    ensures { NodeEnds (W.schemas world.now) W.text_of R.takes depth (map (W.site world.now) state.old.path)
+        (W.site world.now place) (W.value_of value) result state.old state.new into.old into.new }
 {
     if into.is_quiet() {
         if !world.may_apply(place, schema) {
-            return leaf_schema::<W, H, R>(alloc, world, way, depth, place, schema, value);
+            return leaf_schema::<W, H, R>(alloc, world, state, depth, place, schema, value);
         }
     }
-    node(alloc, world, way, into, depth, place, schema, value)
+    node(alloc, world, state, into, depth, place, schema, value)
 }
 
 /// Evaluates a keyword, and reports its node and the nodes below it. `start`: how much was evaluated when the schema's
@@ -138,38 +142,38 @@ fn applied_node<W: World, H: PointerText + Drop, R: Reporter<W, H>>(
 pub(crate) fn keyword_node<W: World, H: PointerText + Drop, R: Reporter<W, H>>(
     alloc: Global,
     world: &W,
-    way: &mut Way<W::Name, H>,
+    state: &mut WalkState<W::Name, H>,
     into: &mut R,
     depth: usize,
     case: Case<W::Schema, W::Value, W::Keyword>,
     start: Start,
     known: Known,
     together: &mut Together,
-) -> Result<Judged, WalkFault>
-    requires path { list_all (W.is_place world.now) way.old.path ≡ true }
-    requires scope { way.old.scope ≡ dedup nat_eq (map (W.resource world.now) way.old.path) }
+) -> Result<KeywordVerdict, WalkFault>
+    requires path { list_all (W.is_place world.now) state.old.path ≡ true }
+    requires scope { state.old.scope ≡ dedup nat_eq (map (W.resource world.now) state.old.path) }
     requires place { W.is_place world.now case.place ≡ true }
     requires schema { W.stands_at world.now case.place case.schema }
-    requires names { start.names ≤ length way.old.names.items }
-    requires indexes { start.indexes ≤ length way.old.indexes.items }
+    requires names { start.names ≤ length state.old.names.items }
+    requires indexes { start.indexes ≤ length state.old.indexes.items }
     requires keyword { IsKeywordAt (W.schemas world.now) (W.site world.now case.place) (W.keyword_of case.keyword) }
     requires listed { IsListed (W.schemas world.now) (W.site world.now case.place) (W.keyword_of case.keyword) }
     requires together { AreTogether (W.schemas world.now) (W.site world.now case.place) (W.value_of case.value)
         together.old }
     ensures together { OnOk result (AreTogether (W.schemas world.now) (W.site world.now case.place)
         (W.value_of case.value) together.new) }
-    ensures done { KeywordEnds (W.schemas world.now) W.text_of R.takes depth (map (W.site world.now) way.old.path)
+    ensures done { KeywordEnds (W.schemas world.now) W.text_of R.takes depth (map (W.site world.now) state.old.path)
         (W.site world.now case.place) (W.value_of case.value) (W.keyword_of case.keyword) known start result
-        way.old way.new into.old into.new }
+        state.old state.new into.old into.new }
 {
-    if way.left == 0 {
+    if state.left == 0 {
         return Err(WalkFault::TooLarge);
     }
     if !world.asks(case.keyword) {
-        let judged = leaf_node(alloc, world, way, into, case, together, known.matching)?;
+        let judged = leaf_node(alloc, world, state, into, case, together, known.matching)?;
         return Ok(judged);
     }
-    applicator_node(alloc, world, way, into, depth, case, start, known)
+    applicator_node(alloc, world, state, into, depth, case, start, known)
 }
 
 /// The same of a keyword that may apply schemas. Apart from `keyword_node`, so that a leaf doesn't pay for its locals.
@@ -181,41 +185,41 @@ pub(crate) fn keyword_node<W: World, H: PointerText + Drop, R: Reporter<W, H>>(
 fn applicator_node<W: World, H: PointerText + Drop, R: Reporter<W, H>>(
     alloc: Global,
     world: &W,
-    way: &mut Way<W::Name, H>,
+    state: &mut WalkState<W::Name, H>,
     into: &mut R,
     depth: usize,
     case: Case<W::Schema, W::Value, W::Keyword>,
     start: Start,
     known: Known,
-) -> Result<Judged, WalkFault>
-    requires path { list_all (W.is_place world.now) way.old.path ≡ true }
-    requires scope { way.old.scope ≡ dedup nat_eq (map (W.resource world.now) way.old.path) }
+) -> Result<KeywordVerdict, WalkFault>
+    requires path { list_all (W.is_place world.now) state.old.path ≡ true }
+    requires scope { state.old.scope ≡ dedup nat_eq (map (W.resource world.now) state.old.path) }
     requires place { W.is_place world.now case.place ≡ true }
     requires schema { W.stands_at world.now case.place case.schema }
-    requires names { start.names ≤ length way.old.names.items }
-    requires indexes { start.indexes ≤ length way.old.indexes.items }
-    requires left { 0 < way.old.left }
+    requires names { start.names ≤ length state.old.names.items }
+    requires indexes { start.indexes ≤ length state.old.indexes.items }
+    requires left { 0 < state.old.left }
     requires keyword { IsKeywordAt (W.schemas world.now) (W.site world.now case.place) (W.keyword_of case.keyword) }
-    ensures { KeywordEnds (W.schemas world.now) W.text_of R.takes depth (map (W.site world.now) way.old.path)
+    ensures { KeywordEnds (W.schemas world.now) W.text_of R.takes depth (map (W.site world.now) state.old.path)
         (W.site world.now case.place) (W.value_of case.value) (W.keyword_of case.keyword) known start result
-        way.old way.new into.old into.new }
+        state.old state.new into.old into.new }
 {
-    let mut asking = begin_asking(alloc, world, way, case, start, known.condition)?;
-    let here = way.current_marks();
-    open_keyword(alloc, world, way, into, case.place, case.keyword)?;
+    let mut asking = begin_asking(alloc, world, state, case, start, known.condition)?;
+    let here = state.current_marks();
+    open_keyword(alloc, world, state, into, case.place, case.keyword)?;
     let tally = applications(
         alloc,
         world,
-        way,
+        state,
         into,
         depth,
         world.kind(case.keyword),
         &mut asking,
     )?;
-    let passes = close_keyword(alloc, world, way, into, case, here, tally, known.matching)?;
-    Ok(Judged {
+    let passes = close_keyword(alloc, world, state, into, case, here, tally, known.matching)?;
+    Ok(KeywordVerdict {
         passes,
-        held: tally.held,
+        succeeded: tally.succeeded,
     })
 }
 
@@ -228,37 +232,40 @@ fn applicator_node<W: World, H: PointerText + Drop, R: Reporter<W, H>>(
 pub(crate) fn applications<W: World, H: PointerText + Drop, R: Reporter<W, H>>(
     alloc: Global,
     world: &W,
-    way: &mut Way<W::Name, H>,
+    state: &mut WalkState<W::Name, H>,
     into: &mut R,
     depth: usize,
     kind: Kind,
     asking: &mut W::Asking,
 ) -> Result<Tally, WalkFault>
-    requires path { list_all (W.is_place world.now) way.old.path ≡ true }
-    requires scope { way.old.scope ≡ dedup nat_eq (map (W.resource world.now) way.old.path) }
+    requires path { list_all (W.is_place world.now) state.old.path ≡ true }
+    requires scope { state.old.scope ≡ dedup nat_eq (map (W.resource world.now) state.old.path) }
     requires asking { W.is_asking world.now asking.old }
     ensures { MatchResult result
-        (λ t. EachDone (W.schemas world.now) W.text_of R.takes depth (map (W.site world.now) way.old.path) kind
-        (W.asked world.now asking.old) t way.old way.new into.old into.new)
-        (λ e. OnTooLarge e (SomeHasNone (W.schemas world.now) depth (map (W.site world.now) way.old.path)
-        (W.asked world.now asking.old) way.old.left)) }
+        (λ t. EachDone (W.schemas world.now) W.text_of R.takes depth (map (W.site world.now) state.old.path) kind
+        (W.asked world.now asking.old) t state.old state.new into.old into.new)
+        (λ e. OnTooLarge e (SomeHasNone (W.schemas world.now) depth (map (W.site world.now) state.old.path)
+        (W.asked world.now asking.old) state.old.left)) }
 {
-    let _left = way.left;
-    let mut tally = Tally { asked: 0, held: 0 };
+    let _left = state.left;
+    let mut tally = Tally {
+        asked: 0,
+        succeeded: 0,
+    };
     'each: while let Some(application) = world.next(alloc, asking)? {
-        let here = way.current_marks();
-        go_down(world, way, application)?;
+        let here = state.current_marks();
+        go_down(world, state, application)?;
         let holds = applied_node(
             alloc,
             world,
-            way,
+            state,
             into,
             depth,
             world.place(application),
             world.schema(application),
             world.value(application),
         )?;
-        come_back(world, way, application, kind, here, holds)?;
+        come_back(world, state, application, kind, here, holds)?;
         tally = tally.with_application(holds);
     }
     Ok(tally)

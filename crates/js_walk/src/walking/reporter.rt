@@ -2,10 +2,10 @@
 ghost use Rattle.std.specs.Prelude.{◌≡◌, true, Some, None, map, OnOk};
 ghost use Rattle.js_tree.specs.Events.{Event, opening, closing};
 ghost use Rattle.js_walk.specs.Walk.Reported.{DropsSilent};
-ghost use Rattle.js_walk.specs.Walk.Told.{IsKeywordAt, LeafTold, says_at, schema_says};
+ghost use Rattle.js_walk.specs.Walk.Progress.{IsKeywordAt, LeafReported, says_at, schema_says};
 
 use crate::walking::pointer_text::PointerText;
-use crate::walking::tally::Judged;
+use crate::walking::tally::KeywordVerdict;
 use crate::walking::trail::Trail;
 use crate::walking::world::World;
 use js_bundle::Place;
@@ -75,7 +75,7 @@ pub trait Reporter<W: World, H: PointerText + Drop> {
         place: Place,
         value: W::Value,
         keyword: W::Keyword,
-        judged: Judged,
+        judged: KeywordVerdict,
         matching: u64,
         names: &[W::Name],
         indexes: &[usize],
@@ -85,7 +85,7 @@ pub trait Reporter<W: World, H: PointerText + Drop> {
         ensures { OnOk result (takes self.old
             (closing judged.passes (says_at (W.schemas world.now) (W.site world.now place) (W.value_of value) matching
             (W.keyword_of keyword)
-            judged.held (map W.text_of names.now) indexes.now judged.passes)) self.new) };
+            judged.succeeded (map W.text_of names.now) indexes.now judged.passes)) self.new) };
 
     /// The node of a keyword that applies no schema opens and closes at once: the same as `open_keyword` and then
     /// `close_keyword`. `keyword_location` is that of its schema; it comes back as it was.
@@ -96,16 +96,16 @@ pub trait Reporter<W: World, H: PointerText + Drop> {
         place: Place,
         value: W::Value,
         keyword: W::Keyword,
-        judged: Judged,
+        judged: KeywordVerdict,
         matching: u64,
         keyword_location: &mut Trail<H>,
         instance_location: &Trail<H>,
     ) -> Result<(), Memory>
         requires place { W.is_place world.now place ≡ true }
         requires keyword { IsKeywordAt (W.schemas world.now) (W.site world.now place) (W.keyword_of keyword) }
-        ensures told { OnOk result (LeafTold (W.schemas world.now) takes (W.site world.now place) (W.value_of value)
-            (W.keyword_of keyword) matching judged.passes judged.held keyword_location.old instance_location.now
-            self.old self.new) }
+        ensures reported { OnOk result (LeafReported (W.schemas world.now) takes (W.site world.now place)
+            (W.value_of value) (W.keyword_of keyword) matching judged.passes judged.succeeded keyword_location.old
+            instance_location.now self.old self.new) }
         ensures back { OnOk result (keyword_location.new ≡ keyword_location.old) };
 
     /// The node of a schema closes.

@@ -12,7 +12,7 @@ use crate::walking::pointer_text::PointerText;
 use crate::walking::recursion::node;
 use crate::walking::reporter::Reporter;
 use crate::walking::trail::Trail;
-use crate::walking::way::Way;
+use crate::walking::walk_state::WalkState;
 use crate::walking::world::World;
 use js_bundle::Place;
 use std::alloc::Global;
@@ -54,7 +54,7 @@ pub fn walk_from<W: World, H: PointerText + Drop, R: Reporter<W, H>>(
         → IsResult (W.schemas world.now) [] (W.site world.now place) at_root (W.value_of value) t
         → IsWithinLimits t → ⊥)) }
 {
-    let mut way: Way<W::Name, H> = Way {
+    let mut state: WalkState<W::Name, H> = WalkState {
         path: Path::new(),
         keyword: Trail::new(alloc),
         instance: Trail::new(alloc),
@@ -66,7 +66,7 @@ pub fn walk_from<W: World, H: PointerText + Drop, R: Reporter<W, H>>(
     node(
         alloc,
         world,
-        &mut way,
+        &mut state,
         into,
         most_levels(),
         place,

@@ -9,7 +9,7 @@ ghost use Rattle.js_walk.specs.Walk.Steps.{KeywordDone, WentDown, CameBack};
 ghost use Rattle.js_doc.specs.Value.{Value as JsonValue};
 ghost use Rattle.js_walk.specs.SchemaSet.{Text as Bytes};
 ghost use Rattle.js_walk.specs.Walk.Reported.{DropsSilent};
-ghost use Rattle.js_walk.specs.Walk.Told.{IsKeywordAt, asked_by, kind_at, says_at};
+ghost use Rattle.js_walk.specs.Walk.Progress.{IsKeywordAt, asked_by, kind_at, says_at};
 ghost use Rattle.js_tree.specs.Note.{silent};
 ghost use Rattle.js_walk.specs.Walk.Visited.{AreJudged, AreJudgedIf, AreTogether, IsListed};
 ghost use Rattle.js_walk.specs.declared.keywords.kind.Kind.TheVariants.{Assertion};
@@ -19,8 +19,8 @@ use crate::walking::keeping::{cut_unless, keep, origins_of};
 use crate::walking::path::ScopedPath;
 use crate::walking::pointer_text::PointerText;
 use crate::walking::reporter::Reporter;
-use crate::walking::tally::{Case, Judged, Judging, Others, Tally, Together};
-use crate::walking::way::{Mark, Start, Way};
+use crate::walking::tally::{Case, KeywordProgress, KeywordVerdict, Others, Tally, Together};
+use crate::walking::walk_state::{Mark, Start, WalkState};
 use crate::walking::world::World;
 use js_bundle::Place;
 use js_doc::Memory;
@@ -30,19 +30,19 @@ use std::alloc::Global;
 pub(crate) fn open_schema<W: World, H: PointerText + Drop, R: Reporter<W, H>>(
     alloc: Global,
     world: &W,
-    way: &mut Way<W::Name, H>,
+    state: &mut WalkState<W::Name, H>,
     into: &mut R,
     place: Place,
 ) -> Result<(), Memory>
     requires place { W.is_place world.now place ≡ true }
-    requires left { 0 < way.old.left }
+    requires left { 0 < state.old.left }
     ensures { OnOk result (SchemaOpened (W.schemas world.now) W.text_of R.takes (W.site world.now place) place
-        (W.resource world.now place) way.old way.new into.old into.new) }
+        (W.resource world.now place) state.old state.new into.old into.new) }
 {
-    way.left -= 1;
-    into.open_schema(alloc, world, place, &way.keyword, &way.instance)?;
-    way.path.push(place);
-    way.scope.push(world.resource(place))?;
+    state.left -= 1;
+    into.open_schema(alloc, world, place, &state.keyword, &state.instance)?;
+    state.path.push(place);
+    state.scope.push(world.resource(place))?;
     Ok(())
 }
 
@@ -50,7 +50,7 @@ pub(crate) fn open_schema<W: World, H: PointerText + Drop, R: Reporter<W, H>>(
 pub(crate) fn close_schema<W: World, H: PointerText + Drop, R: Reporter<W, H>>(
     alloc: Global,
     world: &W,
-    way: &mut Way<W::Name, H>,
+    state: &mut WalkState<W::Name, H>,
     into: &mut R,
     place: Place,
     schema: W::Schema,
@@ -60,20 +60,20 @@ pub(crate) fn close_schema<W: World, H: PointerText + Drop, R: Reporter<W, H>>(
     requires place { W.is_place world.now place ≡ true }
     requires schema { W.stands_at world.now place schema }
     ensures { OnOk result (SchemaClosed (W.schemas world.now) W.text_of R.takes
-        (W.site world.now place) start valid way.old way.new into.old into.new) }
+        (W.site world.now place) start valid state.old state.new into.old into.new) }
 {
     into.close_schema(alloc, world, place, schema, valid)?;
-    way.path.leave_place();
-    way.scope.go_back_to(start.scope);
-    cut_unless(&mut way.names, start.names, valid);
-    cut_unless(&mut way.indexes, start.indexes, valid);
+    state.path.leave_place();
+    state.scope.go_back_to(start.scope);
+    cut_unless(&mut state.names, start.names, valid);
+    cut_unless(&mut state.indexes, start.indexes, valid);
     Ok(())
 }
 
 /// The next keyword of a schema. Keywords are evaluated even if one before them has failed.
 pub(crate) fn next_keyword<W: World>(
     world: &W,
-    judging: &mut Judging<W::Keywords>,
+    judging: &mut KeywordProgress<W::Keywords>,
 ) -> Option<W::Keyword>
     ensures next { MatchOption result (W.listed judging.old.keywords ≡ [])
         (λ k. W.listed judging.old.keywords ≡ W.keyword_of k ∷ W.listed judging.new.keywords) }
@@ -87,19 +87,26 @@ pub(crate) fn next_keyword<W: World>(
 pub(crate) fn open_keyword<W: World, H: PointerText + Drop, R: Reporter<W, H>>(
     alloc: Global,
     world: &W,
-    way: &mut Way<W::Name, H>,
+    state: &mut WalkState<W::Name, H>,
     into: &mut R,
     place: Place,
     keyword: W::Keyword,
 ) -> Result<(), Memory>
     requires place { W.is_place world.now place ≡ true }
-    requires left { 0 < way.old.left }
+    requires left { 0 < state.old.left }
     ensures { OnOk result (KeywordOpened (W.schemas world.now) W.text_of R.takes (W.site world.now place)
-        (W.keyword_of keyword) way.old way.new into.old into.new) }
+        (W.keyword_of keyword) state.old state.new into.old into.new) }
 {
-    way.left -= 1;
-    world.go_to_keyword(keyword, &mut way.keyword)?;
-    into.open_keyword(alloc, world, place, keyword, &way.keyword, &way.instance)
+    state.left -= 1;
+    world.go_to_keyword(keyword, &mut state.keyword)?;
+    into.open_keyword(
+        alloc,
+        world,
+        place,
+        keyword,
+        &state.keyword,
+        &state.instance,
+    )
 }
 
 /// The applications that a keyword asks for, given what has been evaluated since the schema's node opened. It isn't
@@ -108,30 +115,30 @@ pub(crate) fn open_keyword<W: World, H: PointerText + Drop, R: Reporter<W, H>>(
 pub(crate) fn begin_asking<W: World, H: PointerText + Drop>(
     alloc: Global,
     world: &W,
-    way: &Way<W::Name, H>,
+    state: &WalkState<W::Name, H>,
     case: Case<W::Schema, W::Value, W::Keyword>,
     start: Start,
     condition: Option<bool>,
 ) -> Result<W::Asking, Memory>
-    requires path { list_all (W.is_place world.now) way.now.path ≡ true }
-    requires scope { way.now.scope ≡ dedup nat_eq (map (W.resource world.now) way.now.path) }
+    requires path { list_all (W.is_place world.now) state.now.path ≡ true }
+    requires scope { state.now.scope ≡ dedup nat_eq (map (W.resource world.now) state.now.path) }
     requires place { W.is_place world.now case.place ≡ true }
     requires schema { W.stands_at world.now case.place case.schema }
-    requires names { start.names ≤ length way.now.names.items }
-    requires indexes { start.indexes ≤ length way.now.indexes.items }
     requires keyword { IsKeywordAt (W.schemas world.now) (W.site world.now case.place) (W.keyword_of case.keyword) }
+    requires names { start.names ≤ length state.now.names.items }
+    requires indexes { start.indexes ≤ length state.now.indexes.items }
     ensures asked { IfOk result (λ a. W.asked world.now a
-        ≡ asked_by (W.schemas world.now) 0 (map (W.site world.now) way.now.path) (W.site world.now case.place)
-        (W.value_of case.value) (W.keyword_of case.keyword)
-        condition (map W.text_of (drop start.names way.now.names.items)) (drop start.indexes way.now.indexes.items)) }
+        ≡ asked_by (W.schemas world.now) 0 (map (W.site world.now) state.now.path) (W.site world.now case.place)
+        (W.value_of case.value) (W.keyword_of case.keyword) condition
+        (map W.text_of (drop start.names state.now.names.items)) (drop start.indexes state.now.indexes.items)) }
     ensures is { IfOk result (λ a. W.is_asking world.now a) }
 {
     let scope = ScopedPath {
-        path: &way.path,
-        resources: way.scope.resource_numbers(),
+        path: &state.path,
+        resources: state.scope.resource_numbers(),
     };
-    let names = &way.names[start.names..];
-    let indexes = &way.indexes[start.indexes..];
+    let names = &state.names[start.names..];
+    let indexes = &state.indexes[start.indexes..];
     world.asking(
         alloc,
         scope,
@@ -151,7 +158,7 @@ pub(crate) fn begin_asking<W: World, H: PointerText + Drop>(
 pub(crate) fn close_keyword<W: World, H: PointerText + Drop, R: Reporter<W, H>>(
     alloc: Global,
     world: &W,
-    way: &mut Way<W::Name, H>,
+    state: &mut WalkState<W::Name, H>,
     into: &mut R,
     case: Case<W::Schema, W::Value, W::Keyword>,
     here: Mark<H::Mark>,
@@ -160,13 +167,13 @@ pub(crate) fn close_keyword<W: World, H: PointerText + Drop, R: Reporter<W, H>>(
 ) -> Result<bool, Memory>
     requires place { W.is_place world.now case.place ≡ true }
     requires schema { W.stands_at world.now case.place case.schema }
-    requires names { here.names ≤ length way.old.names.items }
-    requires indexes { here.indexes ≤ length way.old.indexes.items }
-    requires trail { IsSplitPoint way.old.keyword (H.length_at here.keyword) }
+    requires names { here.names ≤ length state.old.names.items }
+    requires indexes { here.indexes ≤ length state.old.indexes.items }
+    requires trail { IsSplitPoint state.old.keyword (H.length_at here.keyword) }
     requires keyword { IsKeywordAt (W.schemas world.now) (W.site world.now case.place) (W.keyword_of case.keyword) }
     ensures { IfOk result (λ passes. KeywordClosed (W.schemas world.now) W.text_of R.takes H.length_at
         (W.site world.now case.place) (W.value_of case.value)
-        (W.keyword_of case.keyword) matching tally here passes way.old way.new into.old into.new) }
+        (W.keyword_of case.keyword) matching tally here passes state.old state.new into.old into.new) }
 {
     let Case {
         place,
@@ -175,18 +182,18 @@ pub(crate) fn close_keyword<W: World, H: PointerText + Drop, R: Reporter<W, H>>(
         keyword,
     } = case;
     let passes = world.passes(alloc, place, schema, value, keyword, tally, matching)?;
-    let judged = Judged {
+    let judged = KeywordVerdict {
         passes,
-        held: tally.held,
+        succeeded: tally.succeeded,
     };
-    let names = &way.names[here.names..];
-    let indexes = &way.indexes[here.indexes..];
+    let names = &state.names[here.names..];
+    let indexes = &state.indexes[here.indexes..];
     into.close_keyword(
         alloc, world, place, value, keyword, judged, matching, names, indexes,
     )?;
-    cut_unless(&mut way.names, here.names, passes);
-    cut_unless(&mut way.indexes, here.indexes, passes);
-    way.keyword.cut(here.keyword);
+    cut_unless(&mut state.names, here.names, passes);
+    cut_unless(&mut state.indexes, here.indexes, passes);
+    state.keyword.cut(here.keyword);
     Ok(passes)
 }
 
@@ -196,23 +203,26 @@ pub(crate) fn close_keyword<W: World, H: PointerText + Drop, R: Reporter<W, H>>(
 pub(crate) fn childless_node<W: World, H: PointerText + Drop, R: Reporter<W, H>>(
     alloc: Global,
     world: &W,
-    way: &mut Way<W::Name, H>,
+    state: &mut WalkState<W::Name, H>,
     into: &mut R,
     case: Case<W::Schema, W::Value, W::Keyword>,
     matching: u64,
-) -> Result<Judged, Memory>
+) -> Result<KeywordVerdict, Memory>
     requires place { W.is_place world.now case.place ≡ true }
     requires schema { W.stands_at world.now case.place case.schema }
     requires keyword { IsKeywordAt (W.schemas world.now) (W.site world.now case.place) (W.keyword_of case.keyword) }
-    requires left { 0 < way.old.left }
+    requires left { 0 < state.old.left }
     ensures { IfOk result (λ j. (depth : ℕ) (path : List Site)
         → KeywordDone (W.schemas world.now) W.text_of R.takes depth path (W.site world.now case.place)
         (W.value_of case.value) (W.keyword_of case.keyword) matching [] j
-        way.old way.new into.old into.new) }
+        state.old state.new into.old into.new) }
 {
     let passes = passes_alone(alloc, world, case, matching)?;
-    let judged = Judged { passes, held: 0 };
-    way.left -= 1;
+    let judged = KeywordVerdict {
+        passes,
+        succeeded: 0,
+    };
+    state.left -= 1;
     if passes && may_drop(world, into, case.keyword) {
         return Ok(judged);
     }
@@ -230,8 +240,8 @@ pub(crate) fn childless_node<W: World, H: PointerText + Drop, R: Reporter<W, H>>
         keyword,
         judged,
         matching,
-        &mut way.keyword,
-        &way.instance,
+        &mut state.keyword,
+        &state.instance,
     )?;
     Ok(judged)
 }
@@ -242,35 +252,35 @@ pub(crate) fn childless_node<W: World, H: PointerText + Drop, R: Reporter<W, H>>
 pub(crate) fn leaf_node<W: World, H: PointerText + Drop, R: Reporter<W, H>>(
     alloc: Global,
     world: &W,
-    way: &mut Way<W::Name, H>,
+    state: &mut WalkState<W::Name, H>,
     into: &mut R,
     case: Case<W::Schema, W::Value, W::Keyword>,
     together: &mut Together,
     matching: u64,
-) -> Result<Judged, Memory>
+) -> Result<KeywordVerdict, Memory>
     requires place { W.is_place world.now case.place ≡ true }
     requires schema { W.stands_at world.now case.place case.schema }
     requires keyword { IsKeywordAt (W.schemas world.now) (W.site world.now case.place) (W.keyword_of case.keyword) }
     requires listed { IsListed (W.schemas world.now) (W.site world.now case.place) (W.keyword_of case.keyword) }
-    requires left { 0 < way.old.left }
+    requires left { 0 < state.old.left }
     requires together { AreTogether (W.schemas world.now) (W.site world.now case.place) (W.value_of case.value)
         together.old }
     ensures done { IfOk result (λ j. (depth : ℕ) (path : List Site)
         → KeywordDone (W.schemas world.now) W.text_of R.takes depth path (W.site world.now case.place)
         (W.value_of case.value) (W.keyword_of case.keyword) matching [] j
-        way.old way.new into.old into.new) }
+        state.old state.new into.old into.new) }
     ensures together { OnOk result (AreTogether (W.schemas world.now) (W.site world.now case.place)
         (W.value_of case.value) together.new) }
 {
     let over = is_passed_over(alloc, world, into, case, together, matching)?;
     if over {
-        way.left -= 1;
-        return Ok(Judged {
+        state.left -= 1;
+        return Ok(KeywordVerdict {
             passes: true,
-            held: 0,
+            succeeded: 0,
         });
     }
-    childless_node(alloc, world, way, into, case, matching)
+    childless_node(alloc, world, state, into, case, matching)
 }
 
 // Whether the reporter would keep nothing of a keyword's leaf, as all assertions pass.
@@ -290,10 +300,10 @@ fn is_passed_over<W: World, H: PointerText + Drop, R: Reporter<W, H>>(
     ensures together { OnOk result (AreTogether (W.schemas world.now) (W.site world.now case.place)
         (W.value_of case.value) together.new) }
     ensures passes { IfOk result (λ b. b ≡ true → IsJudged (W.schemas world.now) (W.site world.now case.place)
-        (W.value_of case.value) (W.keyword_of case.keyword) matching (record { asked = 0; held = 0 }) true) }
-    ensures silent { IfOk result (λ b. (place : Site) (v : JsonValue) (matching held : ℕ) (names : List Bytes)
+        (W.value_of case.value) (W.keyword_of case.keyword) matching (record { asked = 0; succeeded = 0 }) true) }
+    ensures silent { IfOk result (λ b. (place : Site) (v : JsonValue) (matching succeeded : ℕ) (names : List Bytes)
         (indexes : List ℕ) → b ≡ true → says_at (W.schemas world.now) place v matching (W.keyword_of case.keyword)
-        held names indexes true ≡ silent) }
+        succeeded names indexes true ≡ silent) }
     ensures drops { IfOk result (λ b. b ≡ true → DropsSilent R.takes into.now) }
 {
     if !may_drop(world, into, case.keyword) {
@@ -311,16 +321,16 @@ fn may_drop<W: World, H: PointerText + Drop, R: Reporter<W, H>>(
     keyword: W::Keyword,
 ) -> bool
     ensures assertion { result ≡ true → kind_at (W.keyword_of keyword) ≡ Assertion }
-    ensures silent { (place : Site) (v : JsonValue) (matching held : ℕ) (names : List Bytes) (indexes : List ℕ)
-        → result ≡ true → says_at (W.schemas world.now) place v matching (W.keyword_of keyword) held names indexes
+    ensures silent { (place : Site) (v : JsonValue) (matching succeeded : ℕ) (names : List Bytes) (indexes : List ℕ)
+        → result ≡ true → says_at (W.schemas world.now) place v matching (W.keyword_of keyword) succeeded names indexes
         true ≡ silent }
     ensures drops { result ≡ true → DropsSilent R.takes into.now }
 {
     matches!(world.kind(keyword), Kind::Assertion) && into.drops_silent()
 }
 
-// Whether all keywords of the place pass that apply no schemas. They are judged if they aren't yet, for so many
-// matches.
+// Whether all keywords of the place pass that apply no schemas. They are judged if they aren't yet, for
+// `matching` matches.
 #[inline(always)]
 fn all_pass<W: World>(
     alloc: Global,
@@ -360,7 +370,7 @@ fn passes_alone<W: World>(
     requires schema { W.stands_at world.now case.place case.schema }
     requires keyword { IsKeywordAt (W.schemas world.now) (W.site world.now case.place) (W.keyword_of case.keyword) }
     ensures { IfOk result (λ passes. IsJudged (W.schemas world.now) (W.site world.now case.place)
-        (W.value_of case.value) (W.keyword_of case.keyword) matching (record { asked = 0; held = 0 }) passes) }
+        (W.value_of case.value) (W.keyword_of case.keyword) matching (record { asked = 0; succeeded = 0 }) passes) }
 {
     let Case {
         place,
@@ -368,45 +378,48 @@ fn passes_alone<W: World>(
         value,
         keyword,
     } = case;
-    let none = Tally { asked: 0, held: 0 };
+    let none = Tally {
+        asked: 0,
+        succeeded: 0,
+    };
     world.passes(alloc, place, schema, value, keyword, none, matching)
 }
 
 /// Moves both trails down to an application.
 pub(crate) fn go_down<W: World, H: PointerText + Drop>(
     world: &W,
-    way: &mut Way<W::Name, H>,
+    state: &mut WalkState<W::Name, H>,
     application: W::Application,
 ) -> Result<(), Memory>
-    ensures { OnOk result (WentDown (W.application_of world.now application) way.old way.new) }
+    ensures { OnOk result (WentDown (W.application_of world.now application) state.old state.new) }
 {
-    world.go_to_application(application, &mut way.keyword, &mut way.instance)
+    world.go_to_application(application, &mut state.keyword, &mut state.instance)
 }
 
 /// Moves both trails back up, and replaces what the applied schema has evaluated by what the keyword has.
 pub(crate) fn come_back<W: World, H: PointerText + Drop>(
     world: &W,
-    way: &mut Way<W::Name, H>,
+    state: &mut WalkState<W::Name, H>,
     application: W::Application,
     kind: Kind,
     here: Mark<H::Mark>,
     holds: bool,
 ) -> Result<(), Memory>
-    requires keyword { IsSplitPoint way.old.keyword (H.length_at here.keyword) }
-    requires instance { IsSplitPoint way.old.instance (H.length_at here.instance) }
+    requires keyword { IsSplitPoint state.old.keyword (H.length_at here.keyword) }
+    requires instance { IsSplitPoint state.old.instance (H.length_at here.instance) }
     ensures { OnOk result (CameBack W.text_of H.length_at kind
-        (W.application_of world.now application) here holds way.old way.new) }
+        (W.application_of world.now application) here holds state.old state.new) }
 {
-    way.keyword.cut(here.keyword);
-    way.instance.cut(here.instance);
+    state.keyword.cut(here.keyword);
+    state.instance.cut(here.instance);
     let (names, indexes) = origins_of(kind);
     let member = world.member(application);
     let item = world.item(application);
-    keep(&mut way.names, here.names, names, holds, member)?;
-    keep(&mut way.indexes, here.indexes, indexes, holds, item)
+    keep(&mut state.names, here.names, names, holds, member)?;
+    keep(&mut state.indexes, here.indexes, indexes, holds, item)
 }
 
-/// What the keywords show that the walk hasn't visited: all those that apply no schemas, if it is quiet. `matching`:
+/// What the keywords show that the walk doesn't visit: all those that apply no schemas, if it is quiet. `matching`:
 /// the number of items that match the adjacent `contains`.
 #[inline(always)]
 pub(crate) fn others_of<W: World>(

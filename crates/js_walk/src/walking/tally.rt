@@ -18,14 +18,14 @@ pub(crate) struct Case<S, V, K> {
 #[derive(Clone, Copy)]
 pub struct Tally {
     pub asked: usize,
-    pub held: usize,
+    pub succeeded: usize,
 }
 
 /// Whether a keyword passes, and how many of its applications succeed.
 #[derive(Clone, Copy)]
-pub struct Judged {
+pub struct KeywordVerdict {
     pub passes: bool,
-    pub held: usize,
+    pub succeeded: usize,
 }
 
 /// What the keywords evaluated so far show of a schema: whether it is valid so far, whether its `if` succeeds, and how
@@ -39,7 +39,7 @@ pub(crate) struct Known {
 
 /// The keywords of a schema that are still to be evaluated, and what those before them have shown.
 #[derive(Drop)]
-pub(crate) struct Judging<K> {
+pub(crate) struct KeywordProgress<K> {
     pub keywords: K,
     pub known: Known,
 }
@@ -64,13 +64,13 @@ impl Tally {
     /// The tally with one more application.
     pub fn with_application(self, holds: bool) -> Tally
         requires few { self.asked < usize.MAX }
-        requires held { self.held ≤ self.asked }
+        requires succeeded { self.succeeded ≤ self.asked }
         ensures asked { result.asked ≡ self.asked + 1 }
-        ensures held { result.held ≡ self.held + cond holds 1 0 }
+        ensures succeeded { result.succeeded ≡ self.succeeded + cond holds 1 0 }
     {
         Tally {
             asked: self.asked + 1,
-            held: self.held + if holds { 1 } else { 0 },
+            succeeded: self.succeeded + if holds { 1 } else { 0 },
         }
     }
 }
@@ -90,33 +90,33 @@ impl Together {
 
 impl Known {
     /// What is known with one more keyword.
-    pub fn with_keyword(self, kind: Kind, passes: bool, held: usize) -> Known
+    pub fn with_keyword(self, kind: Kind, passes: bool, succeeded: usize) -> Known
         ensures valid { result.valid ≡ (self.valid && passes) }
-        ensures condition { result.condition ≡ condition_step kind held self.condition }
-        ensures matching { result.matching ≡ matching_step kind held self.matching }
+        ensures condition { result.condition ≡ condition_step kind succeeded self.condition }
+        ensures matching { result.matching ≡ matching_step kind succeeded self.matching }
     {
         Known {
             valid: self.valid & passes,
-            condition: condition_after(kind, held, self.condition),
-            matching: matching_after(kind, held, self.matching),
+            condition: condition_after(kind, succeeded, self.condition),
+            matching: matching_after(kind, succeeded, self.matching),
         }
     }
 }
 
-fn condition_after(kind: Kind, held: usize, before: Option<bool>) -> Option<bool>
-    ensures { result ≡ condition_step kind held before }
+fn condition_after(kind: Kind, succeeded: usize, before: Option<bool>) -> Option<bool>
+    ensures { result ≡ condition_step kind succeeded before }
 {
     match kind {
-        Kind::If => Some(held == 1),
+        Kind::If => Some(succeeded == 1),
         _ => before,
     }
 }
 
-fn matching_after(kind: Kind, held: usize, before: u64) -> u64
-    ensures { result ≡ matching_step kind held before }
+fn matching_after(kind: Kind, succeeded: usize, before: u64) -> u64
+    ensures { result ≡ matching_step kind succeeded before }
 {
     match kind {
-        Kind::Contains => held as u64,
+        Kind::Contains => succeeded as u64,
         _ => before,
     }
 }

@@ -12,8 +12,8 @@ ghost use Rattle.js_walk.specs.Keywords as table;
 ghost use Rattle.js_walk.specs.Passes.{how_many};
 ghost use Rattle.js_walk.specs.SchemaSet.{Text as Bytes, SchemaSet};
 ghost use Rattle.js_walk.specs.Walk.Visited.{AppliesNone, AreJudged, is_visited};
-ghost use Rattle.js_walk.specs.Walk.Told.{IsKeywordAt, asked_by, accepts_at, keywords_at, kind_at, passes_at, at_name};
-ghost use Rattle.js_walk.specs.Walk.Told.{at_step};
+ghost use Rattle.js_walk.specs.Walk.Progress.{IsKeywordAt, asked_by, accepts_at, keywords_at, kind_at, passes_at};
+ghost use Rattle.js_walk.specs.Walk.Progress.{at_name, at_step};
 
 use crate::keywords::kind::Kind;
 use crate::walking::path::ScopedPath;
@@ -207,7 +207,7 @@ pub trait World {
         requires schema { stands_at self.now place schema }
         requires keyword { IsKeywordAt (schemas self.now) (site self.now place) (keyword_of keyword) }
         ensures { IfOk result (λ b. (verdicts : List Bool) → length verdicts ≡ tally.asked
-            → how_many verdicts ≡ tally.held
+            → how_many verdicts ≡ tally.succeeded
             → b ≡ passes_at (schemas self.now) (site self.now place) (value_of value) matching
             (keyword_of keyword) verdicts) };
 

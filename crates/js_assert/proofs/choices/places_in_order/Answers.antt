@@ -14,6 +14,8 @@ returns c =
     let ds = c.args.docs.now in
     let s = c.sort_unstable_by in
     let all : take l.i ds ≡ ds = take_all l.i ds (search rules) in (
-      s.ensures.sorted (λ i j. is_lt (order (value_in ds i) (value_in ds j))) (ranks_by order-total (value_in ds)) (always_returns_same _ _ _ (λ a r f' k. search rules)),
-      λ v. among_permutation (value_in ds) v l.places.items s.new.self.items s.ensures.permutation ∙ ap (is_among v) (l.invariant.listed ∙ ap (map value_of) all),
+      s.ensures.sorted (λ i j. is_lt (order (value_in ds i) (value_in ds j))) (ranks_by order-total (value_in ds))
+          (always_returns_same _ _ _ (λ a r f' k. search rules)),
+      λ v. among_permutation (value_in ds) v l.places.items s.new.self.items s.ensures.permutation
+          ∙ ap (is_among v) (l.invariant.listed ∙ ap (map value_of) all),
     )

@@ -11,6 +11,8 @@ loop-dependence-preserved c =
     let l = c.loop-dependence in
     let ms = members_of (value_of c.args.value.now) in
     let old = names_seen l.absent.keys in
-    asked_more ms c.args.dependences.now l.dependence-index c.dependence-item.result old (names_seen c.put_absent.new.absent.keys) c.loop-dependence-test.true c.dependence-item.is
-    (sym c.is_member.ensures ∙ c.if-not-is_member.false) (c.in_ok-put_absent.ensures ∙ ap (λ ns. sorted_with old (without ms ns)) c.as_slice.ensures.value)
+    asked_more ms c.args.dependences.now l.dependence-index c.dependence-item.result old
+    (names_seen c.put_absent.new.absent.keys) c.loop-dependence-test.true c.dependence-item.is
+    (sym c.is_member.ensures ∙ c.if-not-is_member.false)
+    (c.in_ok-put_absent.ensures ∙ ap (λ ns. sorted_with old (without ms ns)) c.as_slice.ensures.value)
     ∙ l.invariant

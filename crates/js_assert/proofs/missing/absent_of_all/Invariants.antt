@@ -9,5 +9,6 @@ use Rattle.js_assert.proofs.missing.absent_of_all.Given as goal
 abbrev pub invariant-loop-dependence : goal.invariant-loop-dependence
 invariant-loop-dependence l =
     let ms = members_of (value_of l.value) in
-    sorted_with (names_seen l.absent.keys) (without ms (names_needed ms (map dependence_of (drop l.dependence-index l.dependences))))
+    sorted_with (names_seen l.absent.keys)
+    (without ms (names_needed ms (map dependence_of (drop l.dependence-index l.dependences))))
     ≡ sorted_with [] (without ms (names_needed ms (map dependence_of l.dependences)))

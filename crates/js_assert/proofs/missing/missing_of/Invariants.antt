@@ -9,4 +9,5 @@ use Rattle.js_assert.proofs.missing.missing_of.Given as goal
 abbrev pub invariant-loop-name : goal.invariant-loop-name
 invariant-loop-name l =
     let ms = members_of (value_of l.value) in
-    string_bytes l.text ++ compact_items l.later (items (map text (without ms (drop l.name-index l.names)))) ≡ missing (map text (without ms l.names))
+    string_bytes l.text ++ compact_items l.later (items (map text (without ms (drop l.name-index l.names))))
+    ≡ missing (map text (without ms l.names))

@@ -6,6 +6,7 @@ use Rattle.js_assert.proofs.missing.put_absent.Goals as goal
 
 pub loop-name-preserved : goal.loop-name-preserved
 loop-name-preserved c =
-    absent_more (members_of (value_of c.args.value.now)) c.args.names.now c.loop-name.name-index c.name-item.result c.loop-name.absent.keys c.insert.new.self.keys c.as_str.result c.loop-name-test.true c.name-item.is
+    absent_more (members_of (value_of c.args.value.now)) c.args.names.now c.loop-name.name-index c.name-item.result
+    c.loop-name.absent.keys c.insert.new.self.keys c.as_str.result c.loop-name-test.true c.name-item.is
     (sym c.is_member.ensures ∙ c.if-is_member.false) c.as_str.ensures c.in_ok-insert.ensures.keys
     ∙ c.loop-name.invariant

@@ -8,4 +8,5 @@ use Rattle.js_assert.proofs.missing.put_absent.Given as goal
 abbrev pub invariant-loop-name : goal.invariant-loop-name
 invariant-loop-name l =
     let ms = members_of (value_of l.value) in
-    sorted_with (names_seen l.absent.keys) (without ms (drop l.name-index l.names)) ≡ sorted_with (names_seen l.fn.absent.keys) (without ms l.names)
+    sorted_with (names_seen l.absent.keys) (without ms (drop l.name-index l.names))
+    ≡ sorted_with (names_seen l.fn.absent.keys) (without ms l.names)

@@ -10,4 +10,5 @@ use Rattle.js_assert.proofs.objects.dependent_required.Goals as goal
 pub returns-in-Members : goal.returns-in-Members
 returns-in-Members c =
     let argument = object (members (map dependence_of c.args.dependences.now)) in
-    all_met c.in-Members.members c.args.dependences.now c.meets_all.result c.meets_all.ensures ∙ ap (λ d. says_by argument false (value_of d) 0 DependentRequired) (sym c.in-Members.is)
+    all_met c.in-Members.members c.args.dependences.now c.meets_all.result c.meets_all.ensures
+    ∙ ap (λ d. says_by argument false (value_of d) 0 DependentRequired) (sym c.in-Members.is)

@@ -1,10 +1,11 @@
--- A compiled pattern is plain data: its parts cross threads by `crosses`, whose fact is of a parameter, which says the same
--- of the type. It is too deep for rattle to find this by itself.
+-- A compiled pattern is plain data: its parts cross threads by `crosses`, whose fact is of a parameter, which says the
+-- same of the type. It is too deep for rattle to find this by itself.
 use denote.Exit.{yes}
 use denote.Builtin.{u32, usize}
 use denote.Hole.{as_row}
 use denote.Struct.Field.{row_field, bool-field, usize-field}
 use denote.Param.Send.{sendable, view_send, view_sync}
+use Rattle.std.proofs.Crossing.{Vec-send, Vec-sync}
 use Rattle.std.specs.contracts.alloc.Global as Global
 use Rattle.std.specs.contracts.boxed.Box as Box
 use Rattle.std.specs.contracts.impls.GlobalAllocator.TheImpl.{ghosts}
@@ -31,32 +32,39 @@ record PatternParts (L : Law) : Type 0 where
   config : L.Holds Config.the_row
   names : L.Holds (Vec.the_row (Option.the_row (String.the_row Global.the_row ghosts)) Global.the_row ghosts)
   hir : L.Holds Hir.the_row
+  trees : L.Holds (Vec.the_row Hir.the_row Global.the_row ghosts)
   dfa : L.Holds Dfa.the_row
   plans : L.Holds Plans.the_row
   caseless : L.Holds Caseless.the_row
   owners : L.Holds (Vec.the_row (Vec.the_row u32 Global.the_row ghosts) Global.the_row ghosts)
   first : L.Holds (Option.the_row ByteSet.the_row)
   longest : L.Holds (Option.the_row usize)
-  number : L.Holds u32
+  numbers : L.Holds (Vec.the_row u32 Global.the_row ghosts)
   truth : L.Holds (as_row bool-field)
   shortest : L.Holds (as_row usize-field)
 
 regex : (L : Law) → PatternParts L → L.Holds (Box.the_row Regex.the_row Global.the_row ghosts)
 regex L parts =
-    let trees = L.vec Hir.the_row parts.hir in
-    let signs : L.Holds Signs.the_row = L.fields Signs.the_type (parts.caseless, (L.vec u32 parts.number, (trees, (trees, (parts.owners, tt))))) in
+    let signs : L.Holds Signs.the_row =
+    L.fields Signs.the_type (parts.caseless, (parts.numbers, (parts.trees, (parts.trees, (parts.owners, tt))))) in
     let held = L.field (row_field (Box.the_row Signs.the_row Global.the_row ghosts)) (L.box Signs.the_row signs) in
     let option = L.variants (Option.enum (Box.the_row Signs.the_row Global.the_row ghosts)) (tt, ((held, tt), tt)) in
-    let program : L.Holds Program.the_row = L.fields Program.the_type (parts.hir, (parts.dfa, (parts.plans, (option, (parts.first, (parts.truth, (parts.shortest, (parts.longest, tt)))))))) in
-    let compiled : L.Holds Compiled.the_row = L.fields Compiled.the_type (parts.source, (parts.config, (parts.names, (program, tt)))) in
+    let program : L.Holds Program.the_row = L.fields Program.the_type (
+      parts.hir,
+      (parts.dfa, (parts.plans, (option, (parts.first, (parts.truth, (parts.shortest, (parts.longest, tt))))))),
+    ) in
+    let compiled : L.Holds Compiled.the_row =
+    L.fields Compiled.the_type (parts.source, (parts.config, (parts.names, (program, tt)))) in
     L.box Regex.the_row (L.fields Regex.the_type (compiled, tt))
 
 pub returns-clause-send : goal.returns-clause-send
 returns-clause-send c =
-    let parts : PatternParts sending = search (sendable, c.crosses.ensures.send.owned, c.crosses.ensures.send.leaving yes, c.crosses-2.ensures.send.owned, c.crosses-2.ensures.send.leaving yes, c.crosses-3.ensures.send.owned, c.crosses-3.ensures.send.leaving yes, c.crosses-4.ensures.send.owned, c.crosses-4.ensures.send.leaving yes, c.crosses-5.ensures.send.owned, c.crosses-5.ensures.send.leaving yes, c.crosses-6.ensures.send.owned, c.crosses-6.ensures.send.leaving yes, c.crosses-7.ensures.send.owned, c.crosses-7.ensures.send.leaving yes, c.crosses-8.ensures.send.owned, c.crosses-8.ensures.send.leaving yes, c.crosses-9.ensures.send.owned, c.crosses-9.ensures.send.leaving yes, c.crosses-10.ensures.send.owned, c.crosses-10.ensures.send.leaving yes) in
+    let hir = c.crosses-4.ensures.send in
+    let first = c.crosses-9.ensures.send in
+    let parts : PatternParts sending = search (sendable, Vec-send, hir.leaving yes, first.leaving yes) in
     view_send Inside.the_row _ _ _ _ (sending.fields Inside.the_type (regex sending parts, tt))
 
 pub returns-clause-sync : goal.returns-clause-sync
 returns-clause-sync c =
-    let parts : PatternParts sharing = search (sendable, c.crosses.ensures.sync.shared, c.crosses-2.ensures.sync.shared, c.crosses-3.ensures.sync.shared, c.crosses-4.ensures.sync.shared, c.crosses-5.ensures.sync.shared, c.crosses-6.ensures.sync.shared, c.crosses-7.ensures.sync.shared, c.crosses-8.ensures.sync.shared, c.crosses-9.ensures.sync.shared, c.crosses-10.ensures.sync.shared) in
+    let parts : PatternParts sharing = search (sendable, Vec-sync) in
     view_sync Inside.the_row _ _ _ _ (sharing.fields Inside.the_type (regex sharing parts, tt))

@@ -1,4 +1,5 @@
-use Rattle.std.proofs.Common.{◌≡◌, ◌<◌, ◌+◌, ◌-◌, Bool, true, false, not, drop, length, string_bytes, refl, sym, ap, ◌∙◌, arith}
+use Rattle.std.proofs.Common.{◌≡◌, ◌<◌, ◌+◌, ◌-◌, Bool, true, false, not, drop, length}
+use Rattle.std.proofs.Common.{string_bytes, refl, sym, ap, ◌∙◌, arith}
 use Rattle.js_doc.specs.Compact.{compact}
 use Rattle.js_doc.specs.Seen.{value_of}
 use Rattle.js_assert.proofs.Repeated.{is_key, is_text, texts_more, skipped}
@@ -15,13 +16,15 @@ loop-i-preserved-then-branch c =
     let next : (l.i - 1) + 1 ≡ l.i = omega arith in
     let low : l.i - 1 < length ds = omega arith in
     let absent : is_key l.later.keys (string_bytes c.in_ok-text.field-0) ≡ false =
-    new_from c.in_ok-insert.field-0 (is_key l.later.keys (string_bytes c.in_ok-text.field-0)) c.in_ok-insert.ensures.added c.if-branch.true in
+    new_from c.in_ok-insert.field-0 (is_key l.later.keys (string_bytes c.in_ok-text.field-0))
+    c.in_ok-insert.ensures.added c.if-branch.true in
     let new : is_text (drop l.i ds) (compact (value_of c.index-docs-i.result)) ≡ false =
     ap (is_text (drop l.i ds)) (sym c.in_ok-text.ensures) ∙ sym (l.invariant.texts c.in_ok-text.field-0) ∙ absent in
     record {
       within = l.invariant.within;
       skipped = skipped ds (l.i - 1) l.i c.index-docs-i.result next low c.index-docs-i.is new ∙ l.invariant.skipped;
-      texts = texts_more l.later.keys c.insert.new.self.keys ds (l.i - 1) l.i c.index-docs-i.result c.in_ok-text.field-0 next low c.index-docs-i.is l.invariant.texts c.in_ok-text.ensures c.in_ok-insert.ensures.updates.0;
+      texts = texts_more l.later.keys c.insert.new.self.keys ds (l.i - 1) l.i c.index-docs-i.result c.in_ok-text.field-0
+          next low c.index-docs-i.is l.invariant.texts c.in_ok-text.ensures c.in_ok-insert.ensures.updates.0;
     }
 
 pub loop-i-preserved : goal.loop-i-preserved
@@ -33,5 +36,6 @@ loop-i-preserved c =
     record {
       within = omega arith;
       skipped = refl;
-      texts = texts_more l.later.keys c.insert.new.self.keys ds (l.i - 1) l.i c.index-docs-i.result c.in_ok-text.field-0 next low c.index-docs-i.is l.invariant.texts c.in_ok-text.ensures c.in_ok-insert.ensures.updates.0;
+      texts = texts_more l.later.keys c.insert.new.self.keys ds (l.i - 1) l.i c.index-docs-i.result c.in_ok-text.field-0
+          next low c.index-docs-i.is l.invariant.texts c.in_ok-text.ensures c.in_ok-insert.ensures.updates.0;
     }

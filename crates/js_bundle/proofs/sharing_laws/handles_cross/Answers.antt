@@ -11,4 +11,5 @@ crosses-requires-send-T c κs =
     record { owned = s.owned; leaving = λ k. Quiet-if (k (of_param 0)) _ unseen (s.leaving yes) (λ x w. tt) }
 
 pub crosses-requires-sync-T : goal.crosses-requires-sync-T
-crosses-requires-sync-T c κs = search (sendable, Arc-sync Schemas.the_row c.schemas_cross.ensures.send c.schemas_cross.ensures.sync)
+crosses-requires-sync-T c κs =
+    search (sendable, Arc-sync Schemas.the_row c.schemas_cross.ensures.send c.schemas_cross.ensures.sync)

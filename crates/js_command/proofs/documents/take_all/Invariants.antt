@@ -6,6 +6,6 @@ use Rattle.js_command.proofs.documents.take_all.Given as goal
 
 abbrev pub invariant-loop-document : goal.invariant-loop-document
 invariant-loop-document g l =
-    HoldsSoFar (g.F.Files.held l.initial.files) l.documents l.document-index (documents_taken l.all.items)
-    × RestDecides (g.F.Files.held l.initial.files) l.documents l.document-index
-    × (g.F.Files.held l.files ≡ g.F.Files.held l.initial.files)
+    HoldsSoFar (g.F.Files.contents l.initial.files) l.documents l.document-index (documents_taken l.all.items)
+    × RestDecides (g.F.Files.contents l.initial.files) l.documents l.document-index
+    × (g.F.Files.contents l.files ≡ g.F.Files.contents l.initial.files)

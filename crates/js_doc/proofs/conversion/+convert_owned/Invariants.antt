@@ -9,8 +9,11 @@ use Rattle.js_doc.proofs.conversion.+convert_owned.Given as goal
 
 abbrev pub invariant-convert_owned_items-loop-value : goal.invariant-convert_owned_items-loop-value
 invariant-convert_owned_items-loop-value l =
-    (done : List Value) × (l.fn.values.items ≡ done ++ l.value-iterator.rest.items) × (items_in 0 (items_view done) ≡ Ok (items_seen l.docs.items)) × (length l.docs.items ≡ length done) × (length l.fn.values.items ≤ vec_capacity l.docs)
+    (done : List Value) × (l.fn.values.items ≡ done ++ l.value-iterator.rest.items)
+    × (items_in 0 (items_view done) ≡ Ok (items_seen l.docs.items)) × (length l.docs.items ≡ length done)
+    × (length l.fn.values.items ≤ vec_capacity l.docs)
 
 abbrev pub invariant-convert_owned_members-loop-name : goal.invariant-convert_owned_members-loop-name
 invariant-convert_owned_members-loop-name l =
-    (done : List Entry) × (l.fn.map.entries ≡ done ++ l.name-iterator) × (members_in (members_view done) ≡ Ok (members l.members))
+    (done : List Entry) × (l.fn.map.entries ≡ done ++ l.name-iterator)
+    × (members_in (members_view done) ≡ Ok (members l.members))

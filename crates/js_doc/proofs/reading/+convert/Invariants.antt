@@ -8,8 +8,10 @@ use Rattle.js_doc.proofs.reading.+convert.Given as goal
 
 abbrev pub invariant-convert_items-loop-value : goal.invariant-convert_items-loop-value
 invariant-convert_items-loop-value l =
-    (items_in 0 (items_view (take l.value-index l.value-items)) ≡ Ok (items_seen l.docs.items)) × (length l.docs.items ≡ l.value-index) × (length l.value-items ≤ vec_capacity l.docs)
+    (items_in 0 (items_view (take l.value-index l.value-items)) ≡ Ok (items_seen l.docs.items))
+    × (length l.docs.items ≡ l.value-index) × (length l.value-items ≤ vec_capacity l.docs)
 
 abbrev pub invariant-convert_members-loop-name : goal.invariant-convert_members-loop-name
 invariant-convert_members-loop-name l =
-    (done : List Entry) × (l.map.entries ≡ done ++ l.name-iterator) × (members_in (members_view done) ≡ Ok (members l.members))
+    (done : List Entry) × (l.map.entries ≡ done ++ l.name-iterator)
+    × (members_in (members_view done) ≡ Ok (members l.members))

@@ -12,7 +12,8 @@ returns-clause-pointer c = λ t.
 pub returns-clause-fragment : goal.returns-clause-fragment
 returns-clause-fragment c = λ t.
     let token = c.args.token.now in
-    ap (λ bs. 47 ∷ bs) (all_plain token (sym (c.is_plain.ensures ∙ ap (list_all is_plain) c.as_bytes.ensures.value) ∙ t))
+    ap (λ bs. 47 ∷ bs) (all_plain token
+    (sym (c.is_plain.ensures ∙ ap (list_all is_plain) c.as_bytes.ensures.value) ∙ t))
 
 pub returns-clause-string : goal.returns-clause-string
 returns-clause-string c = λ t.

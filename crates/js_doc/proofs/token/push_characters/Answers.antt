@@ -14,6 +14,8 @@ loop-c-preserved c =
     let slash : c.in-Some.c == 47 ≡ false = search rules in
     let pushed = c.in_ok-push-in_default.ensures.bytes in (
       ap (λ s. s ++ escape left) pushed ∙ append_assoc (string_bytes l.out) (encode c.in-Some.c) (escape left)
-          ∙ ap (λ s. string_bytes l.out ++ s) (sym (ap escape first ∙ escape_encode c.in-Some.c left tilde slash)) ∙ l.invariant.0,
-      grown_to (string_bytes c.args.out.now) (string_bytes l.out) (string_bytes c.push.new.self) (encode c.in-Some.c) l.invariant.1 pushed,
+          ∙ ap (λ s. string_bytes l.out ++ s)
+          (sym (ap escape first ∙ escape_encode c.in-Some.c left tilde slash)) ∙ l.invariant.0,
+      grown_to (string_bytes c.args.out.now) (string_bytes l.out) (string_bytes c.push.new.self)
+          (encode c.in-Some.c) l.invariant.1 pushed,
     )

@@ -12,9 +12,11 @@ loop-piece-preserved c =
     let piece = c.in-Some.piece.now in
     let left = encoded_text c.next.new.self in
     let first : encoded_text l.piece-iterator ≡ piece ++ left = c.in-Some.ensures.steps in (
-      ap (λ s. s ++ escape left) c.in_ok-push_escaped.ensures.ok ∙ append_assoc (string_bytes l.out) (escape piece) (escape left)
+      ap (λ s. s ++ escape left) c.in_ok-push_escaped.ensures.ok
+          ∙ append_assoc (string_bytes l.out) (escape piece) (escape left)
           ∙ ap (λ s. string_bytes l.out ++ s) (sym (ap escape first ∙ escape-append piece left)) ∙ l.invariant.0,
-      then (string_bytes c.args.out.now) (string_bytes l.out) (string_bytes c.push_escaped.new.out) l.invariant.1 c.in_ok-push_escaped.ensures.grows,
+      then (string_bytes c.args.out.now) (string_bytes l.out) (string_bytes c.push_escaped.new.out) l.invariant.1
+          c.in_ok-push_escaped.ensures.grows,
     )
 
 pub returns-clause-ok : goal.returns-clause-ok

@@ -8,5 +8,6 @@ use Rattle.js_doc.proofs.token.push_encoded.Given as goal
 
 abbrev pub invariant-loop-piece : goal.invariant-loop-piece
 invariant-loop-piece l =
-    (string_bytes l.out ++ escape (encoded_text l.piece-iterator) ≡ string_bytes l.initial.out ++ escape (percent_encode ESCAPED l.token))
+    (string_bytes l.out ++ escape (encoded_text l.piece-iterator)
+    ≡ string_bytes l.initial.out ++ escape (percent_encode ESCAPED l.token))
     × Extends (string_bytes l.initial.out) (string_bytes l.out)

@@ -1,4 +1,4 @@
-use Rattle.js_tree.proofs.Telling.{passes-inside}
+use Rattle.js_tree.proofs.EventSequences.{passes-inside}
 use Rattle.js_tree.specs.Events.{events}
 use Rattle.js_rows.specs.declared.rows.RelativeRows.{RelativeRows}
 use Rattle.js_eval.specs.code.Recorded.{AddsRow}

@@ -1,4 +1,4 @@
-use Rattle.js_tree.proofs.Telling.{passes-inside}
+use Rattle.js_tree.proofs.EventSequences.{passes-inside}
 use Rattle.js_tree.specs.Events.{events}
 use Rattle.js_eval.proofs.public_walks.walk_into.Goals as goal
 
@@ -8,5 +8,6 @@ returns-in-Ok-clause-ok g c =
     record {
       result = h.result;
       within = record { is = h.is; stands = h.stands };
-      passes = passes-inside (λ o. o.collector) g.C.Collector.takes (events h.result) _ c.walk_from-done.new.into h.passes;
+      passes = passes-inside (λ o. o.collector) g.C.Collector.takes (events h.result) _
+          c.walk_from-done.new.into h.passes;
     }

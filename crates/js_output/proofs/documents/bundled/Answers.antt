@@ -5,11 +5,14 @@ use Rattle.js_output.proofs.documents.bundled.Goals as goal
 pub returns-in_err-add-clause-err : goal.returns-in_err-add-clause-err
 returns-in_err-add-clause-err c =
     let p = err_from_is_err_and c.from_residual.result c.from_residual.ensures.1 in
-    rw (p.1, p.2) (one_refused c.loop-document.bundle c.loop-document.document-index c.args.docs.now _ c.in_err-add.field-0.0 c.loop-document-test.true c.loop-document.invariant c.in_err-add.ensures.err)
+    rw (p.1, p.2) (one_refused c.loop-document.bundle c.loop-document.document-index c.args.docs.now _
+    c.in_err-add.field-0.0 c.loop-document-test.true c.loop-document.invariant c.in_err-add.ensures.err)
 
 pub loop-document-preserved : goal.loop-document-preserved
 loop-document-preserved c =
-    one_taken c.loop-document.bundle c.add.new.bundle c.loop-document.document-index c.args.docs.now _ c.loop-document-test.true c.loop-document.invariant c.in_ok-add.ensures.ok
+    one_taken c.loop-document.bundle c.add.new.bundle c.loop-document.document-index c.args.docs.now _
+    c.loop-document-test.true c.loop-document.invariant c.in_ok-add.ensures.ok
 
 pub returns-clause-clear : goal.returns-clause-clear
-returns-clause-clear c = taken_clear_all c.loop-document.bundle c.loop-document.document-index c.args.docs.now c.loop-document-test.false c.loop-document.invariant
+returns-clause-clear c = taken_clear_all c.loop-document.bundle c.loop-document.document-index c.args.docs.now
+    c.loop-document-test.false c.loop-document.invariant

@@ -9,4 +9,5 @@ returns-in-Ok-clause-clear c = finish_clear c.args.bundle c.in-Ok.ensures.clear
 
 pub returns-in-Err-clause-err : goal.returns-in-Err-clause-err
 returns-in-Err-clause-err c =
-    subst (FailsBy (bundle_causes c.args.bundle)) (sym c.from.ensures) (finish_fails c.args.bundle c.in-Err.refusal c.in-Err.ensures.refused)
+    subst (FailsBy (bundle_causes c.args.bundle)) (sym c.from.ensures)
+    (finish_fails c.args.bundle c.in-Err.refusal c.in-Err.ensures.refused)

@@ -3,7 +3,7 @@ use Rattle.std.proofs.lemmas.Result.{err_from_is_err_and}
 use Rattle.js_doc.specs.Seen.{value_of}
 use Rattle.js_tree.specs.Form.{form}
 use Rattle.js_bundle.specs.Schemas.{place_at}
-use Rattle.js_output.proofs.Answering.{tells-sent, tells-begun}
+use Rattle.js_output.proofs.Answering.{reports-sent, reports-begun}
 use Rattle.js_output.proofs.judging.judge_value.Goals as goal
 
 pub returns-in_err-write-clause-answer : goal.returns-in_err-write-clause-answer
@@ -12,7 +12,8 @@ returns-in_err-write-clause-answer g c =
     let docs = c.args.schemas.now in
     let format = c.args.format in
     let (t, is, stands, made) = c.in_ok-prepared.ensures.prepared in
-    rw (p.1, p.2) (tells-begun docs (place_at docs c.args.place) (value_of c.args.instance.now) format t is stands g.W.Write.contents c.args.out.now c.write.new.out
+    rw (p.1, p.2) (reports-begun docs (place_at docs c.args.place) (value_of c.args.instance.now) format t is stands
+    g.W.Write.contents c.args.out.now c.write.new.out
     c.in_err-write.field-0.0 (c.in_err-write.ensures.sent t.root.valid (form format t) made))
 
 pub returns-clause-answer : goal.returns-clause-answer
@@ -20,8 +21,10 @@ returns-clause-answer g c =
     let docs = c.args.schemas.now in
     let format = c.args.format in
     let (t, is, stands, made) = c.in_ok-prepared.ensures.prepared in
-    tells-sent docs (place_at docs c.args.place) (value_of c.args.instance.now) format t is stands g.W.Write.contents c.args.out.now c.write.new.out
-    c.root_valid-valid.result (c.root_valid-valid.ensures t.root.valid (form format t) made) (c.in_ok-write.ensures.sent t.root.valid (form format t) made)
+    reports-sent docs (place_at docs c.args.place) (value_of c.args.instance.now) format t is stands g.W.Write.contents
+    c.args.out.now c.write.new.out
+    c.root_valid-valid.result (c.root_valid-valid.ensures t.root.valid (form format t) made)
+    (c.in_ok-write.ensures.sent t.root.valid (form format t) made)
 
 pub returns-clause-nothing : goal.returns-clause-nothing
 returns-clause-nothing g c = search rules

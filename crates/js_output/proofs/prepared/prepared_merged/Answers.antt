@@ -9,7 +9,8 @@ use Rattle.js_output.proofs.prepared.prepared_merged.Goals as goal
 pub returns-then-is_surely_merged-clause-shown : goal.returns-then-is_surely_merged-clause-shown
 returns-then-is_surely_merged-clause-shown c = λ t rows.
     let same = c.is_surely_merged.ensures (kept (pruned t)) rows (kept_normal t) c.if-is_surely_merged.true in
-    subst (λ value. IfOk c.with_room.result (λ s. IsPrepared s t.root.valid value)) (unmerged_form t same) (c.with_room.ensures.shown (kept (pruned t)) rows)
+    subst (λ value. IfOk c.with_room.result (λ s. IsPrepared s t.root.valid value)) (unmerged_form t same)
+    (c.with_room.ensures.shown (kept (pruned t)) rows)
 
 pub returns-clause-shown : goal.returns-clause-shown
 returns-clause-shown c = λ t rows.

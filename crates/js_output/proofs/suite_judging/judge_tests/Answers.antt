@@ -13,13 +13,19 @@ loop-number-preserved c =
     let (done, is, leads) = c.loop-number.invariant in
     let line = c.in_ok-line.line in
     let basis = basis_of c.args.entry.now in
-    let here = subst (λ t. IsLine basis c.args.group c.loop-number.number (test_seen t) line) c.index-tests-number.is c.in_ok-line.ensures in (
+    let here = subst (λ t. IsLine basis c.args.group c.loop-number.number (test_seen t) line) c.index-tests-number.is
+    c.in_ok-line.ensures in (
       done ++ line ∷ [],
       c.in_ok-push.ensures.items ∙ ap (λ ls. ls ++ line ∷ []) is ∙ append_assoc c.args.lines.now.items done (line ∷ []),
-      test_more basis c.args.group c.args.tests.now c.loop-number.number c.index-tests-number.result done line c.loop-number-test.true here leads,
+      test_more basis c.args.group c.args.tests.now c.loop-number.number c.index-tests-number.result done line
+          c.loop-number-test.true here leads,
     )
 
 pub returns : goal.returns
 returns c =
-    let (done, is, leads) = c.loop-number.invariant in
-    (done, is, tests_all (basis_of c.args.entry.now) c.args.group c.args.tests.now c.loop-number.number done c.loop-number-test.false leads)
+    let (done, is, leads) = c.loop-number.invariant in (
+      done,
+      is,
+      tests_all (basis_of c.args.entry.now) c.args.group c.args.tests.now c.loop-number.number done
+          c.loop-number-test.false leads,
+    )

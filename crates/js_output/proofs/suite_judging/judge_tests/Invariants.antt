@@ -9,4 +9,5 @@ use Rattle.js_output.proofs.suite_judging.judge_tests.Given as goal
 abbrev pub invariant-loop-number : goal.invariant-loop-number
 invariant-loop-number l =
     (done : List TestLine) × (l.lines.items ≡ l.initial.lines.items ++ done)
-    × ((rest : List TestLine) → AreTestLines (basis_of l.entry) l.group l.number (tests_seen (drop l.number l.tests)) rest → AreTestLines (basis_of l.entry) l.group 0 (tests_seen l.tests) (done ++ rest))
+    × ((rest : List TestLine) → AreTestLines (basis_of l.entry) l.group l.number (tests_seen (drop l.number l.tests))
+    rest → AreTestLines (basis_of l.entry) l.group 0 (tests_seen l.tests) (done ++ rest))

@@ -7,6 +7,6 @@ use Rattle.js_output.proofs.suite_text.each_test.Given as goal
 -- what was read and what the rest gives are the whole
 abbrev pub invariant-loop-value : goal.invariant-loop-value
 invariant-loop-value l =
-    (length l.tests.items ≡ l.value-index)
-    × (found_map (λ rest. tests_seen l.tests.items ++ rest) (each_in test_in l.value-index (items_view (drop l.value-index l.value-items)))
+    (length l.tests.items ≡ l.value-index) × (found_map (λ rest. tests_seen l.tests.items ++ rest)
+    (each_in test_in l.value-index (items_view (drop l.value-index l.value-items)))
     ≡ each_in test_in 0 (items_view l.values.items))

@@ -21,12 +21,15 @@ decreases-scan_items l = 4 * depth (list (items (map value_of l.schemas.now))) +
 abbrev pub invariant-scan_items-loop-i : goal.invariant-scan_items-loop-i
 invariant-scan_items-loop-i l =
     let at = l.at in
-    SameFront (map site_of l.out.items ++ sites_of_items at.document at.above.now.value at.pointer.now.value l.i (items (map value_of (drop l.i l.schemas))))
-    (map site_of l.initial.out.items ++ sites_of_items at.document at.above.now.value at.pointer.now.value 0 (items (map value_of l.schemas)))
+    SameFront (map site_of l.out.items ++ sites_of_items at.document at.above.now.value at.pointer.now.value l.i
+    (items (map value_of (drop l.i l.schemas))))
+    (map site_of l.initial.out.items
+    ++ sites_of_items at.document at.above.now.value at.pointer.now.value 0 (items (map value_of l.schemas)))
 
 abbrev pub invariant-scan_members-loop-name : goal.invariant-scan_members-loop-name
 invariant-scan_members-loop-name l =
-    let sites = λ (ms : Members). sites_of_members l.role l.at.document l.at.above.now.value l.at.pointer.now.value ms in
+    let sites = λ (ms : Members).
+    sites_of_members l.role l.at.document l.at.above.now.value l.at.pointer.now.value ms in
     IsLoopOver l.initial.name-iterator l.name-iterator (λ es.
     SameFront (map site_of l.out.items ++ sites (members (map pair_of es)))
     (map site_of l.initial.out.items ++ sites (members (map pair_of l.initial.name-iterator))))

@@ -10,8 +10,10 @@ pub siblings_differ-requires : goal.siblings_differ-requires
 siblings_differ-requires t' c =
     let w = c.loop-next.invariant.1 c.requires.0 c.requires.1 in
     let t = tree_there _ _ _ w c.loop-next-test.true c.index-rows-first.is in
-    let size = c.tree_end-next.ensures.size c.index-rows-first.result c.index-rows-first.is in
-    (omega (arith, fewer_inside _ _ c.tree_end-next.result c.loop-next-test.true, c.decreases), (t.below, rows_inside _ _ _ _ _ t size))
+    let size = c.tree_end-next.ensures.size c.index-rows-first.result c.index-rows-first.is in (
+      omega (arith, fewer_inside _ _ c.tree_end-next.result c.loop-next-test.true, c.decreases),
+      (t.below, rows_inside _ _ _ _ _ t size),
+    )
 
 pub loop-next-preserved : goal.loop-next-preserved
 loop-next-preserved t' c =

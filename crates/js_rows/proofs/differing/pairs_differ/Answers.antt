@@ -11,7 +11,8 @@ loop-next-preserved c =
           let w = c.loop-next.invariant.1 f e in
           let t = tree_there _ _ _ w c.loop-next-test.true c.index-rows-first.is in
           let alone = c.stands_alone.ensures t.after (more_at _ _ _ _ _ t size) c.if-not-stands_alone.false in
-          see_next _ _ _ _ w t size (pairs_step (relative_row c.index-rows-first.result).0 t.unit t.below t.after t.unit_is alone),
+          see_next _ _ _ _ w t size
+          (pairs_step (relative_row c.index-rows-first.result).0 t.unit t.below t.after t.unit_is alone),
     )
 
 pub returns : goal.returns

@@ -5,7 +5,8 @@ use Rattle.js_rows.proofs.SiblingsDiffer.{SeesUpTo}
 use Rattle.js_rows.proofs.differing.stands_alone.Given as goal
 
 abbrev pub invariant-loop-next : goal.invariant-loop-next
-invariant-loop-next l = SeesUpTo l.rows l.next (drop l.start l.rows) (none_there (relative_row l.row).0) (none_there (relative_row l.row).0)
+invariant-loop-next l = SeesUpTo l.rows l.next (drop l.start l.rows) (none_there (relative_row l.row).0)
+    (none_there (relative_row l.row).0)
 
 abbrev pub decreases-loop-next : goal.decreases-loop-next
 decreases-loop-next l = length l.rows - l.next

@@ -12,13 +12,17 @@ returns c =
     λ t h.
     let r = relative_tree t in
     let is = c.deref_mut.ensures.value in
-    let marked_rows : AreMarkedRows c.deref_mut.result.now c.as_slice-marks.result.now t.root.valid (whole_of t) = record {
+    let marked_rows : AreMarkedRows c.deref_mut.result.now c.as_slice-marks.result.now t.root.valid
+    (whole_of t) = record {
       rows_are = whole_rows_of c.args.rows t c.deref_mut.result.now is h;
       marks_are = c.as_slice-marks.ensures.value ∙ c.requires.marks t h;
     } in
-    let told = c.in_ok-keep_node.ensures.rows t.root.valid r.root r.below [] [] (none_pending _ c.end-start.result c.end-start.ensures) marked_rows in
-    let rows_are = whole_rows_kept t c.in_ok-kept.kept.items c.keep_node.new.self.kept.items h.located c.in_ok-kept.ensures.items told in
+    let reported = c.in_ok-keep_node.ensures.rows t.root.valid r.root r.below [] []
+    (none_pending _ c.end-start.result c.end-start.ensures) marked_rows in
+    let rows_are = whole_rows_kept t c.in_ok-kept.kept.items c.keep_node.new.self.kept.items h.located
+    c.in_ok-kept.ensures.items reported in
     record {
-      rows_are = ap₂ (λ rs os. record { rows = rs; nodes = os; trims = c.args.rows.trims }) rows_are (ap (λ s. s.nodes) h.rows_are);
+      rows_are = ap₂ (λ rs os. record { rows = rs; nodes = os; trims = c.args.rows.trims }) rows_are
+          (ap (λ s. s.nodes) h.rows_are);
       located = kept_located t h.located;
     }

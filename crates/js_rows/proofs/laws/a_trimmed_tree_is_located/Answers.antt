@@ -1,4 +1,4 @@
-use Rattle.js_rows.proofs.TrimmedTold.{tree_located}
+use Rattle.js_rows.proofs.TrimmedRowsCollected.{tree_located}
 use Rattle.js_rows.proofs.laws.a_trimmed_tree_is_located.Goals as goal
 
 pub returns : goal.returns

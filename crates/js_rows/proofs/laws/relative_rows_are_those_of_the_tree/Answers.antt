@@ -1,4 +1,4 @@
-use Rattle.js_rows.proofs.RelativeTold.{relative_held}
+use Rattle.js_rows.proofs.RelativeRowsCollected.{relative_held}
 use Rattle.js_rows.proofs.laws.relative_rows_are_those_of_the_tree.Goals as goal
 
 pub returns : goal.returns

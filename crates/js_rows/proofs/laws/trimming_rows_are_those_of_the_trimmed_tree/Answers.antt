@@ -1,4 +1,4 @@
-use Rattle.js_rows.proofs.TrimmedTold.{trimmed_held}
+use Rattle.js_rows.proofs.TrimmedRowsCollected.{trimmed_held}
 use Rattle.js_rows.proofs.laws.trimming_rows_are_those_of_the_trimmed_tree.Goals as goal
 
 pub returns : goal.returns

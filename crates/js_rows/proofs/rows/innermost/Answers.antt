@@ -1,5 +1,5 @@
 use Rattle.std.specs.Prelude.{[]}
-use Rattle.js_rows.proofs.RelativeTold.{innermost_is}
+use Rattle.js_rows.proofs.RelativeRowsCollected.{innermost_is}
 use Rattle.js_rows.proofs.rows.innermost.Goals as goal
 
 pub returns-in-Some : goal.returns-in-Some

@@ -10,7 +10,8 @@ use Rattle.js_rows.specs.Relative.{escaped_tree}
 use Rattle.js_rows.specs.RelativeState.{relative_row}
 use Rattle.js_rows.proofs.AddedRows.{fewer_left, still_there}
 use Rattle.js_rows.proofs.EscapedRows.{are_trees, next_tree, still_at}
-use Rattle.js_rows.proofs.PlacedRows.{first_again, node_placed, room_for_rest, rows_of_next, rows_of_one, rows_under, still_entered, take_ends, take_goes_on, take_starts, there_and_back}
+use Rattle.js_rows.proofs.PlacedRows.{first_again, node_placed, room_for_rest, rows_of_next, rows_of_one, rows_under}
+use Rattle.js_rows.proofs.PlacedRows.{still_entered, take_ends, take_goes_on, take_starts, there_and_back}
 use Rattle.js_rows.proofs.RelativeTexts.{back_again, room_for_part, stays_there}
 use Rattle.js_rows.proofs.RoomLeft.{fewer_below, room_below, some_row}
 use Rattle.js_rows.proofs.rows_tree.+take_trees.Goals as goal
@@ -24,7 +25,8 @@ take_tree-take_trees-requires t c =
     let h = rows_of_one rows u below c.requires.2 in
     let some = some_row rows (escaped_tree one) h in
     let x = slice_index_or rows 0 c.index-rows-0.result in
-    let room = room_below c.args.locations.now c.go_to_node.new.self rows x c.requires.3 some (ap (slice_index_or rows 0) c.index-rows-0.is) c.go_to_node.ensures in (
+    let room = room_below c.args.locations.now c.go_to_node.new.self rows x c.requires.3 some
+    (ap (slice_index_or rows 0) c.index-rows-0.is) c.go_to_node.ensures in (
       omega (arith, fewer_below rows some, c.decreases),
       (below, rows_under rows u below h, subst (HasRoom c.go_to_node.new.self) (sym (rest_of rows)) room),
     )
@@ -34,10 +36,14 @@ take_tree-returns-clause-trees t c =
     λ u below k i at e.
     let rows = c.args.rows.now in
     let h = rows_of_one rows u below e in
-    let n = still_entered rows c.take_trees.new.rows (record { root = u; below = below }) c.index-rows-0.result c.index-rows-0-2.result c.args.locations.now c.go_to_node.new.self c.take_trees.new.locations k i h c.index-rows-0.is at c.go_to_node.ensures c.in_ok-below.ensures.back in
-    let told = c.in_ok-below.ensures.trees below (k ++ u.keyword) (i ++ u.instance) n.down (rows_under rows u below h) in
+    let n = still_entered rows c.take_trees.new.rows (record { root = u; below = below }) c.index-rows-0.result
+    c.index-rows-0-2.result c.args.locations.now c.go_to_node.new.self c.take_trees.new.locations k i h
+    c.index-rows-0.is at c.go_to_node.ensures c.in_ok-below.ensures.back in
+    let reported = c.in_ok-below.ensures.trees below (k ++ u.keyword) (i ++ u.instance) n.down
+    (rows_under rows u below h) in
     subst (λ g. OnOk c.add_node.result (forest_of c.add_node.new.trees.items ≡ (forest_of c.args.trees.now.items ⊹ g)))
-    (node_placed k i (slice_index_or (put_mid 1 (length rows - 1) rows c.take_trees.new.rows) 0 c.index-rows-0-2.result) u (forest_of c.in_ok-below.below.items) below n.root told)
+    (node_placed k i (slice_index_or (put_mid 1 (length rows - 1) rows c.take_trees.new.rows) 0 c.index-rows-0-2.result)
+    u (forest_of c.in_ok-below.below.items) below n.root reported)
     (c.add_node.ensures.trees (k ++ u.keyword) u.absolute (i ++ u.instance) n.still n.absolute)
 
 pub take_tree-returns-clause-back : goal.take_tree-returns-clause-back
@@ -50,7 +56,8 @@ take_tree-returns-clause-back t c =
     let y = slice_index_or (put_mid 1 (length rows - 1) rows these) 0 c.index-rows-0-2.result in
     let same : x ≡ y = first_again rows these (length rows - 1) c.index-rows-0.result c.index-rows-0-2.result some in
     on_ok_weaker c.add_node.result
-    (λ up. there_and_back c.args.locations.now c.go_to_node.new.self c.take_trees.new.locations c.add_node.new.locations x y c.go_to_node.ensures c.in_ok-below.ensures.back up same)
+    (λ up. there_and_back c.args.locations.now c.go_to_node.new.self c.take_trees.new.locations
+    c.add_node.new.locations x y c.go_to_node.ensures c.in_ok-below.ensures.back up same)
     c.add_node.ensures.up
 
 pub take_trees-loop-next-init : goal.take_trees-loop-next-init
@@ -73,24 +80,26 @@ take_trees-take_tree-requires t' c =
     let w = l.invariant.3 c.requires.0 c.requires.1 in
     let t = next_tree _ _ _ _ w.1 c.loop-next-test.true c.tree_end-next.ensures.size in
     let size = c.tree_end-next.result - l.next in
-    let room = room_for_part c.args.locations.now l.locations (drop l.next l.rows) 0 size l.invariant.2 l.invariant.1 in
-    (omega (arith, shorter size l.next l.rows, l.auto.rows, c.decreases), (t.unit, t.below, rows_of_next _ _ _ _ t, room))
+    let room = room_for_part c.args.locations.now l.locations (drop l.next l.rows) 0 size
+    l.invariant.2 l.invariant.1 in (
+      omega (arith, shorter size l.next l.rows, l.auto.rows, c.decreases),
+      (t.unit, t.below, rows_of_next _ _ _ _ t, room),
+    )
 
 pub take_trees-loop-next-smaller : goal.take_trees-loop-next-smaller
 take_trees-loop-next-smaller t' c =
-    let w = c.loop-next.invariant.3 c.requires.0 c.requires.1 in
-    fewer_left _ _ _ _ c.take_tree.new.rows (next_tree _ _ _ _ w.1 c.loop-next-test.true c.tree_end-next.ensures.size) c.take_tree.auto.rows
+    let w = c.loop-next.invariant.3 c.requires.0 c.requires.1 in fewer_left _ _ _ _ c.take_tree.new.rows
+    (next_tree _ _ _ _ w.1 c.loop-next-test.true c.tree_end-next.ensures.size) c.take_tree.auto.rows
 
 pub take_trees-loop-next-preserved : goal.take_trees-loop-next-preserved
 take_trees-loop-next-preserved t' c =
-    let l = c.loop-next in
-    let old = c.args.locations.now in
-    let end = c.tree_end-next in
-    let w = l.invariant.3 c.requires.0 c.requires.1 in
-    let there = still_there _ _ _ _ c.take_tree.new.rows (next_tree _ _ _ _ w.1 c.loop-next-test.true c.tree_end-next.ensures.size) c.take_tree.auto.rows in (
+    let l = c.loop-next in let old = c.args.locations.now in let end = c.tree_end-next in
+    let w = l.invariant.3 c.requires.0 c.requires.1 in let there = still_there _ _ _ _ c.take_tree.new.rows
+    (next_tree _ _ _ _ w.1 c.loop-next-test.true c.tree_end-next.ensures.size) c.take_tree.auto.rows in (
       omega (arith, there.count, end.ensures.fits),
       back_again old l.locations c.take_tree.new.locations l.invariant.1 c.in_ok-take_tree.ensures.back,
-      subst (HasRoom old) (sym there.after) (room_for_rest old l.rows l.next end.result (omega (arith, end.ensures.further)) l.invariant.2),
+      subst (HasRoom old) (sym there.after)
+          (room_for_rest old l.rows l.next end.result (omega (arith, end.ensures.further)) l.invariant.2),
       λ f e.
           let w = l.invariant.3 f e in
           let t = next_tree _ _ _ _ w.1 c.loop-next-test.true c.tree_end-next.ensures.size in
@@ -98,15 +107,18 @@ take_trees-loop-next-preserved t' c =
       λ f k i at e.
           let w = l.invariant.4 f k i at e in
           let t = next_tree _ _ _ _ w.left_is c.loop-next-test.true c.tree_end-next.ensures.size in
-          let told = c.in_ok-take_tree.ensures.trees t.unit t.below k i (still_at old l.locations k i at l.invariant.1) (rows_of_next _ _ _ _ t) in
-          take_goes_on k i (forest_of l.trees.items) (forest_of c.take_tree.new.trees.items) l.rows _ l.next f _ w t told there.after,
+          let reported = c.in_ok-take_tree.ensures.trees t.unit t.below k i
+          (still_at old l.locations k i at l.invariant.1) (rows_of_next _ _ _ _ t) in
+          take_goes_on k i (forest_of l.trees.items) (forest_of c.take_tree.new.trees.items) l.rows _ l.next f _ w
+          t reported there.after,
     )
 
 pub take_trees-returns-clause-trees : goal.take_trees-returns-clause-trees
 take_trees-returns-clause-trees t c =
     λ f k i at e.
     let l = c.loop-next in
-    take_ends k i (forest_of l.trees.items) l.rows l.next f (l.invariant.4 f k i at e) (omega (arith, c.loop-next-test.false))
+    take_ends k i (forest_of l.trees.items) l.rows l.next f (l.invariant.4 f k i at e)
+    (omega (arith, c.loop-next-test.false))
 
 pub take_trees-returns-clause-back : goal.take_trees-returns-clause-back
 take_trees-returns-clause-back t c = c.loop-next.invariant.1

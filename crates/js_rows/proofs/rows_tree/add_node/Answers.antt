@@ -10,7 +10,8 @@ returns-clause-trees c =
     λ k a i at is.
     let old = c.args.trees.now.items in
     let h = c.in_ok-head.ensures k a i at is in
-    let moved = with_head c.args.row.now k a i _ _ _ (forest_of c.args.below.items) _ h.0 h.1 h.2 (ap note_of c.replace-note.ensures.value) in
+    let moved = with_head c.args.row.now k a i _ _ _ (forest_of c.args.below.items) _ h.0 h.1 h.2
+    (ap note_of c.replace-note.ensures.value) in
     ap forest_of c.in_ok-push.ensures.items
     ∙ (forest_of-append old (c.of_node.result ∷ [])
     ∙ ap (λ s. forest_of old ⊹ forest_of (s ∷ [])) (c.of_node.ensures ∙ moved))

@@ -9,4 +9,5 @@ returns c =
     let read = c.in-Some-String.text.now in
     c.new-2.ensures
     ∙ (c.in_ok-from_str.ensures.ok
-    ∙ read_back c.args.json.now read text c.next.new.self (sym c.in_ok-reader.ensures.ok ∙ (c.in-Some-String.ensures.value ∙ ap (λ t. token_of t ∷ c.next.new.self) c.in-Some-String.field-0-is)) e)
+    ∙ read_back c.args.json.now read text c.next.new.self (sym c.in_ok-reader.ensures.ok
+    ∙ (c.in-Some-String.ensures.value ∙ ap (λ t. token_of t ∷ c.next.new.self) c.in-Some-String.field-0-is)) e)

@@ -4,4 +4,5 @@ use Rattle.js_tree.specs.Form.{node_value}
 use Rattle.js_tree.proofs.forms.units_doc.Given as goal
 
 abbrev pub invariant-loop-unit : goal.invariant-loop-unit
-invariant-loop-unit l = map value_of l.docs.items ≡ map (λ u. node_value u []) (map (λ unit. unit.now) (take l.unit-index l.units))
+invariant-loop-unit l = map value_of l.docs.items
+    ≡ map (λ u. node_value u []) (map (λ unit. unit.now) (take l.unit-index l.units))

@@ -1,4 +1,4 @@
-use Rattle.js_tree.proofs.BoxedTold.{boxed_closes_all}
+use Rattle.js_tree.proofs.WholeTreeCollected.{boxed_closes_all}
 use Rattle.js_tree.proofs.laws.a_boxed_tree_is_closed.Goals as goal
 
 pub returns : goal.returns

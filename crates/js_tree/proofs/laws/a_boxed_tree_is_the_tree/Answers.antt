@@ -1,4 +1,4 @@
-use Rattle.js_tree.proofs.BoxedTold.{boxed_held}
+use Rattle.js_tree.proofs.WholeTreeCollected.{boxed_held}
 use Rattle.js_tree.proofs.laws.a_boxed_tree_is_the_tree.Goals as goal
 
 pub returns : goal.returns

@@ -1,6 +1,6 @@
 use Rattle.std.proofs.Common.{sym}
 use Rattle.js_tree.specs.OutputUnit.{noted}
-use Rattle.js_tree.proofs.Steps.{step_takes_one}
+use Rattle.js_tree.proofs.Rewrites.{step_takes_one}
 use Rattle.js_tree.proofs.laws.a_step_takes_one_node.Goals as goal
 
 pub returns : goal.returns

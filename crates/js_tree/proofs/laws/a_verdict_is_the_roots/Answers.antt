@@ -1,4 +1,4 @@
-use Rattle.js_tree.proofs.VerdictTold.{verdict_held}
+use Rattle.js_tree.proofs.VerdictCollected.{verdict_held}
 use Rattle.js_tree.proofs.laws.a_verdict_is_the_roots.Goals as goal
 
 pub returns : goal.returns

@@ -1,4 +1,4 @@
-use Rattle.js_tree.proofs.FlatTold.{flat_held}
+use Rattle.js_tree.proofs.FlatFormCollected.{flat_held}
 use Rattle.js_tree.proofs.laws.rows_are_the_flat_form.Goals as goal
 
 pub returns : goal.returns

@@ -8,5 +8,6 @@ returns c =
     let lent = c.location_of.result in
     let whole = lent.0.now ++ lent.1.now in
     let schemas = c.args.schemas.now in
-    let text = c.in_ok-push_fragment_token.ensures.ok ∙ ap (λ t. t ++ fragment_token c.args.keyword.now) c.in_ok-text.ensures in
+    let text = c.in_ok-push_fragment_token.ensures.ok
+    ∙ ap (λ t. t ++ fragment_token c.args.keyword.now) c.in_ok-text.ensures in
     c.new.ensures ∙ keyword_location_is schemas c.args.place c.args.keyword.now whole _ c.location_of.ensures text

@@ -1,4 +1,4 @@
-use Rattle.js_assert.proofs.Listed.{listed_items}
+use Rattle.js_assert.proofs.ListedValues.{listed_items}
 use Rattle.js_walk.proofs.instance.array_in.Goals as goal
 
 pub returns-in-List : goal.returns-in-List

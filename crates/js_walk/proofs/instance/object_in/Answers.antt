@@ -1,4 +1,4 @@
-use Rattle.js_assert.proofs.Listed.{named_members}
+use Rattle.js_assert.proofs.ListedValues.{named_members}
 use Rattle.js_walk.proofs.instance.object_in.Goals as goal
 
 pub returns-in-Members : goal.returns-in-Members

@@ -3,17 +3,19 @@ use Rattle.std.proofs.lemmas.Result.{err_from_is_err_and}
 use Rattle.js_doc.specs.Seen.{value_of}
 use Rattle.js_assert.specs.Keyword.{keyword_named}
 use Rattle.js_assert.specs.declared.keyword.Keyword.TheVariants.{Pattern}
-use Rattle.js_assert.proofs.Named.{fault-by_name, named-pattern}
+use Rattle.js_assert.proofs.KeywordNames.{fault-by_name, named-pattern}
 use Rattle.js_assert.proofs.assertion.Assertion.read.Goals as goal
 
 pub returns-in_default-clause-pattern : goal.returns-in_default-clause-pattern
 returns-in_default-clause-pattern c = λ e.
-    let known : keyword_named c.args.keyword.now ≡ Some Pattern = ap keyword_named e ∙ named-pattern in absurd (cc (known, c.keyword_named.ensures, c.in_default.is))
+    let known : keyword_named c.args.keyword.now ≡ Some Pattern = ap keyword_named e ∙ named-pattern in
+    absurd (cc (known, c.keyword_named.ensures, c.in_default.is))
 
 pub returns-in_err-test-clause-refused : goal.returns-in_err-test-clause-refused
 returns-in_err-test-clause-refused c =
     let p = err_from_is_err_and c.from_residual.result c.from_residual.ensures.1 in
-    rw (p.1, p.2) (fault-by_name c.args.keyword.now (value_of c.args.argument.now) c.in-Some.keyword c.in_err-test.field-0.0 (sym c.in-Some.ensures) c.in_err-test.ensures.refused)
+    rw (p.1, p.2) (fault-by_name c.args.keyword.now (value_of c.args.argument.now) c.in-Some.keyword
+    c.in_err-test.field-0.0 (sym c.in-Some.ensures) c.in_err-test.ensures.refused)
 
 pub returns-clause-pattern : goal.returns-clause-pattern
 returns-clause-pattern c = λ e.

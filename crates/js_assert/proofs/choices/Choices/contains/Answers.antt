@@ -12,6 +12,8 @@ returns c =
     let docs = c.as_slice-docs in
     let ds = docs.result.now in
     let s = c.binary_search_by in
-    let index : IsIndex ds c.deref.result.now = subst₂ IsIndex (sym docs.ensures.value) (sym c.deref.ensures.value) c.self.invariant in
-    c.is_ok.ensures.value ∙ halves (value_in ds) v c.deref.result.now s.result index.0 s.ensures.bound (s.ensures.position (λ y. order (value_in ds y) v) (always_returns_same _ _ _ (λ a r f' k. search rules)))
+    let index : IsIndex ds c.deref.result.now =
+    subst₂ IsIndex (sym docs.ensures.value) (sym c.deref.ensures.value) c.self.invariant in
+    c.is_ok.ensures.value ∙ halves (value_in ds) v c.deref.result.now s.result index.0 s.ensures.bound
+    (s.ensures.position (λ y. order (value_in ds y) v) (always_returns_same _ _ _ (λ a r f' k. search rules)))
     ∙ index.1 v ∙ ap (λ xs. is_among v (map value_of xs)) docs.ensures.value ∙ ap (is_among v) c.self.view_is

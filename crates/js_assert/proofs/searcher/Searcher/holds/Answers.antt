@@ -10,5 +10,6 @@ pub returns-clause-found : goal.returns-clause-found
 returns-clause-found c =
     let text = c.args.text.now in
     let small = All-from_get_or (λ (x : ℕ). x < 256) text 0 (λ i within. omega (arith, c.type_inv.text i)) in
-    c.is_match.ensures.found ∙ (ap (λ re. is_some (find_str re text 0)) (ap matcher_pattern c.deref_mut.ensures.value ∙ c.self.invariant.same)
+    c.is_match.ensures.found ∙ (ap (λ re. is_some (find_str re text 0))
+    (ap matcher_pattern c.deref_mut.ensures.value ∙ c.self.invariant.same)
     ∙ (found_is c.self.inside.regex.now text c.self.invariant.compiled small ∙ ap (λ p. matches p text) c.self.view_is))

@@ -1,40 +1,45 @@
-use Rattle.std.proofs.Common.{◌≡◌, List, [], ◌∷◌, ◌++◌, map, OnOk, IfErr, bytes_eq, codes, if◌then◌else◌, sym, ap, ◌∙◌, subst}
+use Rattle.std.proofs.Common.{◌≡◌, List, [], ◌∷◌, ◌++◌, map, OnOk, IfErr, bytes_eq, codes}
+use Rattle.std.proofs.Common.{if◌then◌else◌, sym, ap, ◌∙◌, subst}
 use Rattle.std.specs.List.{flat_map}
 use Rattle.js_doc.specs.Parts.{members_of}
 use Rattle.js_doc.specs.Seen.{value_of}
 use Rattle.js_doc.specs.Value.{Value, Named, object, members}
 use Rattle.js_doc.proofs.PartLists.{member_list-members}
 use Rattle.js_bundle.specs.AssertionsAndPatterns.{pattern_at}
-use Rattle.js_bundle.specs.Candidate.{Candidate, IsClear, IsStopped}
-use Rattle.js_bundle.specs.Refusals.{at_pattern}
+use Rattle.js_bundle.specs.Candidate.{IsClear, IsStopped}
+use Rattle.js_bundle.specs.Refusals.{at_pattern, name_rules}
 use Rattle.js_places.specs.Keyword.{Text}
 use Rattle.js_places.specs.Resource.{Site}
 use Rattle.js_places.specs.code.Scan.{site_of}
 use Rattle.js_bundle.proofs.check.assertions_and_patterns.read_names.Goals as goal
 
 -- what is made of the members, where the keyword is `patternProperties`
-made_of : {A : Type 0} (f : Named → List A) (k : Text) (v : Value) (ms : Named) → k ≡ codes "patternProperties" → v ≡ object (members ms)
-    → (if bytes_eq k (codes "patternProperties") then f (members_of v) else []) ≡ f ms
-made_of f k v ms is seen =
-    ap (λ name. if bytes_eq name (codes "patternProperties") then f (members_of v) else []) is ∙ ap f (ap members_of seen ∙ member_list-members ms)
+made_of : {A : Type 0} (f : Named → List A) (ms : Named) {k : Text} {v : Value} → k ≡ codes "patternProperties"
+    → v ≡ object (members ms) → f ms ≡ (if bytes_eq k (codes "patternProperties") then f (members_of v) else [])
+made_of f ms {k} {v} is seen =
+    sym (ap (λ name. if bytes_eq name (codes "patternProperties") then f (members_of v) else []) is
+    ∙ ap f (ap members_of seen ∙ member_list-members ms))
 
-abbrev rules : Site → Text → Named → List Candidate
-rules place k ms = flat_map (λ (n : Text × Value). at_pattern place (k ∷ n.0 ∷ []) n.0) ms
+rules_are : (place : Site) (ms : Named) {k : Text} {v : Value} → k ≡ codes "patternProperties"
+    → v ≡ object (members ms)
+    → flat_map (λ (n : Text × Value). at_pattern place (k ∷ n.0 ∷ []) n.0) ms ≡ name_rules place k v
+rules_are place ms {k} is seen =
+    made_of (flat_map (λ (n : Text × Value). at_pattern place (k ∷ n.0 ∷ []) n.0)) ms is seen
 
 pub returns-in-Members-clause-clear : goal.returns-in-Members-clause-clear
 returns-in-Members-clause-clear c =
     subst (λ cs. OnOk c.read_patterns.result (IsClear cs))
-    (sym (made_of (rules (site_of c.args.at.site.now) c.args.at.keyword.now) c.args.at.keyword.now (value_of c.args.argument.now) c.in-Members.members c.in-patternProperties.is (ap value_of c.in-Members.is)))
+    (rules_are (site_of c.args.at.site.now) _ c.in-patternProperties.is (ap value_of c.in-Members.is))
     c.read_patterns.ensures.clear
 
 pub returns-in-Members-clause-built : goal.returns-in-Members-clause-built
 returns-in-Members-clause-built c =
     subst (λ ps. OnOk c.read_patterns.result (c.read_patterns.new.out.items ≡ c.args.out.now.items ++ ps))
-    (sym (made_of (map pattern_at) c.args.at.keyword.now (value_of c.args.argument.now) c.in-Members.members c.in-patternProperties.is (ap value_of c.in-Members.is)))
+    (made_of (map pattern_at) c.in-Members.members c.in-patternProperties.is (ap value_of c.in-Members.is))
     c.read_patterns.ensures.built
 
 pub returns-in-Members-clause-err : goal.returns-in-Members-clause-err
 returns-in-Members-clause-err c =
     subst (λ cs. IfErr c.read_patterns.result (IsStopped cs))
-    (sym (made_of (rules (site_of c.args.at.site.now) c.args.at.keyword.now) c.args.at.keyword.now (value_of c.args.argument.now) c.in-Members.members c.in-patternProperties.is (ap value_of c.in-Members.is)))
+    (rules_are (site_of c.args.at.site.now) _ c.in-patternProperties.is (ap value_of c.in-Members.is))
     c.read_patterns.ensures.err

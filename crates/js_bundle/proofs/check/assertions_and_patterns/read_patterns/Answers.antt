@@ -21,9 +21,13 @@ loop-name-preserved c =
     let rest = map pair_of c.next.new.self in
     record {
       leads = leads_past (flat_map f c.args.members.now) (f (key, v)) (flat_map f rest)
-          (subst (λ es. Leads (flat_map f c.args.members.now) (flat_map f (map pair_of es))) c.in-Some.ensures.steps l.invariant.leads)
-          (subst (λ k. IsClear (at_pattern (site_of c.args.at.site.now) (c.args.at.keyword.now ∷ k ∷ []) k)) c.as_str.ensures.value c.in_ok-pattern.ensures.clear);
-      built = pattern_next l.out.items c.push.new.self.items c.new-copied.result c.in_ok-pattern.pattern key v rest _ c.in_ok-push.ensures.items
+          (subst (λ es. Leads (flat_map f c.args.members.now) (flat_map f (map pair_of es)))
+          c.in-Some.ensures.steps l.invariant.leads)
+          (subst (λ k. IsClear (at_pattern (site_of c.args.at.site.now) (c.args.at.keyword.now ∷ k ∷ []) k))
+          c.as_str.ensures.value c.in_ok-pattern.ensures.clear);
+      built = pattern_next l.out.items c.push.new.self.items c.new-copied.result c.in_ok-pattern.pattern key v rest _
+          c.in_ok-push.ensures.items
           (c.new-copied.ensures ∙ c.in_ok-clone.ensures.cases) (c.in_ok-pattern.ensures.built ∙ c.as_str.ensures.value)
-          (subst (λ es. l.out.items ++ map pattern_at (map pair_of es) ≡ c.args.out.now.items ++ map pattern_at c.args.members.now) c.in-Some.ensures.steps l.invariant.built);
+          (subst (λ es. l.out.items ++ map pattern_at (map pair_of es)
+          ≡ c.args.out.now.items ++ map pattern_at c.args.members.now) c.in-Some.ensures.steps l.invariant.built);
     }

@@ -14,5 +14,6 @@ invariant-loop-name l =
     let f = λ (n : Text × Value). at_pattern (site_of l.at.site.now) (l.at.keyword.now ∷ n.0 ∷ []) n.0 in
     record {
       leads : Leads (flat_map f l.members) (flat_map f (map pair_of l.name-iterator));
-      built : l.out.items ++ map pattern_at (map pair_of l.name-iterator) ≡ l.initial.out.items ++ map pattern_at l.members;
+      built : l.out.items ++ map pattern_at (map pair_of l.name-iterator)
+          ≡ l.initial.out.items ++ map pattern_at l.members;
     }

@@ -15,6 +15,8 @@ invariant-loop-keyword l =
     record {
       stand : StandIn l.members left;
       leads : Leads (flat_map rules l.members) (flat_map rules left);
-      assertions : l.built.assertions.items ++ flat_map (assertion_at l.members) left ≡ l.initial.built.assertions.items ++ flat_map (assertion_at l.members) l.members;
-      patterns : l.built.patterns.items ++ flat_map patterns_of left ≡ l.initial.built.patterns.items ++ flat_map patterns_of l.members;
+      assertions : l.built.assertions.items ++ flat_map (assertion_at l.members) left
+          ≡ l.initial.built.assertions.items ++ flat_map (assertion_at l.members) l.members;
+      patterns : l.built.patterns.items ++ flat_map patterns_of left
+          ≡ l.initial.built.patterns.items ++ flat_map patterns_of l.members;
     }

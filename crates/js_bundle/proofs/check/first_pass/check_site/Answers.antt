@@ -12,4 +12,5 @@ returns-in_err-check_place-clause-err c =
     let before = map site_of c.args.known.sites.now in
     let site = site_of c.args.site.now in
     let p = err_from_is_err_and c.from_residual.result c.from_residual.ensures.1 in
-    rw (p.1, p.2) (stopped_here (at_place before site) (flat_map (at_member before site) (members_of site.schema)) c.in_err-check_place.field-0.0 c.in_err-check_place.ensures.err)
+    rw (p.1, p.2) (stopped_here (at_place before site) (flat_map (at_member before site) (members_of site.schema))
+    c.in_err-check_place.field-0.0 c.in_err-check_place.ensures.err)

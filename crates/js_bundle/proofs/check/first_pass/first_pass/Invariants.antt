@@ -15,8 +15,10 @@ invariant-loop-i l =
     let left = map site_of (drop l.i l.sites) in
     record {
       leads : Leads (first_pass [] all) (first_pass (map site_of (take l.i l.sites)) left);
-      assertions : ArePartsSoFar assertions_at l.sites l.i l.passed.built.all.assertions.items l.passed.built.assertion_ends.items;
-      patterns : ArePartsSoFar patterns_at l.sites l.i l.passed.built.all.patterns.items l.passed.built.pattern_ends.items;
+      assertions : ArePartsSoFar assertions_at l.sites l.i l.passed.built.all.assertions.items
+          l.passed.built.assertion_ends.items;
+      patterns : ArePartsSoFar patterns_at l.sites l.i l.passed.built.all.patterns.items
+          l.passed.built.pattern_ends.items;
       keywords : ArePartsSoFar member_keywords l.sites l.i l.passed.keywords.names.items l.passed.keywords.ends.items;
       positions : ArePositionsSoFar l.sites l.i l.passed.positions;
       before : IsLast (map site_of (take l.i l.sites)) (option_map (λ b. site_of b.now) l.before);

@@ -15,6 +15,7 @@ invariant-loop-i l =
     record {
       leads : Leads (second_pass all) (flat_map (at_references all) (map site_of (drop l.i l.known.sites.now)));
       dynamic : IsSparseList (get nat_eq l.dynamic) (dynamic_at all) (map site_of (take l.i l.known.sites.now));
-      plain : IsSparseList (under_number l.plain.items) (number_of_target all (codes "$ref")) (map site_of (take l.i l.known.sites.now));
+      plain : IsSparseList (under_number l.plain.items) (number_of_target all (codes "$ref"))
+          (map site_of (take l.i l.known.sites.now));
       plain_long : length l.plain.items ≤ l.i;
     }

@@ -10,17 +10,20 @@ returns-in_err-dynamic-clause-err c =
     let p = err_from_is_err_and c.from_residual.result c.from_residual.ensures.1 in
     let all = map site_of c.args.known.sites.now in
     let place = site_of c.args.site.now in
-    rw (p.1, p.2) (stopped_here (at_reference all (codes "$dynamicRef") place) (at_reference all (codes "$ref") place) c.in_err-dynamic.field-0.0 c.in_err-dynamic.ensures.err)
+    rw (p.1, p.2) (stopped_here (at_reference all (codes "$dynamicRef") place) (at_reference all (codes "$ref") place)
+    c.in_err-dynamic.field-0.0 c.in_err-dynamic.ensures.err)
 
 pub returns-in_err-plain-clause-err : goal.returns-in_err-plain-clause-err
 returns-in_err-plain-clause-err c =
     let p = err_from_is_err_and c.from_residual-in_err-plain.result c.from_residual-in_err-plain.ensures.1 in
     let all = map site_of c.args.known.sites.now in
     let place = site_of c.args.site.now in
-    rw (p.1, p.2) (stopped_later (at_reference all (codes "$dynamicRef") place) (at_reference all (codes "$ref") place) c.in_err-plain.field-0.0 c.in_ok-dynamic.ensures.clear c.in_err-plain.ensures.err)
+    rw (p.1, p.2) (stopped_later (at_reference all (codes "$dynamicRef") place) (at_reference all (codes "$ref") place)
+    c.in_err-plain.field-0.0 c.in_ok-dynamic.ensures.clear c.in_err-plain.ensures.err)
 
 pub returns-clause-clear : goal.returns-clause-clear
 returns-clause-clear c =
     let all = map site_of c.args.known.sites.now in
     let place = site_of c.args.site.now in
-    clear_append (at_reference all (codes "$dynamicRef") place) (at_reference all (codes "$ref") place) c.in_ok-dynamic.ensures.clear c.in_ok-plain.ensures.clear
+    clear_append (at_reference all (codes "$dynamicRef") place) (at_reference all (codes "$ref") place)
+    c.in_ok-dynamic.ensures.clear c.in_ok-plain.ensures.clear

@@ -7,5 +7,7 @@ use Rattle.js_bundle.proofs.check.rules.is_taken.Goals as goal
 
 pub returns : goal.returns
 returns c =
-    c.is_some.ensures ∙ ap is_some (c.number_of.ensures ∙ ap (number_of_key c.args.known.index.now.known) c.printed.ensures)
-    ∙ taken_is c.args.known.index.now.known (map site_of c.args.known.sites.now) (printed c.args.uri.now) c.requires.known
+    c.is_some.ensures ∙ ap is_some
+    (c.number_of.ensures ∙ ap (number_of_key c.args.known.index.now.known) c.printed.ensures)
+    ∙ taken_is c.args.known.index.now.known (map site_of c.args.known.sites.now)
+    (printed c.args.uri.now) c.requires.known

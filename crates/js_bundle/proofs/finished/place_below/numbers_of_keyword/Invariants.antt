@@ -4,4 +4,5 @@ use Rattle.js_bundle.specs.code.PlaceBelow.{numbers_of_keyword}
 use Rattle.js_bundle.proofs.finished.place_below.numbers_of_keyword.Given as goal
 
 abbrev pub invariant-loop-held : goal.invariant-loop-held
-invariant-loop-held l = numbers_of_keyword l.keyword (map held_of l.keywords) ≡ numbers_of_keyword l.keyword (map held_of (drop l.held-index l.keywords))
+invariant-loop-held l = numbers_of_keyword l.keyword (map held_of l.keywords)
+    ≡ numbers_of_keyword l.keyword (map held_of (drop l.held-index l.keywords))

@@ -6,5 +6,8 @@ use Rattle.js_bundle.proofs.schemas.Schemas.assertions.Goals as goal
 
 pub returns : goal.returns
 returns c =
-    part_of assertions_at (map document_of c.self.inside.documents.items) c.args.self.now c.self.inside.kept.built.all.assertions.items c.as_slice.result.now c.self.inside.kept.built.assertion_ends.items c.as_slice-2.result.now c.place.inside.number c.args.place
-    c.part_of_place.result.now c.self.view_is c.place.view_is c.self.invariant.assertions c.requires c.as_slice.ensures.value c.as_slice-2.ensures.value c.part_of_place.ensures
+    part_of assertions_at (map document_of c.self.inside.documents.items) c.args.self.now
+    c.self.inside.checked.built.all.assertions.items c.as_slice.result.now
+    c.self.inside.checked.built.assertion_ends.items c.as_slice-2.result.now c.place.inside.number c.args.place
+    c.part_of_place.result.now c.self.view_is c.place.view_is c.self.invariant.assertions c.requires
+    c.as_slice.ensures.value c.as_slice-2.ensures.value c.part_of_place.ensures

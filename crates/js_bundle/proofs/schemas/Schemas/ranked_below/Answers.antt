@@ -11,12 +11,17 @@ use Rattle.js_bundle.proofs.schemas.Schemas.ranked_below.Goals as goal
 pub returns-clause-found : goal.returns-clause-found
 returns-clause-found c =
     let n = c.place.inside.number in
-    finds_ranked (map document_of c.self.inside.documents.items) c.args.self.now c.self.inside.kept.edges.items n c.args.place c.args._keyword.now (step_of c.args._step) c.args.rank (value_of c.args._schema.now) (value_of c.args._held.now)
-    c.args.which c.places_under.result.now c.with_rank.result c.self.view_is c.place.view_is c.self.invariant.read c.self.invariant.edges c.requires.which
-    (c.places_under.ensures ∙ ap (λ es. option_map_or (numbers_of_keyword c.args.which) (slice_get (map edges_of es) n) []) c.as_slice-edges.ensures.value)
+    finds_ranked (map document_of c.self.inside.documents.items) c.args.self.now c.self.inside.checked.edges.items n
+    c.args.place c.args._keyword.now (step_of c.args._step) c.args.rank (value_of c.args._schema.now)
+    (value_of c.args._held.now)
+    c.args.which c.places_under.result.now c.with_rank.result c.self.view_is c.place.view_is c.self.invariant.read
+    c.self.invariant.edges c.requires.which
+    (c.places_under.ensures ∙ ap (λ es. option_map_or (numbers_of_keyword c.args.which) (slice_get (map edges_of es) n)
+    []) c.as_slice-edges.ensures.value)
     c.with_rank.ensures c.requires.schema c.requires.held
 
 pub returns-clause-schema : goal.returns-clause-schema
 returns-clause-schema c =
-    schema_ranked (map document_of c.self.inside.documents.items) c.args.self.now c.self.view_is c.self.invariant.read c.args.place c.args._keyword.now (step_of c.args._step) c.args.rank (value_of c.args._schema.now)
+    schema_ranked (map document_of c.self.inside.documents.items) c.args.self.now c.self.view_is c.self.invariant.read
+    c.args.place c.args._keyword.now (step_of c.args._step) c.args.rank (value_of c.args._schema.now)
     (value_of c.args._held.now) c.with_rank.result c.requires.schema c.requires.held (returns-clause-found c)

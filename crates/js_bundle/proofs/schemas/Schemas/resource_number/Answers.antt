@@ -5,5 +5,7 @@ use Rattle.js_bundle.proofs.schemas.Schemas.resource_number.Goals as goal
 
 pub returns : goal.returns
 returns c =
-    kept_number (map document_of c.self.inside.documents.items) c.args.self.now c.self.inside.kept.resources.numbers.items c.place.inside.number c.args.place c.index.result.now c.self.view_is c.place.view_is
+    kept_number (map document_of c.self.inside.documents.items) c.args.self.now
+    c.self.inside.checked.resources.numbers.items c.place.inside.number c.args.place c.index.result.now
+    c.self.view_is c.place.view_is
     c.self.invariant.resources.numbers c.requires c.index.ensures

@@ -5,4 +5,5 @@ use Rattle.js_bundle.proofs.schemas.Schemas.resources.Given as goal
 
 abbrev pub invariant-loop-number : goal.invariant-loop-number
 invariant-loop-number l =
-    map lent l.resources.items ++ numbered resources_at l.number (drop l.number (sites l.self)) ≡ numbered resources_at 0 (sites l.self)
+    map lent l.resources.items ++ numbered resources_at l.number (drop l.number (sites l.self))
+    ≡ numbered resources_at 0 (sites l.self)

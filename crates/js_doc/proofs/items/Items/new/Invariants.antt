@@ -6,4 +6,5 @@ use Rattle.js_doc.proofs.items.Items.new.Given as goal
 
 abbrev pub invariant-loop-doc : goal.invariant-loop-doc
 invariant-loop-doc l =
-    NamesAscendInItems (items_seen (take l.doc-index l.doc-items)) × AreShortItems (items_seen (take l.doc-index l.doc-items))
+    NamesAscendInItems (items_seen (take l.doc-index l.doc-items))
+    × AreShortItems (items_seen (take l.doc-index l.doc-items))

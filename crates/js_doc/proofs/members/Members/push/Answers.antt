@@ -9,7 +9,8 @@ pub invariant_of-self-2 : goal.invariant_of-self-2
 invariant_of-self-2 c =
     let es = c.self.inside.entries.items in
     let above = subst (IsAboveAll (string_bytes c.args.name)) (sym c.self.view_is) c.requires in
-    let is : map pair_of c.push.new.self.items ≡ put (string_bytes c.args.name) (value_of c.args.value) (map pair_of es) =
+    let is : map pair_of c.push.new.self.items
+    ≡ put (string_bytes c.args.name) (value_of c.args.value) (map pair_of es) =
     ap (map pair_of) c.in_ok-push.ensures.items ∙ put_end c.args.name c.args.value es above in
     lawful_put c.args.name c.args.value es c.push.new.self.items is c.self.invariant c.lawful.ensures
 

@@ -7,5 +7,6 @@ abbrev pub invariant-loop-name : goal.invariant-loop-name
 invariant-loop-name l =
     record {
       can : (goal.iterator-loop-name).can_next l.members × (goal.iterator-loop-name).is_finite l.members;
-      same : filter (λ m. matches l.pattern.text.now m.0) (map pair_of l.members) ≡ filter (λ m. matches l.pattern.text.now m.0) (map pair_of l.initial.members);
+      same : filter (λ m. matches l.pattern.text.now m.0) (map pair_of l.members)
+          ≡ filter (λ m. matches l.pattern.text.now m.0) (map pair_of l.initial.members);
     }

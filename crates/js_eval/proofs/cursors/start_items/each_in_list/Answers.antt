@@ -7,4 +7,5 @@ use Rattle.js_eval.proofs.cursors.start_items.each_in_list.Goals as goal
 
 pub returns-clause-asked : goal.returns-clause-asked
 returns-clause-asked c = λ documents.
-    ap (λ vs. map (λ e. by_keyword documents c.args.start.now.at.now (spec.Index e.0) spec.Alone (instance_of c.args.start.now.value)) (indexed_from 0 vs)) c.array_in.ensures
+    ap (λ vs. map (λ e. by_keyword documents c.args.start.now.at.now (spec.Index e.0) spec.Alone
+    (instance_of c.args.start.now.value)) (indexed_from 0 vs)) c.array_in.ensures

@@ -9,6 +9,12 @@ use Rattle.js_eval.proofs.cursors.start_items.unevaluated_items.Goals as goal
 pub returns-clause-asked : goal.returns-clause-asked
 returns-clause-asked c =
     moved (on_items (λ i. not (among_indexes i c.args.indexes.now))) _ _ _ _ _
-    (ap (map (λ e. record { place = numbered_site c.args.start.now.schemas.now c.held_below-below.result.0; step = spec.Alone; at = spec.Index e.0; value = e.1 }))
-    (except_left c.in_ok-passed_over.passed_over.items c.array-items.result.now (length c.array-items.result.now) c.args.indexes.now refl c.in_ok-passed_over.ensures))
+    (ap (map (λ e. record {
+      place = numbered_site c.args.start.now.schemas.now c.held_below-below.result.0;
+      step = spec.Alone;
+      at = spec.Index e.0;
+      value = e.1;
+    }))
+    (except_left c.in_ok-passed_over.passed_over.items c.array-items.result.now (length c.array-items.result.now)
+    c.args.indexes.now refl c.in_ok-passed_over.ensures))
     c.held_below-below.ensures.site c.array-items.ensures

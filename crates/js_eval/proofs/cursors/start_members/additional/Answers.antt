@@ -11,6 +11,8 @@ pub returns-clause-asked : goal.returns-clause-asked
 returns-clause-asked c =
     let s = c.args.start.now in
     ap (members_asked s.schemas.now) c.in_ok-in_box.ensures ∙ c.on_chosen-cursor.ensures.asked
-    ∙ ap (λ ms. on_members s.schemas.now s.at.now (filter (λ m. not (is_named c.object_at-properties.result m.0 || is_matched c.object_at-patterns.result m.0)) ms)) c.in-Some.ensures
+    ∙ ap (λ ms. on_members s.schemas.now s.at.now (filter (λ m. not (is_named c.object_at-properties.result m.0
+    || is_matched c.object_at-patterns.result m.0)) ms)) c.in-Some.ensures
     ∙ ap (on_members s.schemas.now s.at.now)
-    (additional_by c.object_at-properties.result c.object_at-patterns.result (entries (value_of s.at.now.schema.now)) (entries (instance_of s.value)) c.object_at-properties.ensures c.object_at-patterns.ensures)
+    (additional_by c.object_at-properties.result c.object_at-patterns.result (entries (value_of s.at.now.schema.now))
+    (entries (instance_of s.value)) c.object_at-properties.ensures c.object_at-patterns.ensures)

@@ -10,4 +10,5 @@ pub returns-clause-asked : goal.returns-clause-asked
 returns-clause-asked c =
     let s = c.args.start.now in
     ap (members_asked s.schemas.now) c.in_ok-in_box.ensures ∙ c.on_chosen-cursor.ensures.asked
-    ∙ ap (map (λ m. by_keyword s.schemas.now s.at.now spec.Alone (spec.Name m.0) (text m.0))) (all_chosen _ ∙ c.in-Some.ensures)
+    ∙ ap (map (λ m. by_keyword s.schemas.now s.at.now spec.Alone (spec.Name m.0) (text m.0)))
+    (all_chosen _ ∙ c.in-Some.ensures)

@@ -8,5 +8,6 @@ loop-name-init c = subst (λ keys. HasNames keys []) (sym c.new-set.ensures.empt
 
 pub loop-name-preserved : goal.loop-name-preserved
 loop-name-preserved c =
-    subst (HasNames c.insert.new.set.keys) (sym (texts_more c.args.names.now c.loop-name.name-index _ c.loop-name-test.true))
+    subst (HasNames c.insert.new.set.keys)
+    (sym (texts_more c.args.names.now c.loop-name.name-index _ c.loop-name-test.true))
     (c.in_ok-insert.ensures _ c.loop-name.invariant)

@@ -6,8 +6,11 @@ use Rattle.js_output.proofs.Sending.{sent-none}
 use Rattle.js_output.proofs.prepared.Prepared.write.Goals as goal
 
 pub returns-then-failed-clause-sent : goal.returns-then-failed-clause-sent
-returns-then-failed-clause-sent g c = λ valid value is.
-    (refl, sent-none g.W.Write.contents c.args.out.now (compact value ++ 10 ∷ []) (sym c.failed.ensures ∙ c.if-failed.true))
+returns-then-failed-clause-sent g c = λ valid value is. (
+  refl,
+  sent-none g.W.Write.contents c.args.out.now (compact value ++ 10 ∷ [])
+      (sym c.failed.ensures ∙ c.if-failed.true),
+)
 
 pub returns-in_err-put_line-clause-sent : goal.returns-in_err-put_line-clause-sent
 returns-in_err-put_line-clause-sent g c = λ valid value is.

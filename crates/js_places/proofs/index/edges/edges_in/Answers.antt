@@ -10,5 +10,7 @@ loop-number-preserved c =
     let l = c.loop-number in
     let old = l.edges.items in
     let new = c.link_schema.new.edges.items in
-    document_edges c.args.documents.now l.number c.index-documents-number.result old new (edges_from 0 (map document_of c.args.documents.now)) (omega arith) c.index-documents-number.is
-    (subst (λ d. map edges_of new ≡ map edges_of old ++ edges_at (length old) (value_of d.root)) (sym c.index-documents-number.is) c.in_ok-link_schema.ensures) l.invariant
+    document_edges c.args.documents.now l.number c.index-documents-number.result old new
+    (edges_from 0 (map document_of c.args.documents.now)) (omega arith) c.index-documents-number.is
+    (subst (λ d. map edges_of new ≡ map edges_of old ++ edges_at (length old) (value_of d.root))
+    (sym c.index-documents-number.is) c.in_ok-link_schema.ensures) l.invariant

@@ -5,4 +5,5 @@ use Rattle.js_places.proofs.index.edges.edges_in.Given as goal
 
 abbrev pub invariant-loop-number : goal.invariant-loop-number
 invariant-loop-number l =
-    map edges_of l.edges.items ++ edges_from (length l.edges.items) (map document_of (drop l.number l.documents)) ≡ edges_from 0 (map document_of l.documents)
+    map edges_of l.edges.items ++ edges_from (length l.edges.items) (map document_of (drop l.number l.documents))
+    ≡ edges_from 0 (map document_of l.documents)

@@ -12,7 +12,10 @@ pub returns-clause-ok : goal.returns-clause-ok
 returns-clause-ok c =
     let all = map site_of c.args.sites.now in
     let index = c.args.index.now in
-    let root = c.root_named-root.ensures ∙ ap (λ u. option_map standing (find (is_known_as u) all)) (c.printed.ensures ∙ ap printed c.in_ok-bare.ensures) in
-    IfOk-weaker c.number_by_fragment.result (λ n. n ≡ number_under index c.root_named-root.result c.as_slice.result.now) (λ n. n ≡ number_named all c.args.uri)
-    (λ n e. e ∙ ap (number_under index c.root_named-root.result) (c.as_slice.ensures.value ∙ c.in_ok-fragment.ensures) ∙ named_found index all c.args.uri c.root_named-root.result c.requires root)
+    let root = c.root_named-root.ensures ∙ ap (λ u. option_map standing (find (is_known_as u) all))
+    (c.printed.ensures ∙ ap printed c.in_ok-bare.ensures) in
+    IfOk-weaker c.number_by_fragment.result (λ n. n ≡ number_under index c.root_named-root.result c.as_slice.result.now)
+    (λ n. n ≡ number_named all c.args.uri)
+    (λ n e. e ∙ ap (number_under index c.root_named-root.result) (c.as_slice.ensures.value ∙ c.in_ok-fragment.ensures)
+    ∙ named_found index all c.args.uri c.root_named-root.result c.requires root)
     c.number_by_fragment.ensures.ok

@@ -6,4 +6,5 @@ pub returns-in-Ok : goal.returns-in-Ok
 returns-in-Ok c = tokens_read c.args.text.now c.in-Ok.pointer c.in-Ok.ensures.reads
 
 pub returns-in-Err-BadPointer : goal.returns-in-Err-BadPointer
-returns-in-Err-BadPointer c = no_tokens_read c.args.text.now (c.parse.ensures.bad (c.in-Err-BadPointer.is ∙ ap Err c.in-Err-BadPointer.field-0-is))
+returns-in-Err-BadPointer c = no_tokens_read c.args.text.now
+    (c.parse.ensures.bad (c.in-Err-BadPointer.is ∙ ap Err c.in-Err-BadPointer.field-0-is))

@@ -26,7 +26,8 @@ invariant-keep_trees-loop-next l =
     × StaysPending l.fn.self l.self
     × ((v : Bool) (f : Forest OutputUnit) → AreMarkedRows l.fn.rows l.marks v f
     → (left : Forest OutputUnit) × AreRowsOfTrees (drop l.next l.rows) left × (drop l.next l.marks ≡ marked v left))
-    × ((v : Bool) (f : Forest OutputUnit) (keyword instance : List ℕ) → IsPending l.fn.self.between l.fn.self.start keyword instance → AreMarkedRows l.fn.rows l.marks v f
+    × ((v : Bool) (f : Forest OutputUnit) (keyword instance : List ℕ)
+    → IsPending l.fn.self.between l.fn.self.start keyword instance → AreMarkedRows l.fn.rows l.marks v f
     → LeftToAdd v keyword instance l.fn.self.kept.items l.self.kept.items l.rows l.marks l.next f)
 
 abbrev pub decreases-keep_trees-loop-next : goal.decreases-keep_trees-loop-next

@@ -7,4 +7,5 @@ pub returns : goal.returns
 returns g c =
     λ k i at.
     let o = g.O.Out.progress in
-    subst (λ l. Puts (o c.args.out.now) (o c.put_from.new.out) l c.put_from.result) (from_mark c.as_slice.result.now i k c.args.valid (c.as_slice.ensures.value ∙ at.instance_is)) (c.put_from.ensures k i at)
+    subst (λ l. Puts (o c.args.out.now) (o c.put_from.new.out) l c.put_from.result) (from_mark c.as_slice.result.now i k
+    c.args.valid (c.as_slice.ensures.value ∙ at.instance_is)) (c.put_from.ensures k i at)

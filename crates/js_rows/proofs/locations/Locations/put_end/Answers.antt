@@ -12,5 +12,6 @@ returns g c =
     let o = g.O.Out.progress in
     let rest = keyword_start ++ (escape k ++ 34 ∷ valid_text c.args.valid) in
     let found = c.args.self.now.instance.items in
-    let is = ap (λ l. l ++ rest) (c.behind.ensures ∙ ap (drop 1) c.as_slice.ensures.value) ∙ behind_mark found i k c.args.valid at.instance_is in
+    let is = ap (λ l. l ++ rest) (c.behind.ensures ∙ ap (drop 1) c.as_slice.ensures.value)
+    ∙ behind_mark found i k c.args.valid at.instance_is in
     subst (λ l. Puts (o c.args.out.now) (o c.put_from.new.out) l c.put_from.result) is (c.put_from.ensures k i at)

@@ -10,7 +10,8 @@ invariant_of-self c =
     let s = c.args.schema.now in
     let old = c.args.self.now in
     let text = c.add_location.new.text in
-    let is : text.items ≡ schema_start ++ (s ++ 47 ∷ []) = c.add_location.ensures.items ∙ ap (λ l. l ++ (s ++ 47 ∷ [])) (c.truncate.ensures.items ∙ start_left old.text.items old.shape) in
+    let is : text.items ≡ schema_start ++ (s ++ 47 ∷ []) = c.add_location.ensures.items
+    ∙ ap (λ l. l ++ (s ++ 47 ∷ [])) (c.truncate.ensures.items ∙ start_left old.text.items old.shape) in
     let plain = nothing_escaped s (sym c.stand_as_they_are.ensures ∙ c.if-not-stand_as_they_are.false) in
     record {
       shape = shape_is text.items s is;

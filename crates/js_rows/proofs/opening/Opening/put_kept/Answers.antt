@@ -9,4 +9,6 @@ returns g c =
     let kept = c.args.self.now in
     let cut = c.from_comma-text.result.now in
     let put = c.to_slash.result.now in
-    subst (λ l. Puts (o c.args.out.now) (o c.put.new.self) l c.put.result) (written c.args.later c.args.slash kept.text.items cut put kept.shape (λ rest e. c.from_comma-text.ensures rest (c.as_slice.ensures.value ∙ e)) c.to_slash.ensures) c.put.ensures
+    subst (λ l. Puts (o c.args.out.now) (o c.put.new.self) l c.put.result)
+    (written c.args.later c.args.slash kept.text.items cut put kept.shape
+    (λ rest e. c.from_comma-text.ensures rest (c.as_slice.ensures.value ∙ e)) c.to_slash.ensures) c.put.ensures

@@ -6,10 +6,21 @@ use Rattle.js_rows.proofs.rows.RelativeRows.add_leaf.Goals as goal
 
 pub returns-then-goes : goal.returns-then-goes
 returns-then-goes c = λ keyword instance t.
-    leaf_goes c.args.self.now keyword c.args.schema.now c.args.name.now instance c.args.valid (note_of c.args.note) t c.if-goes.ensures
+    leaf_goes c.args.self.now keyword c.args.schema.now c.args.name.now instance c.args.valid
+    (note_of c.args.note) t c.if-goes.ensures
 
 pub returns : goal.returns
 returns c = λ keyword instance t.
-    leaf_stays c.args.self.now _ _ keyword c.args.schema.now c.args.name.now instance c.args.valid (note_of c.args.note) t c.requires c.if-goes.ensures
+    leaf_stays c.args.self.now _ _ keyword c.args.schema.now c.args.name.now instance c.args.valid (note_of c.args.note)
+    t c.requires c.if-goes.ensures
     c.in_ok-push.ensures.items refl refl
-    (ap (λ text. (record { valid = c.args.valid; keyword = 47 ∷ text; absolute = escape c.args.schema.now ++ 47 ∷ text; instance = []; note = note_of c.args.note }, 1)) c.as_bytes-name.ensures.value)
+    (ap (λ text. (
+      record {
+        valid = c.args.valid;
+        keyword = 47 ∷ text;
+        absolute = escape c.args.schema.now ++ 47 ∷ text;
+        instance = [];
+        note = note_of c.args.note;
+      },
+      1,
+    )) c.as_bytes-name.ensures.value)

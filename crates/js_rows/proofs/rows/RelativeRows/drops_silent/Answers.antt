@@ -14,7 +14,8 @@ returns-then-len-lt-MOST c = λ shallow.
       | then-self w ↦ (
           let is = w.value-is in
           let rows = w.len.ensures in
-          drops_silent c.args.self.now w.if-self.true (grind (arith, nat_tests, rows_len, rows, is, few)) (grind (arith, nat_tests, nodes_len, nodes, shallow)))
+          drops_silent c.args.self.now w.if-self.true (grind (arith, nat_tests, rows_len, rows, is, few))
+          (grind (arith, nat_tests, nodes_len, nodes, shallow)))
       | else-self w ↦ (
           let is = w.value-is in
           let keeps = w.if-self.false in

@@ -9,7 +9,8 @@ abbrev pub decreases-list_trees : goal.decreases-list_trees
 decreases-list_trees g l = 2 * length l.rows.now + 1
 
 abbrev pub invariant-list_trees-loop-next : goal.invariant-list_trees-loop-next
-invariant-list_trees-loop-next g l = ListsUpTo (g.O.Out.progress l.fn.out) (g.O.Out.progress l.out) l.fn.later l.later l.verdict l.rows l.next l.fn.self.locations l.self.locations
+invariant-list_trees-loop-next g l = ListsUpTo (g.O.Out.progress l.fn.out) (g.O.Out.progress l.out) l.fn.later l.later
+    l.verdict l.rows l.next l.fn.self.locations l.self.locations
 
 abbrev pub decreases-list_trees-loop-next : goal.decreases-list_trees-loop-next
 decreases-list_trees-loop-next g l = length l.rows - l.next

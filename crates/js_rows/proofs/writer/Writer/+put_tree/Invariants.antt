@@ -25,7 +25,9 @@ invariant-put_trees-loop-next g l =
     × ((f : Forest OutputUnit) → AreRowsOfTrees l.rows f
     → (left : Forest OutputUnit) × AreRowsOfTrees (drop l.next l.rows) left
     × ((keyword instance : List ℕ) → AreAt l.fn.self.locations keyword instance
-    → LeftToPass (g.O.Out.progress l.fn.out) (g.O.Out.progress l.out) l.fn.self.gathered.text.items l.self.gathered.text.items (values_text l.later (node_values (placed keyword instance left))) (values_text false (node_values (placed keyword instance f)))))
+    → LeftToPass (g.O.Out.progress l.fn.out) (g.O.Out.progress l.out) l.fn.self.gathered.text.items
+    l.self.gathered.text.items (values_text l.later (node_values (placed keyword instance left)))
+    (values_text false (node_values (placed keyword instance f)))))
 
 abbrev pub decreases-put_trees-loop-next : goal.decreases-put_trees-loop-next
 decreases-put_trees-loop-next g l = length l.rows - l.next

@@ -21,5 +21,8 @@ loop-left-preserved c =
     let l = c.loop-left in
     let x = c.index-rows-next.result in
     let g = l.invariant.1 c.requires.trees.0 c.requires.trees.1 in
-    let t = first_tree row_of c.args.rows.now l.next g.0 x g.1 (omega arith) c.index-rows-next.is in
-    (omega (arith, t.fits), λ f e. let g = l.invariant.1 f e in goes_on c.args.rows.now l.next l.left c.args.count f g.0 x g.1 (omega arith) c.index-rows-next.is (omega arith) g.2)
+    let t = first_tree row_of c.args.rows.now l.next g.0 x g.1 (omega arith) c.index-rows-next.is in (
+      omega (arith, t.fits),
+      λ f e. let g = l.invariant.1 f e in goes_on c.args.rows.now l.next l.left c.args.count f g.0
+          x g.1 (omega arith) c.index-rows-next.is (omega arith) g.2,
+    )

@@ -10,7 +10,8 @@ abbrev pub invariant-loop-left : goal.invariant-loop-left
 invariant-loop-left l =
     (l.next ≤ length l.rows)
     × ((f : Forest OutputUnit) → map row_of (drop l.first l.rows) ≡ flat_of f
-    → (g : Forest OutputUnit) × (map row_of (drop l.next l.rows) ≡ flat_of g) × (ends_after l.left g ≡ ends_after l.count f))
+    → (g : Forest OutputUnit) × (map row_of (drop l.next l.rows) ≡ flat_of g)
+    × (ends_after l.left g ≡ ends_after l.count f))
 
 abbrev pub decreases-loop-left : goal.decreases-loop-left
 decreases-loop-left l = l.left

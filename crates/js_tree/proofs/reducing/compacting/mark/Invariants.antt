@@ -10,5 +10,6 @@ use Rattle.js_tree.proofs.reducing.compacting.mark.Given as goal
 abbrev pub invariant-loop-i : goal.invariant-loop-i
 invariant-loop-i l = record {
   same : map row_of l.rows ≡ map row_of l.initial.rows;
-  marked : (f : Forest OutputUnit) → map row_of l.initial.rows ≡ flat_of f → drop l.i l.rows ≡ marked_rows l.keep (from l.i f);
+  marked : (f : Forest OutputUnit) → map row_of l.initial.rows ≡ flat_of f
+      → drop l.i l.rows ≡ marked_rows l.keep (from l.i f);
 }

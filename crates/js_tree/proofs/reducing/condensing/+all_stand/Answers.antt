@@ -4,5 +4,6 @@ use Rattle.js_tree.proofs.reducing.condensing.+all_stand.Goals as goal
 
 pub all_stand-requires : goal.all_stand-requires
 all_stand-requires t c =
-    let fewer = fewer_children c.args.trees.now c.loop-tree.tree-index c.tree-item.result c.tree.inside.unit _ _ c.as_slice.ensures (c.tree.view_is ∙ c.tree-item.is) (omega arith) in
+    let fewer = fewer_children c.args.trees.now c.loop-tree.tree-index c.tree-item.result c.tree.inside.unit _ _
+    c.as_slice.ensures (c.tree.view_is ∙ c.tree-item.is) (omega arith) in
     (omega (arith, fewer, c.decreases), tt)

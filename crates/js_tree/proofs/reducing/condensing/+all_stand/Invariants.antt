@@ -1,7 +1,7 @@
 use Rattle.std.proofs.Common.{◌≡◌, drop}
 use Rattle.js_tree.specs.Forest.{forest_of, node_count}
 use Rattle.js_tree.specs.OutputUnit.{noted}
-use Rattle.js_tree.specs.Step.{all_stand}
+use Rattle.js_tree.specs.Rewrite.{all_stand}
 use Rattle.js_tree.proofs.reducing.condensing.+all_stand.Given as goal
 
 abbrev pub decreases-all_stand : goal.decreases-all_stand

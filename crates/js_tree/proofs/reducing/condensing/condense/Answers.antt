@@ -10,7 +10,8 @@ pub returns : goal.returns
 returns c =
     let t = c.args.tree in
     let u : Rose Unit = record { root = c.condensed.inside.unit; below = forest_of c.reduce_children.new.children } in
-    let e : u ≡ kept t = ap (λ f. record { root = c.condensed.inside.unit; below = f }) c.reduce_children.ensures ∙ ap kept c.condensed.view_is in
+    let e : u ≡ kept t = ap (λ f. record { root = c.condensed.inside.unit; below = f }) c.reduce_children.ensures
+    ∙ ap kept c.condensed.view_is in
     record {
       kept = e;
       normal = rw (ap (λ v. v.below) e) (kept_is_normal noted t.below);

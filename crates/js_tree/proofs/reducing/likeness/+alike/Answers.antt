@@ -5,8 +5,8 @@ use Rattle.js_tree.proofs.Forests.{fewer_nodes}
 use Rattle.js_tree.proofs.AlikeTrees.{other_length}
 use Rattle.js_tree.proofs.reducing.likeness.+alike.Goals as goal
 
-pub all_alike-returns-then-a-b : goal.all_alike-returns-then-a-b
-all_alike-returns-then-a-b t c = sym (other_length same_but_keyword c.args.a.now c.args.b.now c.if-a-b.true)
+pub all_alike-returns-then-count-b : goal.all_alike-returns-then-count-b
+all_alike-returns-then-count-b t c = sym (other_length same_but_keyword c.args.a.now c.args.b.now c.if-count-b.true)
 
 pub are_alike-all_alike-requires : goal.are_alike-all_alike-requires
 are_alike-all_alike-requires t c =
@@ -17,5 +17,6 @@ are_alike-all_alike-requires t c =
 pub all_alike-are_alike-requires : goal.all_alike-are_alike-requires
 all_alike-are_alike-requires t c =
     let h : c.loop-i.i < length c.args.a.now = omega arith in
-    let e : node_count c.index-a-i.result.below ≡ node_count (get_or c.args.a.now c.loop-i.i c.index-a-i.result).below = ap (λ t. node_count t.below) c.index-a-i.is in
+    let e : node_count c.index-a-i.result.below ≡ node_count (get_or c.args.a.now c.loop-i.i c.index-a-i.result).below =
+    ap (λ t. node_count t.below) c.index-a-i.is in
     (omega (arith, e, fewer_nodes c.args.a.now c.loop-i.i c.index-a-i.result h, c.decreases), tt)

@@ -11,4 +11,5 @@ abbrev pub decreases-all_alike : goal.decreases-all_alike
 decreases-all_alike l = 2 * node_count (forest_of l.a.now)
 
 abbrev pub invariant-all_alike-loop-i : goal.invariant-all_alike-loop-i
-invariant-all_alike-loop-i l = alike same_but_keyword (forest_of l.a) (forest_of l.b) ≡ alike same_but_keyword (forest_of (drop l.i l.a)) (forest_of (drop l.i l.b))
+invariant-all_alike-loop-i l = alike same_but_keyword (forest_of l.a) (forest_of l.b)
+    ≡ alike same_but_keyword (forest_of (drop l.i l.a)) (forest_of (drop l.i l.b))

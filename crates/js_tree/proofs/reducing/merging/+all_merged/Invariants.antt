@@ -9,4 +9,5 @@ abbrev pub decreases-all_merged : goal.decreases-all_merged
 decreases-all_merged l = node_count (forest_of l.trees.now)
 
 abbrev pub invariant-loop-tree : goal.invariant-loop-tree
-invariant-loop-tree l = all_merged noted same_but_keyword (forest_of l.trees) ≡ all_merged noted same_but_keyword (forest_of (drop l.tree-index l.trees))
+invariant-loop-tree l = all_merged noted same_but_keyword (forest_of l.trees)
+    ≡ all_merged noted same_but_keyword (forest_of (drop l.tree-index l.trees))

@@ -13,5 +13,6 @@ pub returns : goal.returns
 unfolding tests
 returns c =
     let f = c.args.tree.now.below in
-    let e : c.are_merged.result ≡ tests f = c.are_merged.ensures ∙ ap (λ ts. tests (forest_of ts)) c.as_slice.ensures ∙ ap (λ t. tests t.below) c.tree.view_is in
+    let e : c.are_merged.result ≡ tests f = c.are_merged.ensures ∙ ap (λ ts. tests (forest_of ts)) c.as_slice.ensures
+    ∙ ap (λ t. tests t.below) c.tree.view_is in
     (λ h. tests_normal noted same_but_keyword f (sym e ∙ h), λ n. e ∙ normal_tests noted same_but_keyword f n)

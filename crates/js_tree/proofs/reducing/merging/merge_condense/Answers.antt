@@ -14,12 +14,14 @@ pub returns : goal.returns
 returns c =
     let t = c.args.tree in
     let u : ResultTree = record { root = c.whole.inside.unit; below = forest_of c.reduce_children.new.children } in
-    let e : u ≡ merged t = ap (λ f. record { root = c.whole.inside.unit; below = f }) c.reduce_children.ensures ∙ ap merged c.whole.view_is in
+    let e : u ≡ merged t = ap (λ f. record { root = c.whole.inside.unit; below = f }) c.reduce_children.ensures
+    ∙ ap merged c.whole.view_is in
     record {
       merged = e;
       normal = subst NormalOfThree (sym e) (merged_is_normal t);
       reached = subst (RunOfThree t) (sym e) (merged_is_reached t);
       once = ap merged e ∙ merged-merged t ∙ sym e;
       units = subst (λ v. Sublist (units v) (units t)) (sym e) (merged_sublist noted same_but_keyword t);
-      none_lost = ap (λ v. none_lost same_but_keyword (units v) (units t)) e ∙ merged_lost noted same_but_keyword same_but_keyword_equiv same_notes t;
+      none_lost = ap (λ v. none_lost same_but_keyword (units v) (units t)) e
+          ∙ merged_lost noted same_but_keyword same_but_keyword_equiv same_notes t;
     }

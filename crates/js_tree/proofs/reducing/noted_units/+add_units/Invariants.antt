@@ -8,4 +8,5 @@ abbrev pub decreases-add_units : goal.decreases-add_units
 decreases-add_units l = node_count (forest_of l.trees.now)
 
 abbrev pub invariant-loop-tree : goal.invariant-loop-tree
-invariant-loop-tree l = map (λ unit. unit.now) l.found.items ++ units_below noted (forest_of (drop l.tree-index l.trees)) ≡ map (λ unit. unit.now) l.initial.found.items ++ units_below noted (forest_of l.trees)
+invariant-loop-tree l = map (λ unit. unit.now) l.found.items ++ units_below noted (forest_of
+    (drop l.tree-index l.trees)) ≡ map (λ unit. unit.now) l.initial.found.items ++ units_below noted (forest_of l.trees)

@@ -10,4 +10,5 @@ abbrev pub decreases-compare_all : goal.decreases-compare_all
 decreases-compare_all l = 2 * node_count (forest_of l.a.now)
 
 abbrev pub invariant-compare_all-loop-tree : goal.invariant-compare_all-loop-tree
-invariant-compare_all-loop-tree l = forest_order (forest_of l.a) (forest_of l.b) ≡ forest_order (forest_of (drop l.tree-index l.a)) (forest_of l.others.rest.now)
+invariant-compare_all-loop-tree l = forest_order (forest_of l.a) (forest_of l.b)
+    ≡ forest_order (forest_of (drop l.tree-index l.a)) (forest_of l.others.rest.now)

@@ -29,15 +29,19 @@ reduce_all-loop-i-preserved t c =
 pub reduce_one-returns-then-drops : goal.reduce_one-returns-then-drops
 reduce_one-returns-then-drops t c =
     ap (λ v. left_of_each c.args.reduction (node v.root v.below empty)) (sym c.tree.view_is)
-    ∙ one_drops c.args.reduction c.tree.inside.unit (forest_of c.tree.inside.children) (sym c.drops.ensures ∙ c.if-drops.true)
+    ∙ one_drops c.args.reduction c.tree.inside.unit (forest_of c.tree.inside.children)
+    (sym c.drops.ensures ∙ c.if-drops.true)
 
 pub reduce_one-returns-then-not-lifts : goal.reduce_one-returns-then-not-lifts
 reduce_one-returns-then-not-lifts t c =
     ap (λ v. left_of_each c.args.reduction (node v.root v.below empty)) (sym c.tree.view_is)
-    ∙ one_stands c.args.reduction c.tree.inside.unit (forest_of c.tree.inside.children) (forest_of c.reduce_children.new.children) (sym c.drops.ensures ∙ c.if-drops.false) (sym c.lifts.ensures ∙ c.if-not-lifts.true) c.reduce_children.ensures
+    ∙ one_stands c.args.reduction c.tree.inside.unit (forest_of c.tree.inside.children)
+    (forest_of c.reduce_children.new.children) (sym c.drops.ensures ∙ c.if-drops.false)
+    (sym c.lifts.ensures ∙ c.if-not-lifts.true) c.reduce_children.ensures
 
 pub reduce_one-returns : goal.reduce_one-returns
 reduce_one-returns t c =
     ap (λ v. left_of_each c.args.reduction (node v.root v.below empty)) (sym c.tree.view_is)
-    ∙ (one_lifts c.args.reduction c.tree.inside.unit (forest_of c.tree.inside.children) (forest_of c.reduce_children.new.children) (sym c.lifts.ensures ∙ c.if-not-lifts.false) c.reduce_children.ensures
+    ∙ (one_lifts c.args.reduction c.tree.inside.unit (forest_of c.tree.inside.children) (forest_of
+    c.reduce_children.new.children) (sym c.lifts.ensures ∙ c.if-not-lifts.false) c.reduce_children.ensures
     ∙ c.lift.ensures)

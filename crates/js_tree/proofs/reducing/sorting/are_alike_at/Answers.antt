@@ -6,4 +6,5 @@ pub returns-then-next-trees : goal.returns-then-next-trees
 returns-then-next-trees c = λ h.
     let p : c.args.place < c.args.next = omega arith in
     let l : c.args.next < length c.args.trees.now = omega arith in
-    alike_again c.args.trees.now c.args.place c.args.next c.index-trees-place.result c.index-trees-next.result c.are_alike.result p l c.index-trees-place.is c.index-trees-next.is c.are_alike.ensures h
+    alike_again c.args.trees.now c.args.place c.args.next c.index-trees-place.result c.index-trees-next.result
+    c.are_alike.result p l c.index-trees-place.is c.index-trees-next.is c.are_alike.ensures h

@@ -7,8 +7,11 @@ use Rattle.js_tree.proofs.writing.format_text.put_flag.Goals as goal
 
 pub returns-then-valid : goal.returns-then-valid
 returns-then-valid g c =
-    subst (λ bytes. Puts (g.O.Out.progress c.args.out.now) (g.O.Out.progress c.put.new.self) bytes c.put.result) (valid_text ∙ ap (λ valid. compact (flag valid)) (sym c.if-valid.true)) c.put.ensures
+    subst (λ bytes. Puts (g.O.Out.progress c.args.out.now) (g.O.Out.progress c.put.new.self) bytes c.put.result)
+    (valid_text ∙ ap (λ valid. compact (flag valid)) (sym c.if-valid.true)) c.put.ensures
 
 pub returns-else-valid : goal.returns-else-valid
 returns-else-valid g c =
-    subst (λ bytes. Puts (g.O.Out.progress c.args.out.now) (g.O.Out.progress c.put-else-valid.new.self) bytes c.put-else-valid.result) (invalid_text ∙ ap (λ valid. compact (flag valid)) (sym c.if-valid.false)) c.put-else-valid.ensures
+    subst (λ bytes. Puts (g.O.Out.progress c.args.out.now) (g.O.Out.progress c.put-else-valid.new.self) bytes
+    c.put-else-valid.result) (invalid_text ∙ ap (λ valid. compact (flag valid)) (sym c.if-valid.false))
+    c.put-else-valid.ensures

@@ -12,5 +12,6 @@ pub returns : goal.returns
 returns g c =
     let o = g.O.Out.progress in
     let r = c.put_list_start.result in
-    subst (λ l. Puts (o c.args.out.now) (o c.put_list_start.new.out) (head_text c.args.unit.now ++ l) r) (ap (λ u. children_start u.note u.valid) c.unit.view_is)
+    subst (λ l. Puts (o c.args.out.now) (o c.put_list_start.new.out) (head_text c.args.unit.now ++ l) r)
+    (ap (λ u. children_start u.note u.valid) c.unit.view_is)
     (then_puts _ _ _ _ _ r c.in_ok-put_head.ensures c.put_list_start.ensures)

@@ -6,4 +6,6 @@ use Rattle.js_tree.proofs.writing.node_text.put_indexes.Given as goal
 
 abbrev pub invariant-loop-index : goal.invariant-loop-index
 invariant-loop-index g l =
-    Wrote (g.O.Out.progress l.fn.out) (g.O.Out.progress l.out) (compact_items l.later (items (map (λ index. whole (pos index)) (drop l.index-index l.indexes)))) (l.start ++ compact_items false (items (map (λ index. whole (pos index)) l.indexes)))
+    Wrote (g.O.Out.progress l.fn.out) (g.O.Out.progress l.out)
+    (compact_items l.later (items (map (λ index. whole (pos index)) (drop l.index-index l.indexes))))
+    (l.start ++ compact_items false (items (map (λ index. whole (pos index)) l.indexes)))

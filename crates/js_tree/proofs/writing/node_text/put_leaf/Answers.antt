@@ -16,7 +16,8 @@ pub returns-in_err-put_error : goal.returns-in_err-put_error
 returns-in_err-put_error g c =
     let o = g.O.Out.progress in
     let r = c.from_residual-in_err-put_error.result in
-    subst (λ l. Puts (o c.args.out.now) (o c.put_error.new.out) l r) (leaf_text_is c.args.unit.now (note_of c.unit.inside.note) (ap (λ u. u.note) c.unit.view_is))
+    subst (λ l. Puts (o c.args.out.now) (o c.put_error.new.out) l r)
+    (leaf_text_is c.args.unit.now (note_of c.unit.inside.note) (ap (λ u. u.note) c.unit.view_is))
     (then_puts _ _ _ _ _ r c.in_ok-put_head.ensures
     (stops_in _ _ _ _ r c.from_residual-in_err-put_error.ensures.0 c.in_err-put_error.ensures))
 
@@ -24,6 +25,7 @@ pub returns : goal.returns
 returns g c =
     let o = g.O.Out.progress in
     let r = c.put_tail.result in
-    subst (λ l. Puts (o c.args.out.now) (o c.put_tail.new.out) l r) (leaf_text_is c.args.unit.now (note_of c.unit.inside.note) (ap (λ u. u.note) c.unit.view_is))
+    subst (λ l. Puts (o c.args.out.now) (o c.put_tail.new.out) l r)
+    (leaf_text_is c.args.unit.now (note_of c.unit.inside.note) (ap (λ u. u.note) c.unit.view_is))
     (then_puts _ _ _ _ _ r c.in_ok-put_head.ensures
     (then_puts _ _ _ _ _ r c.in_ok-put_error.ensures c.put_tail.ensures))

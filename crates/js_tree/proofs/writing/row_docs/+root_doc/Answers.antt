@@ -15,8 +15,10 @@ root_doc-returns t c =
     let u = c.index-rows-0.result.unit in
     IfOk-weaker c.node_doc.result _ _
     (λ doc p t' e.
-    p ∙ (ap (node_value u) (c.in_ok-children.ensures t'.below (ap (map row_of) (rest_of rows) ∙ rows_below row_of rows t' e))
-    ∙ ap (λ u. node_value u (node_values t'.below)) (root_row row_of rows t' c.index-rows-0.result e c.index-rows-0.is)))
+    p ∙ (ap (node_value u) (c.in_ok-children.ensures t'.below
+    (ap (map row_of) (rest_of rows) ∙ rows_below row_of rows t' e))
+    ∙ ap (λ u. node_value u (node_values t'.below))
+    (root_row row_of rows t' c.index-rows-0.result e c.index-rows-0.is)))
     c.node_doc.ensures
 
 pub root_docs-overflow_add-end : goal.root_docs-overflow_add-end
@@ -49,13 +51,16 @@ root_docs-loop-next-preserved t' c =
     let l = c.loop-next in
     let docs = l.docs.items in
     let doc = c.in_ok-root_doc.field-0 in
-    next_done row_of c.args.rows.now l.next c.index-rows-next.result (λ f left. map value_of docs ++ node_values left ≡ node_values f)
-    (λ f left. map value_of c.push.new.self.items ++ node_values left ≡ node_values f) c.requires l.invariant c.loop-next-test.true c.index-rows-next.is
+    next_done row_of c.args.rows.now l.next c.index-rows-next.result
+    (λ f left. map value_of docs ++ node_values left ≡ node_values f)
+    (λ f left. map value_of c.push.new.self.items ++ node_values left ≡ node_values f) c.requires l.invariant
+    c.loop-next-test.true c.index-rows-next.is
     (λ f left t w.
     ap (λ ds. map value_of ds ++ node_values t.after) c.in_ok-push.ensures.items
     ∙ (ap (λ vs. vs ++ node_values t.after) (map-append value_of docs (doc ∷ []))
     ∙ (append_assoc (map value_of docs) (value_of doc ∷ []) (node_values t.after)
-    ∙ (ap (λ v. map value_of docs ++ v ∷ node_values t.after) (c.in_ok-root_doc.ensures _ (slice_of_first row_of _ _ _ _ t))
+    ∙ (ap (λ v. map value_of docs ++ v ∷ node_values t.after)
+    (c.in_ok-root_doc.ensures _ (slice_of_first row_of _ _ _ _ t))
     ∙ (ap (λ vs. map value_of docs ++ vs) (sym (ap node_values t.is)) ∙ w)))))
 
 pub root_docs-returns : goal.root_docs-returns

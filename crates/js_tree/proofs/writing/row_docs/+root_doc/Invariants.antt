@@ -11,9 +11,9 @@ decreases-root_doc l = 2 * length l.rows.now
 abbrev pub decreases-root_docs : goal.decreases-root_docs
 decreases-root_docs l = 2 * length l.rows.now + 1
 
+abbrev pub decreases-root_docs-loop-next : goal.decreases-root_docs-loop-next
+decreases-root_docs-loop-next l = length l.rows - l.next
+
 abbrev pub invariant-root_docs-loop-next : goal.invariant-root_docs-loop-next
 invariant-root_docs-loop-next l =
     TreesLeft row_of l.rows l.next (λ f left. map value_of l.docs.items ++ node_values left ≡ node_values f)
-
-abbrev pub decreases-root_docs-loop-next : goal.decreases-root_docs-loop-next
-decreases-root_docs-loop-next l = length l.rows - l.next

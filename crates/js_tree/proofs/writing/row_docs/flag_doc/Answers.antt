@@ -7,4 +7,5 @@ use Rattle.js_tree.proofs.writing.row_docs.flag_doc.Goals as goal
 
 pub returns : goal.returns
 returns c =
-    IfOk-weaker c.flag.result _ _ (λ doc p t e. p ∙ ap (λ u. flag u.valid) (c.root.view_is ∙ root_row row_of c.args.rows.now t c.index-rows-0.result e c.index-rows-0.is)) c.flag.ensures
+    IfOk-weaker c.flag.result _ _ (λ doc p t e. p ∙ ap (λ u. flag u.valid)
+    (c.root.view_is ∙ root_row row_of c.args.rows.now t c.index-rows-0.result e c.index-rows-0.is)) c.flag.ensures

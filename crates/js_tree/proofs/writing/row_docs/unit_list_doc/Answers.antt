@@ -15,6 +15,8 @@ returns c =
     let v = c.root.inside.valid in
     IfOk-weaker c.units_doc.result _ _
     (λ doc p t e.
-    p ∙ (ap (λ us. list_value v (map (λ u. node_value u []) us)) (ap (map (λ unit. unit.now)) c.as_slice.ensures.value ∙ (c.in_ok-noted.ensures ∙ (ap noted_of e ∙ noted_of-flat_form t)))
-    ∙ ap (λ u. list_value u.valid (map (λ u. node_value u []) (units t))) (c.root.view_is ∙ root_row row_of rows t c.index-rows-0.result e c.index-rows-0.is)))
+    p ∙ (ap (λ us. list_value v (map (λ u. node_value u []) us)) (ap (map (λ unit. unit.now)) c.as_slice.ensures.value
+    ∙ (c.in_ok-noted.ensures ∙ (ap noted_of e ∙ noted_of-flat_form t)))
+    ∙ ap (λ u. list_value u.valid (map (λ u. node_value u []) (units t)))
+    (c.root.view_is ∙ root_row row_of rows t c.index-rows-0.result e c.index-rows-0.is)))
     c.units_doc.ensures

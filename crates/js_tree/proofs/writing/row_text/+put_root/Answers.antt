@@ -18,8 +18,10 @@ put_root-returns-then-is_empty g t c =
     let u = c.index-rows-0.result.unit in
     let below = rest_below row_of rows t' e in
     let r = c.put_leaf.result in
-    subst (λ u. Puts (o c.args.out.now) (o c.put_leaf.new.out) (compact (node_value u (node_values t'.below))) r) (root_row row_of rows t' c.index-rows-0.result e c.index-rows-0.is)
-    (subst (λ l. Puts (o c.args.out.now) (o c.put_leaf.new.out) l r) (row_leaf_text row_of u _ t'.below (is_none (length (take (length rows - 1) (drop 1 rows))) c.if-is_empty.ensures) below)
+    subst (λ u. Puts (o c.args.out.now) (o c.put_leaf.new.out) (compact (node_value u (node_values t'.below))) r)
+    (root_row row_of rows t' c.index-rows-0.result e c.index-rows-0.is)
+    (subst (λ l. Puts (o c.args.out.now) (o c.put_leaf.new.out) l r) (row_leaf_text row_of u _ t'.below
+    (is_none (length (take (length rows - 1) (drop 1 rows))) c.if-is_empty.ensures) below)
     c.put_leaf.ensures)
 
 pub put_root-returns-in_err-put_front : goal.put_root-returns-in_err-put_front
@@ -100,8 +102,10 @@ put_roots-loop-next-preserved g t c =
     let o = g.O.Out.progress in
     let l = c.loop-next in
     next_done row_of c.args.rows.now l.next c.index-rows-next.result (WroteTrees (o c.args.out.now) (o l.out) l.later)
-    (WroteTrees (o c.args.out.now) (o c.put_root.new.out) c.put_comma.new.later) c.requires l.invariant c.loop-next-test.true c.index-rows-next.is
-    (λ f left t w. item_goes _ _ _ _ _ _ _ (node_values t.after) _ _ w (ap node_values t.is) c.in_ok-put_comma.ensures.comma c.in_ok-put_comma.ensures.later
+    (WroteTrees (o c.args.out.now) (o c.put_root.new.out) c.put_comma.new.later) c.requires l.invariant
+    c.loop-next-test.true c.index-rows-next.is
+    (λ f left t w. item_goes _ _ _ _ _ _ _ (node_values t.after) _ _ w (ap node_values t.is)
+    c.in_ok-put_comma.ensures.comma c.in_ok-put_comma.ensures.later
     (c.in_ok-put_root.ensures _ (slice_of_first row_of _ _ _ _ t)))
 
 pub put_roots-returns : goal.put_roots-returns

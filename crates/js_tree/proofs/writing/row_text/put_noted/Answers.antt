@@ -32,7 +32,8 @@ pub loop-row-preserved : goal.loop-row-preserved
 loop-row-preserved g c =
     let speaks = sym c.is_noted.ensures ∙ c.if-not-is_noted.false in
     let next = leaf_next row_of c.args.rows.now _ _ c.loop-row-test.true c.row-item.is speaks in
-    item_goes _ _ _ _ _ _ _ _ _ _ c.loop-row.invariant next c.in_ok-put_comma.ensures.comma c.in_ok-put_comma.ensures.later c.in_ok-put_leaf.ensures
+    item_goes _ _ _ _ _ _ _ _ _ _ c.loop-row.invariant next c.in_ok-put_comma.ensures.comma
+    c.in_ok-put_comma.ensures.later c.in_ok-put_leaf.ensures
 
 pub returns : goal.returns
 returns g c =

@@ -8,4 +8,6 @@ use Rattle.js_tree.proofs.writing.row_text.put_noted.Given as goal
 
 abbrev pub invariant-loop-row : goal.invariant-loop-row
 invariant-loop-row g l =
-    Wrote (g.O.Out.progress l.fn.out) (g.O.Out.progress l.out) (compact_items l.later (items (map (λ u. node_value u []) (noted_of (map row_of (drop l.row-index l.rows)))))) (compact_items false (items (map (λ u. node_value u []) (noted_of (map row_of l.rows)))))
+    Wrote (g.O.Out.progress l.fn.out) (g.O.Out.progress l.out)
+    (compact_items l.later (items (map (λ u. node_value u []) (noted_of (map row_of (drop l.row-index l.rows))))))
+    (compact_items false (items (map (λ u. node_value u []) (noted_of (map row_of l.rows)))))

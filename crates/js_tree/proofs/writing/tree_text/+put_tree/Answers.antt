@@ -16,8 +16,10 @@ put_tree-returns-then-is_empty g t c =
     let ts = c.as_slice-children.result.now in
     let r = c.put_leaf.result in
     subst (λ t. Puts (o c.args.out.now) (o c.put_leaf.new.out) (compact (verbose t)) r) c.tree.view_is
-    (subst (λ us. Puts (o c.args.out.now) (o c.put_leaf.new.out) (compact (node_value c.tree.inside.unit (node_values (forest_of us)))) r) c.as_slice-children.ensures
-    (subst (λ l. Puts (o c.args.out.now) (o c.put_leaf.new.out) l r) (leaf_text c.tree.inside.unit ts (is_none (length ts) c.if-is_empty.ensures)) c.put_leaf.ensures))
+    (subst (λ us. Puts (o c.args.out.now) (o c.put_leaf.new.out)
+    (compact (node_value c.tree.inside.unit (node_values (forest_of us)))) r) c.as_slice-children.ensures
+    (subst (λ l. Puts (o c.args.out.now) (o c.put_leaf.new.out) l r)
+    (leaf_text c.tree.inside.unit ts (is_none (length ts) c.if-is_empty.ensures)) c.put_leaf.ensures))
 
 pub put_tree-returns-in_err-put_front : goal.put_tree-returns-in_err-put_front
 put_tree-returns-in_err-put_front g t c =
@@ -56,7 +58,8 @@ put_trees-put_tree-requires g t c κs within =
     let l = c.loop-tree in
     let ts = c.args.trees.now in
     let h : l.tree-index < length ts = c.loop-tree-test.true in
-    let e : node_count c.tree-item.result.below ≡ node_count (get_or ts l.tree-index c.tree-item.result).below = ap (λ t. node_count t.below) c.tree-item.is in
+    let e : node_count c.tree-item.result.below
+    ≡ node_count (get_or ts l.tree-index c.tree-item.result).below = ap (λ t. node_count t.below) c.tree-item.is in
     (omega (arith, e, fewer_nodes ts l.tree-index c.tree-item.result h, c.decreases), within)
 
 pub put_trees-returns-in_err-put_tree : goal.put_trees-returns-in_err-put_tree
@@ -70,7 +73,8 @@ pub put_trees-loop-tree-preserved : goal.put_trees-loop-tree-preserved
 put_trees-loop-tree-preserved g t c =
     let l = c.loop-tree in
     let next = tree_next c.args.trees.now l.tree-index _ c.loop-tree-test.true c.tree-item.is in
-    item_goes _ _ _ _ _ _ _ _ _ _ l.invariant next c.in_ok-put_comma.ensures.comma c.in_ok-put_comma.ensures.later c.in_ok-put_tree.ensures
+    item_goes _ _ _ _ _ _ _ _ _ _ l.invariant next c.in_ok-put_comma.ensures.comma c.in_ok-put_comma.ensures.later
+    c.in_ok-put_tree.ensures
 
 pub put_trees-returns : goal.put_trees-returns
 put_trees-returns g t c =

@@ -14,4 +14,5 @@ decreases-put_trees g l = 2 * node_count (forest_of l.trees.now)
 
 abbrev pub invariant-put_trees-loop-tree : goal.invariant-put_trees-loop-tree
 invariant-put_trees-loop-tree g l =
-    Wrote (g.O.Out.progress l.fn.out) (g.O.Out.progress l.out) (compact_items l.later (items (node_values (forest_of (drop l.tree-index l.trees))))) (compact_items false (items (node_values (forest_of l.trees))))
+    Wrote (g.O.Out.progress l.fn.out) (g.O.Out.progress l.out) (compact_items l.later (items (node_values
+    (forest_of (drop l.tree-index l.trees))))) (compact_items false (items (node_values (forest_of l.trees))))

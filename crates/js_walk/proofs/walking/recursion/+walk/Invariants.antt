@@ -1,9 +1,9 @@
 use Rattle.std.proofs.Common.{◌≡◌, ◌++◌, ◌∷◌, [], ◌+◌, ◌*◌, ◌-◌, ◌<◌, ◌≤◌, length, map}
-use Rattle.js_walk.specs.Walk.Scope.{HasGrown}
-use Rattle.js_walk.specs.Walk.Told.{IsWayRestored}
+use Rattle.js_walk.specs.Walk.DynamicScope.{HasGrown}
+use Rattle.js_walk.specs.Walk.Progress.{IsStateRestored}
 use Rattle.js_walk.specs.Walk.Visited.{AreTogether}
 use Rattle.js_walk.proofs.Recursion.Each.{EachSoFar}
-use Rattle.js_walk.proofs.Recursion.NodeTelling.{KeywordsLoop}
+use Rattle.js_walk.proofs.Recursion.KeywordByKeyword.{KeywordsLoop}
 use Rattle.js_walk.proofs.walking.recursion.+walk.Given as goal
 
 abbrev pub decreases-applications : goal.decreases-applications
@@ -24,12 +24,16 @@ decreases-applied_node g l = 5 * l.depth + 1
 abbrev pub invariant-applications-each : goal.invariant-applications-each
 invariant-applications-each g l =
     record {
-      so : EachSoFar (g.W.World.schemas l.world) l.depth (map (g.W.World.site l.world) l.fn.way.path) l.kind g.R.Reporter.takes (g.W.World.asked l.world l.fn.asking) (g.W.World.asked l.world l.asking) l.tally.asked l.tally.held
-          (map g.W.World.text_of l.fn.way.names.items) (map g.W.World.text_of l.way.names.items) l.fn.way.indexes.items l.way.indexes.items l.fn.way.left l.way.left l.fn.way.keyword l.fn.way.instance l.fn.into l.into;
-      back : IsWayRestored l.fn.way l.way;
+      so : EachSoFar (g.W.World.schemas l.world) l.depth (map (g.W.World.site l.world) l.fn.state.path) l.kind
+          g.R.Reporter.takes (g.W.World.asked l.world l.fn.asking) (g.W.World.asked l.world l.asking)
+          l.tally.asked l.tally.succeeded
+          (map g.W.World.text_of l.fn.state.names.items) (map g.W.World.text_of l.state.names.items)
+          l.fn.state.indexes.items l.state.indexes.items l.fn.state.left l.state.left l.fn.state.keyword
+          l.fn.state.instance l.fn.into l.into;
+      back : IsStateRestored l.fn.state l.state;
       asking : g.W.World.is_asking l.world l.asking;
-      few : l.tally.asked + l.way.left ≤ l.fn.way.left;
-      held : l.tally.held ≤ l.tally.asked;
+      few : l.tally.asked + l.state.left ≤ l.fn.state.left;
+      succeeded : l.tally.succeeded ≤ l.tally.asked;
     }
 
 abbrev pub decreases-applications-each : goal.decreases-applications-each
@@ -38,14 +42,19 @@ decreases-applications-each g l = length (g.W.World.asked l.world l.asking)
 abbrev pub invariant-node-keywords : goal.invariant-node-keywords
 invariant-node-keywords g l =
     record {
-      loop : KeywordsLoop (g.W.World.schemas l.world) (l.depth - 1) (map (g.W.World.site l.world) l.fn.way.path) (g.W.World.site l.world l.place) (g.W.World.value_of l.value) l.quiet g.R.Reporter.takes (g.W.World.listed l.judging.keywords) l.judging.known.valid l.judging.known.condition l.judging.known.matching
-          (map g.W.World.text_of l.fn.way.names.items) (map g.W.World.text_of l.way.names.items) l.fn.way.indexes.items l.way.indexes.items l.fn.way.left l.way.left l.fn.way.keyword l.fn.way.instance l.fn.into l.into;
-      path : l.way.path ≡ l.fn.way.path ++ l.place ∷ [];
-      scope : HasGrown l.fn.way.scope (g.W.World.resource l.world l.place) l.way.scope;
-      keyword : l.way.keyword ≡ l.fn.way.keyword;
-      instance : l.way.instance ≡ l.fn.way.instance;
-      falls : l.way.left < l.fn.way.left;
-      together : AreTogether (g.W.World.schemas l.world) (g.W.World.site l.world l.place) (g.W.World.value_of l.value) l.together;
+      loop : KeywordsLoop (g.W.World.schemas l.world) (l.depth - 1) (map (g.W.World.site l.world) l.fn.state.path)
+          (g.W.World.site l.world l.place) (g.W.World.value_of l.value) l.quiet g.R.Reporter.takes
+          (g.W.World.listed l.judging.keywords) l.judging.known.valid l.judging.known.condition l.judging.known.matching
+          (map g.W.World.text_of l.fn.state.names.items) (map g.W.World.text_of l.state.names.items)
+          l.fn.state.indexes.items l.state.indexes.items l.fn.state.left l.state.left l.fn.state.keyword
+          l.fn.state.instance l.fn.into l.into;
+      path : l.state.path ≡ l.fn.state.path ++ l.place ∷ [];
+      scope : HasGrown l.fn.state.scope (g.W.World.resource l.world l.place) l.state.scope;
+      keyword : l.state.keyword ≡ l.fn.state.keyword;
+      instance : l.state.instance ≡ l.fn.state.instance;
+      falls : l.state.left < l.fn.state.left;
+      together : AreTogether (g.W.World.schemas l.world) (g.W.World.site l.world l.place)
+          (g.W.World.value_of l.value) l.together;
     }
 
 abbrev pub decreases-node-keywords : goal.decreases-node-keywords

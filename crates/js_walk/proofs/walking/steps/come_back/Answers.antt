@@ -10,7 +10,11 @@ returns g c =
       scope = refl;
       keyword = c.cut.ensures;
       instance = c.cut-2.ensures;
-      names = kept_mapped g.W.World.text_of c.origins_of-names.result.0 (ap (λ o. o.0) c.origins_of-names.ensures) c.args.holds (option_to_list c.member-member.result) c.member-member.ensures c.args.here.names c.args.way.now.names.items c.keep.new.list.items c.in_ok-keep.ensures;
-      indexes = kept_given c.origins_of-names.result.1 (ap (λ o. o.1) c.origins_of-names.ensures) c.args.holds (option_to_list c.item-item.result) c.item-item.ensures c.args.here.indexes c.args.way.now.indexes.items c.keep-2.new.list.items gives;
+      names = kept_mapped g.W.World.text_of c.origins_of-names.result.0 (ap (λ o. o.0) c.origins_of-names.ensures)
+          c.args.holds (option_to_list c.member-member.result) c.member-member.ensures c.args.here.names
+          c.args.state.now.names.items c.keep.new.list.items c.in_ok-keep.ensures;
+      indexes = kept_given c.origins_of-names.result.1 (ap (λ o. o.1) c.origins_of-names.ensures) c.args.holds
+          (option_to_list c.item-item.result) c.item-item.ensures c.args.here.indexes c.args.state.now.indexes.items
+          c.keep-2.new.list.items gives;
       left = refl;
     }) c.keep-2.ensures

@@ -9,5 +9,6 @@ returns-clause-passes g c =
     let v = g.W.World.value_of c.args.case.value in
     let k = g.W.World.keyword_of c.args.case.keyword in
     IfOk-weaker c.all_pass.result _ _
-    (λ b pass e. let all = pass e in judged_together S place v k c.args.matching all.0 all.1 c.requires.listed (c.may_drop.ensures.assertion c.if-not-may_drop.false))
+    (λ b pass e. let all = pass e in judged_together S place v k c.args.matching all.0 all.1 c.requires.listed
+    (c.may_drop.ensures.assertion c.if-not-may_drop.false))
     c.all_pass.ensures.pass

@@ -11,6 +11,7 @@ returns-then-over-clause-done g c = λ depth path.
     let over = c.if-over.true in
     let are = c.in_ok-over.ensures in
     skipped_step S g.W.World.text_of g.R.Reporter.takes depth path place v k c.args.matching true
-    c.args.way.now _ c.args.into.now
+    c.args.state.now _ c.args.into.now
     refl (are.passes over) (are.silent place v c.args.matching 0 [] [] over) (are.drops over)
-    refl refl (let l = c.requires.left in omega (arith, l)) (record { path = refl; scope = refl; keyword = refl; instance = refl })
+    refl refl (let l = c.requires.left in
+    omega (arith, l)) (record { path = refl; scope = refl; keyword = refl; instance = refl })

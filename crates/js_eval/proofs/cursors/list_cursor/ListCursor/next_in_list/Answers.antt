@@ -12,7 +12,9 @@ apply_at_rank-requires-clause-held c =
     let list = c.args.self.now.list.now in
     let i = c.args.self.now.next in
     let held = c.index-list-index.result in
-    let there : slice_get list i ≡ Some held = slice_get-get_or list i held c.if-index-list.false ∙ ap Some (sym c.index-list-index.is) in
+    let there : slice_get list i ≡ Some held = slice_get-get_or list i held c.if-index-list.false
+    ∙ ap Some (sym c.index-list-index.is) in
     let item : slice_get (values (value_of k.argument.now)) i ≡ Some (value_of held) =
     sym (ap (λ vs. slice_get vs i) c.requires.3) ∙ slice_get-map value_of list i ∙ ap (option_map value_of) there in
-    item_ranked k.which k.kind (value_of c.args.self.now.at.schema.now) (keyword_of k) i (value_of held) k.known k.named c.requires.1 c.requires.2 item
+    item_ranked k.which k.kind (value_of c.args.self.now.at.schema.now) (keyword_of k) i (value_of held) k.known k.named
+    c.requires.1 c.requires.2 item

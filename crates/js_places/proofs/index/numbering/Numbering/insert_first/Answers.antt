@@ -12,6 +12,9 @@ returns-in-Vacant c =
     let bytes = string_bytes text in
     let value = c.insert.result.now in
     let absent : get string_cmp old text ≡ None =
-    subst (λ e. MatchEntry e (ContainsKey string_cmp old text × (get_key string_cmp old text ≡ Some (entry_key e))) (get string_cmp old text ≡ None)) c.in-Vacant.is c.in_ok-self.ensures.found in
+    subst (λ e. MatchEntry e (ContainsKey string_cmp old text × (get_key string_cmp old text ≡ Some (entry_key e)))
+    (get string_cmp old text ≡ None)) c.in-Vacant.is c.in_ok-self.ensures.found in
     new_put c.args.self.now _ text c.args.number absent
-    (λ key. (search rules) ∙ btree_map_updates_text bytes old (map_with_value c.in_ok-self.field-0 value) (Some value) (c.in_ok-self.ensures.update.0 value) key ∙ ap (λ v. cond (bytes_eq bytes key) (Some v) (get_by_text old key)) c.insert.ensures.value)
+    (λ key. (search rules) ∙ btree_map_updates_text bytes old (map_with_value c.in_ok-self.field-0 value) (Some value)
+    (c.in_ok-self.ensures.update.0 value) key
+    ∙ ap (λ v. cond (bytes_eq bytes key) (Some v) (get_by_text old key)) c.insert.ensures.value)

@@ -9,7 +9,8 @@ returns-clause-positions c =
     let old = c.args.self.now in
     let site = site_of c.args.site.now in
     record {
-      index = subst (λ n. HasPlaceAdded old.index site n c.add_place.new.self) (sym (length-map c.args.earlier.now site_of)) c.in_ok-add_place.ensures;
+      index = subst (λ n. HasPlaceAdded old.index site n c.add_place.new.self)
+          (sym (length-map c.args.earlier.now site_of)) c.in_ok-add_place.ensures;
       roots = (search rules);
       locations = (search rules) ∙ ap (λ t. old.locations.items ++ t ∷ []) c.in_ok-location.ensures.location;
     }

@@ -6,5 +6,6 @@ pub returns : goal.returns
 returns c = record {
   reached = c.in_ok-continue_to.ensures.tokens;
   prefix = c.in_ok-continue_to.ensures.text;
-  text = c.in_ok-push_tokens.ensures ∙ ap (λ t. t ++ text_of_tokens c.args.form (drop c.args.count c.args.tokens.now)) c.in_ok-text.ensures;
+  text = c.in_ok-push_tokens.ensures
+      ∙ ap (λ t. t ++ text_of_tokens c.args.notation (drop c.args.count c.args.tokens.now)) c.in_ok-text.ensures;
 }

@@ -1,5 +1,5 @@
 use Rattle.std.proofs.Common.{length, arith, ap}
-use Rattle.js_tree.proofs.FlatTold.{none_open}
+use Rattle.js_tree.proofs.FlatFormCollected.{none_open}
 use Rattle.js_tree.proofs.Nested.{not_none}
 use Rattle.js_tree.proofs.collecting.flat.Flat.whole.Goals as goal
 

@@ -6,9 +6,12 @@ use Rattle.js_walk.proofs.keywords.keyword_cursor.KeywordCursor.next_up_to_if.Go
 pub returns : goal.returns
 returns c =
     let none = c.in_default.ensures in
-    let kept = c.loop-turn.self.kept in
-    let e : up_to_if c.args.self.now.kept (members_left c.args.self.now.left) ≡ after_if kept (members_left c.next_in_turn.new.self) =
-    sym c.loop-turn.invariant.same ∙ (ap (up_to_if kept) none.0 ∙ sym (ap (after_if kept) none.1)) in
-    let before : keywords_left c.args.self.now ≡ up_to_if c.args.self.now.kept (members_left c.args.self.now.left) =
-    ap (λ b. cond b (after_if c.args.self.now.kept (members_left c.args.self.now.left)) (up_to_if c.args.self.now.kept (members_left c.args.self.now.left))) c.requires in
-    subst (λ a. MatchOption c.next_after_if.result (a ≡ []) (λ k. a ≡ keyword_of k ∷ keywords_left c.next_after_if.new.self)) (sym (before ∙ e)) c.next_after_if.ensures
+    let deferred = c.loop-turn.self.deferred in
+    let e : up_to_if c.args.self.now.deferred (members_left c.args.self.now.left)
+    ≡ after_if deferred (members_left c.next_in_turn.new.self) =
+    sym c.loop-turn.invariant.same ∙ (ap (up_to_if deferred) none.0 ∙ sym (ap (after_if deferred) none.1)) in
+    let before : keywords_left c.args.self.now ≡ up_to_if c.args.self.now.deferred (members_left c.args.self.now.left) =
+    ap (λ b. cond b (after_if c.args.self.now.deferred (members_left c.args.self.now.left))
+    (up_to_if c.args.self.now.deferred (members_left c.args.self.now.left))) c.requires in
+    subst (λ a. MatchOption c.next_after_if.result (a ≡ [])
+    (λ k. a ≡ keyword_of k ∷ keywords_left c.next_after_if.new.self)) (sym (before ∙ e)) c.next_after_if.ensures

@@ -5,7 +5,8 @@ use Rattle.js_walk.proofs.keywords.keyword_cursor.KeywordCursor.next_up_to_if.Gi
 abbrev pub invariant-loop-turn : goal.invariant-loop-turn
 invariant-loop-turn l =
     record {
-      same : up_to_if l.self.kept (members_left l.self.left) ≡ up_to_if l.fn.self.kept (members_left l.fn.self.left);
+      same : up_to_if l.self.deferred (members_left l.self.left)
+          ≡ up_to_if l.fn.self.deferred (members_left l.fn.self.left);
       before : l.self.is_past_if ≡ false;
     }
 

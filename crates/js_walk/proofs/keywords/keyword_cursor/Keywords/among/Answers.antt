@@ -7,4 +7,5 @@ use Rattle.js_walk.proofs.keywords.keyword_cursor.Keywords.among.Goals as goal
 pub returns-else-quiet-clause-all : goal.returns-else-quiet-clause-all
 returns-else-quiet-clause-all c =
     let ms = c.args.members.now in
-    c.new-else-quiet.ensures ∙ ap in_order (c.new.ensures.all ∙ sym (ap (λ q. filter (is_visited q) ms) c.if-quiet.false ∙ all_visited ms))
+    c.new-else-quiet.ensures
+    ∙ ap in_order (c.new.ensures.all ∙ sym (ap (λ q. filter (is_visited q) ms) c.if-quiet.false ∙ all_visited ms))

@@ -10,4 +10,5 @@ use Rattle.js_walk.proofs.keywords.keyword_cursor.Keywords.may_apply.Goals as go
 pub returns-in-Some-clause-none : goal.returns-in-Some-clause-none
 returns-in-Some-clause-none c none =
     let ms = entries (value_of c.args.schema.now) in
-    sym (chosen_in_order (is_visited true) ms) ∙ ap in_order (none_visited ms (ap has_applicator (sym c.requires) ∙ (sym c.has_applicator.ensures ∙ none)))
+    sym (chosen_in_order (is_visited true) ms)
+    ∙ ap in_order (none_visited ms (ap has_applicator (sym c.requires) ∙ (sym c.has_applicator.ensures ∙ none)))

@@ -9,4 +9,5 @@ use Rattle.js_walk.proofs.keywords.keyword_cursor.Keywords.new.Goals as goal
 pub returns-in-Some-clause-all : goal.returns-in-Some-clause-all
 returns-in-Some-clause-all c =
     let visited = is_visited c.args.quiet in
-    c.among.ensures.all ∙ (ap (λ ms. in_order (filter visited ms)) c.in-Some.ensures ∙ chosen_in_order visited (entries (value_of c.args.schema.now)))
+    c.among.ensures.all ∙ (ap (λ ms. in_order (filter visited ms)) c.in-Some.ensures
+    ∙ chosen_in_order visited (entries (value_of c.args.schema.now)))

@@ -6,4 +6,5 @@ pub returns : goal.returns
 returns c =
     let small = c.ranges.index.fits in
     let written = c.format.ensures.text ∙ sym (decimal_kept c.args.index (omega (arith, small))) in
-    subst (λ token. OnOk c.push_kept.result (string_bytes c.push_kept.new.out ≡ string_bytes c.args.self.now.text ++ 47 ∷ token)) written c.push_kept.ensures
+    subst (λ token. OnOk c.push_kept.result (string_bytes c.push_kept.new.out
+    ≡ string_bytes c.args.self.now.text ++ 47 ∷ token)) written c.push_kept.ensures

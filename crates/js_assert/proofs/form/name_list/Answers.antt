@@ -1,8 +1,0 @@
-use Rattle.js_doc.proofs.PartLists.{item_list-items}
-use Rattle.js_assert.proofs.form.name_list.Goals as goal
-
-pub returns-in-List-clause-form : goal.returns-in-List-clause-form
-returns-in-List-clause-form c = rw (c.in-List.is, item_list-items c.in-List.items) (rw c.as_slice.ensures at c.distinct_strings.ensures.form)
-
-pub returns-in-List-clause-refused : goal.returns-in-List-clause-refused
-returns-in-List-clause-refused c = rw (c.in-List.is, item_list-items c.in-List.items) (rw c.as_slice.ensures at c.distinct_strings.ensures.refused)

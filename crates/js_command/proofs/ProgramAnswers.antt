@@ -1,0 +1,226 @@
+-- What the program answers, by where it stops.
+use Rattle.std.proofs.Common.{◌≡◌, ◌≢◌, ℕ, List, [], ◌∷◌, ◌++◌, Option, Some, None, Result, Ok, Err, OnErr, IsErrOf}
+use Rattle.std.proofs.Common.{Bool, true, false, ◌⊎◌, inl, inr, refl, sym, ap, subst, arith, ◌<◌}
+use Rattle.std.specs.Borrow.{Bor}
+use Rattle.std.specs.Io.KnownBytes.{Keeps}
+use Rattle.js_output.specs.Cause.{Causes, MayGoOn}
+use Rattle.js_output.specs.Device.{Tracked, IsLeft, Sends, SendsBeginning}
+use Rattle.js_output.specs.Documents.{DocumentTexts, documents_causes}
+use Rattle.js_output.specs.Outcome.{Output, Outcome, PairOutcome, output_report, beginning_causes}
+use Rattle.js_output.specs.Places.{ReportsPlaces, places_text}
+use Rattle.js_output.specs.Suite.{SuiteOutcome, lines_report}
+use Rattle.js_output.specs.SuiteLines.{counts_of, lines_text}
+use Rattle.js_output.specs.Report.{Answers}
+use Rattle.js_output.specs.declared.suite_lines.Counts.{Counts}
+use Rattle.js_output.specs.declared.fault.Fault.{Fault}
+use Rattle.js_output.specs.declared.fault.Fault.TheVariants as fault
+use Rattle.js_tree.specs.declared.forms.Format.{Format}
+use Rattle.js_command.specs.Answer.{AreContents, MayReadAgain, OverFiles, OverTexts, PlacesOutcome, RequestOutcome}
+use Rattle.js_command.specs.Answer.{SuiteReported, all_passed, suite_output, WordsOutcome}
+use Rattle.js_command.specs.Answer.{Performs, IsPartlyReported, IsReason}
+use Rattle.js_command.specs.Files.{ContentsByPath, IsFirstFileFault}
+use Rattle.js_command.specs.Status.{misuse_status}
+use Rattle.js_command.specs.code.Taken.{documents_taken}
+use Rattle.js_command.specs.code.Tasks.{judging_seen, pairs_seen, request_by}
+use Rattle.js_command.specs.declared.documents.Texts.{Texts}
+use Rattle.js_command.specs.declared.words.DocumentFile.{DocumentFile}
+use Rattle.js_command.specs.declared.words.Judgement.{Judgement}
+use Rattle.js_command.specs.declared.words.Misuse.{Misuse}
+use Rattle.js_command.specs.declared.words.Misuse.TheVariants as misuse
+use Rattle.js_command.specs.declared.words.Subject.{Subject}
+use Rattle.js_command.specs.declared.words.Subject.TheVariants as subject
+use Rattle.js_command.specs.Words.{DocumentPairs, files_of, Request, pair, places, request_of}
+use Rattle.js_command.proofs.FileFaults.{input_fault}
+use Rattle.js_command.proofs.Holding.{holds_over}
+
+-- a file isn't taken
+pub performs-fault : {D : Type 0} (contents : ContentsByPath) (paths : List (List ℕ)) (Unread : Type 0)
+    (P : Result Output Fault → Type 0) (taken : D → Option (List ℕ)) (old new : Tracked D) (e : Fault)
+    → (¬ (e ≡ fault.Memory) → IsFirstFileFault contents paths e)
+    → Performs (OverFiles contents paths Unread P) taken old new (Err e)
+performs-fault contents paths Unread P taken old new fault.Memory h = tt
+performs-fault contents paths Unread P taken old new fault.Read h = inl (h (λ e. cc))
+performs-fault contents paths Unread P taken old new fault.InputTooLarge h = inl (h (λ e. cc))
+performs-fault contents paths Unread P taken old new fault.Write h =
+    absurd (input_fault contents paths fault.Write (h (λ e. cc)))
+performs-fault contents paths Unread P taken old new _ h = absurd (input_fault contents paths _ (h (λ e. cc)))
+
+module _ (words : List (List ℕ)) (contents : ContentsByPath) (input : Option (List ℕ)) (unread : Bool)
+    (request : Request)
+    (old new : Option (List ℕ)) (failed : Bool) where
+  -- where something failed
+  pub begun_or_kept : (e : Fault) → request_of words ≡ Ok request → (¬ (e ≡ fault.Write) → Keeps old new)
+      → IsReason (RequestOutcome contents input unread request) old new failed e
+      → Keeps old new ⊎ ((failed ≡ true) × IsPartlyReported (WordsOutcome words contents input unread) old new)
+  begun_or_kept fault.Write asks kept (stands, (output, h, out)) = inr (stands, (output, (request, asks, h), out))
+  begun_or_kept _ asks kept reason = inl (kept (λ e. cc))
+
+  -- the reason is one by the words
+  pub words_reason : (e : Fault) → request_of words ≡ Ok request
+      → IsReason (RequestOutcome contents input unread request) old new failed e
+      → IsReason (WordsOutcome words contents input unread) old new failed e
+  words_reason fault.Memory asks reason = tt
+  words_reason fault.Write asks (stands, (output, h, out)) = (stands, (output, (request, asks, h), out))
+  words_reason _ asks reason = (request, asks, reason)
+
+-- ---- documents, and a file that is judged by them
+
+module _ {D : Type 0} (contents : ContentsByPath) (pairs : DocumentPairs) (file : List ℕ) (taken : D → Option (List ℕ))
+    (old new : Tracked D) where
+  -- they are taken
+  texts_reported : (documents : DocumentTexts) (bytes : List ℕ) (causes : DocumentTexts → Causes)
+      (Expected : DocumentTexts → List ℕ → Result Output Fault → Type 0) (answer : Result Bool Fault)
+      → AreContents contents pairs documents → IsLeft (contents file) bytes
+      → Answers output_report (Expected documents) (causes documents) (Some bytes) taken old new answer
+      → Performs (OverTexts contents pairs file causes Expected) taken old new answer
+  texts_reported documents bytes causes Expected (Ok valid) holds here (read, is, (output, h, same, sent)) =
+      (output, (documents, holds, (read, subst (IsLeft (contents file)) is here, h)), same, sent)
+  texts_reported documents bytes causes Expected (Err fault.Write) holds here (read, is, (output, h, begun)) =
+      (output, (documents, holds, (read, subst (IsLeft (contents file)) is here, h)), begun)
+  texts_reported documents bytes causes Expected (Err fault.Memory) holds here h = tt
+  texts_reported documents bytes causes Expected (Err fault.Read) holds here clear = inr (documents, holds, clear)
+  texts_reported documents bytes causes Expected (Err fault.InputTooLarge) holds here (read, is, h) =
+      inr (documents, holds, (read, subst (IsLeft (contents file)) is here, h))
+  texts_reported documents bytes causes Expected (Err _) holds here (read, is, h) =
+      (documents, holds, (read, subst (IsLeft (contents file)) is here, h))
+
+  -- one isn't
+  pub texts_untaken : (subject : Subject) (e : Fault)
+      → (¬ (e ≡ fault.Memory) → IsFirstFileFault contents (files_of pairs ++ file ∷ []) e)
+      → Performs (RequestOutcome contents None false (request_by subject file pairs)) taken old new (Err e)
+  texts_untaken (subject.Instance format entry) e h =
+      performs-fault contents (files_of pairs ++ file ∷ []) (MayReadAgain contents pairs
+      (λ documents. beginning_causes documents entry.now))
+      (λ reported. (documents : DocumentTexts) × AreContents contents pairs documents
+      × ((bytes : List ℕ) × IsLeft (contents file) bytes × Outcome documents entry.now format bytes
+      reported)) taken old new e h
+  texts_untaken subject.Suite e h =
+      performs-fault contents (files_of pairs ++ file ∷ []) (MayReadAgain contents pairs documents_causes)
+      (λ reported. (documents : DocumentTexts) × AreContents contents pairs documents
+      × ((bytes : List ℕ) × IsLeft (contents file) bytes × SuiteReported documents bytes reported)) taken old new e h
+
+-- the named files hold these texts, of which the run took documents and bytes
+module _ (contents : ContentsByPath) (judging : Judgement) (named : List DocumentFile) (texts : Texts)
+    (documents : DocumentTexts) (bytes : List ℕ)
+    (same : named ≡ judging.documents.items) (docs : documents ≡ documents_taken texts.documents.items)
+    (all : bytes ≡ texts.judged.items)
+    (holds : AreContents contents (pairs_seen named) (documents_taken texts.documents.items))
+    (here : IsLeft (contents judging.file.now) texts.judged.items)
+    {D : Type 0} (taken : D → Option (List ℕ)) (old new : Tracked D) where
+  judged_reported : (causes : DocumentTexts → Causes) (Expected : DocumentTexts → List ℕ → Result Output Fault → Type 0)
+      (answer : Result Bool Fault)
+      → Answers output_report (Expected documents) (causes documents) (Some bytes) taken old new answer
+      → Performs (OverTexts contents (pairs_seen judging.documents.items) judging.file.now causes
+      Expected) taken old new answer
+  judged_reported causes Expected answer h =
+      texts_reported contents (pairs_seen judging.documents.items) judging.file.now taken old new documents
+      bytes causes Expected answer
+      (holds_over contents named judging.documents.items (documents_taken texts.documents.items) documents same docs
+      holds)
+      (subst (IsLeft (contents judging.file.now)) (sym all) here) h
+
+  -- the answer to what this subject asks is the task's
+  of_subject : (s : Subject) (answer : Result Bool Fault) → judging.subject ≡ s
+      → Performs (RequestOutcome contents None false (request_by s judging.file.now
+      (pairs_seen judging.documents.items))) taken old new answer
+      → Performs (RequestOutcome contents None false (judging_seen judging)) taken old new answer
+  of_subject s answer e h = subst (λ s. Performs (RequestOutcome contents None false
+      (request_by s judging.file.now (pairs_seen judging.documents.items))) taken old new answer) (sym e) h
+
+  pub check_reported : (format : Format) (entry : Bor (List ℕ)) (answer : Result Bool Fault)
+      → judging.subject ≡ subject.Instance format entry
+      → Answers output_report (Outcome documents entry.now format) (beginning_causes documents entry.now)
+      (Some bytes) taken old new answer
+      → Performs (RequestOutcome contents None false (judging_seen judging)) taken old new answer
+  check_reported format entry answer e h =
+      of_subject (subject.Instance format entry) answer e
+      (judged_reported (λ ds. beginning_causes ds entry.now) (λ ds. Outcome ds entry.now format) answer h)
+
+  pub suite_reported : (counts : Counts) → judging.subject ≡ subject.Suite
+      → Answers lines_report (SuiteOutcome documents) (documents_causes documents) (Some bytes)
+      taken old new (Ok counts)
+      → Performs (RequestOutcome contents None false (judging_seen judging)) taken old new (Ok (all_passed counts))
+  suite_reported counts e (read, is, (lines, h, passed, sent)) =
+      of_subject subject.Suite (Ok (all_passed counts)) e
+      (judged_reported documents_causes SuiteReported (Ok (all_passed counts))
+      (read, is, (suite_output (counts_of lines) (lines_text lines), (lines, h, refl), ap all_passed passed, sent)))
+
+  suite_output_fault : (f : Fault) → Answers lines_report (SuiteOutcome documents) (documents_causes documents)
+      (Some bytes) taken old new (Err f)
+      → Answers output_report (SuiteReported documents) (documents_causes documents) (Some bytes) taken old new (Err f)
+  suite_output_fault fault.Write (read, is, (lines, h, begun)) =
+      (read, is, (suite_output (counts_of lines) (lines_text lines), (lines, h, refl), begun))
+  suite_output_fault fault.Memory h = tt
+  suite_output_fault fault.Read h = h
+  suite_output_fault _ (read, is, h) = (read, is, h)
+
+  pub suite_fault : (f : Fault) → judging.subject ≡ subject.Suite
+      → Answers lines_report (SuiteOutcome documents) (documents_causes documents) (Some bytes) taken old new (Err f)
+      → Performs (RequestOutcome contents None false (judging_seen judging)) taken old new (Err f)
+  suite_fault f e h = of_subject subject.Suite (Err f) e
+      (judged_reported documents_causes SuiteReported (Err f) (suite_output_fault f h))
+
+-- ---- places
+
+module _ {D : Type 0} (contents : ContentsByPath) (pairs : DocumentPairs) (taken : D → Option (List ℕ))
+    (old new : Tracked D) where
+  pub places_untaken : (e : Fault) → (¬ (e ≡ fault.Memory) → IsFirstFileFault contents (files_of pairs) e)
+      → Performs (RequestOutcome contents None false (places pairs)) taken old new (Err e)
+  places_untaken e h =
+      performs-fault contents (files_of pairs) ⊥ (λ reported. (documents : DocumentTexts)
+      × AreContents contents pairs documents
+      × PlacesOutcome documents reported) taken old new e h
+
+  module _ (documents : DocumentTexts) (holds : AreContents contents pairs documents) where
+    pub places_reported : MayGoOn (documents_causes documents) → Sends taken old new (places_text documents)
+        → Performs (RequestOutcome contents None false (places pairs)) taken old new (Ok true)
+    places_reported clear sent = (
+      record { valid = true; text = places_text documents },
+      (documents, holds, (clear, refl)),
+      refl,
+      sent,
+    )
+
+    pub places_fault : (e : Fault) → ReportsPlaces documents (Err e)
+        → (◌≡◌ {A = Result ℕ Fault} (Err e) (Err fault.Write) → SendsBeginning taken old new (places_text documents))
+        → Performs (RequestOutcome contents None false (places pairs)) taken old new (Err e)
+    places_fault fault.Write report begun = (
+      record { valid = true; text = places_text documents },
+      (documents, holds, (report, refl)),
+      begun refl,
+    )
+    places_fault fault.Memory report begun = tt
+    places_fault fault.Read report begun = absurd report
+    places_fault fault.InputTooLarge report begun = inr (documents, holds, report)
+    places_fault _ report begun = (documents, holds, report)
+
+-- ---- a pair
+
+pub pair_reported : {D : Type 0} (contents : ContentsByPath) (left : Option (List ℕ)) (failed : Bool)
+    (taken : D → Option (List ℕ))
+    (old new : Tracked D) (answer : Result Bool Fault)
+    → Answers output_report PairOutcome [] left taken old new answer
+    → (answer ≢ Err fault.Memory → IsErrOf answer fault.Read → failed ≡ true)
+    → Performs (RequestOutcome contents left failed pair) taken old new answer
+pair_reported contents left failed taken old new (Ok valid) (read, is, (output, h, same, sent)) fails =
+    (output, (read, is, h), same, sent)
+pair_reported contents left failed taken old new (Err fault.Memory) h fails = tt
+pair_reported contents left failed taken old new (Err fault.Read) h fails = fails (λ e. cc) refl
+pair_reported contents left failed taken old new (Err fault.Write) (read, is, (output, h, begun)) fails =
+    (output, (read, is, h), begun)
+pair_reported contents left failed taken old new (Err _) (read, is, h) fails = (read, is, h)
+
+-- words that aren't read have a status above 2 only where memory runs out
+pub misuse_reported : (m : Misuse) (status : ℕ) → status ≡ misuse_status m → 2 < status → status ≡ 4
+misuse_reported misuse.Memory status e above = e
+misuse_reported misuse.OtherForm status e above = absurd (omega (arith, e, above))
+misuse_reported misuse.OddPairs status e above = absurd (omega (arith, e, above))
+
+-- such words end so
+pub misuse_ends : {A E : Type 0} (asked : Result A E) (m : Misuse) (status : ℕ) (Reported : Type 0)
+    → status ≡ misuse_status m → (status ≡ 4 → Reported)
+    → OnErr asked ((status ≡ 2) ⊎ ((status ≡ 4) × Reported))
+misuse_ends (Ok a) m status Reported e reported = tt
+misuse_ends (Err f) misuse.Memory status Reported e reported = inr (e, reported e)
+misuse_ends (Err f) misuse.OtherForm status Reported e reported = inl e
+misuse_ends (Err f) misuse.OddPairs status Reported e reported = inl e

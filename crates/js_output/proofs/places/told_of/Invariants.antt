@@ -1,9 +1,0 @@
-use Rattle.std.proofs.Common.{◌≡◌, ◌++◌, drop, string_bytes}
-use Rattle.js_bundle.specs.Resource.{sites}
-use Rattle.js_output.specs.Places.{lines_of}
-use Rattle.js_output.proofs.places.told_of.Given as goal
-
--- what was told and what is left to tell are the whole
-abbrev pub invariant-loop-place : goal.invariant-loop-place
-invariant-loop-place l =
-    string_bytes l.text ++ lines_of (drop l.place-index (sites l.schemas)) ≡ lines_of (sites l.schemas)
