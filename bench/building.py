@@ -1,4 +1,4 @@
-"""Builds a program that measures, over copies of the crates, and runs it."""
+"""Builds a program that measures, over the crates, and runs it."""
 import contextlib
 import os
 import shutil
@@ -10,9 +10,12 @@ import threading
 
 HOME = os.path.dirname(os.path.dirname(os.path.abspath(__file__)))
 sys.path.insert(0, os.path.join(HOME, "tools"))
+import libraries  # noqa: E402
 from programs import TimeoutExpired, answer_of, no_end  # noqa: E402
 
 GNU_TIME = shutil.which("time")
+SOURCE = os.path.join("crates", "measure", "src", "main.rt")
+PROGRAM = os.path.join("crates", "measure", "out", "measure")
 
 
 def add_options(parser):
@@ -61,30 +64,72 @@ def ended(words, given, seconds, name):
 
 
 def build(folder, name, crates, used, begin, seconds, answer=None):
-    """Proves and builds `bench/NAME.rt.txt` in the folder, over copies of `crates`, of which it uses `used` itself.
+    """Proves and builds `bench/NAME.rt.txt` in the folder, over `crates`, of which it uses `used` itself.
 
     To the input `begin` it must give the answer, if one is named. Ends the script where nothing is built.
     """
     if not shutil.which("rt"):
         sys.exit(f"bench/{name}: needs the Rattle kit's command rt on the PATH, and finds none")
-    source = os.path.join(folder, "crates", "measure", "src")
-    os.makedirs(source, exist_ok=True)
+    folder = os.path.abspath(folder)
+    put_source(name, os.path.join(folder, SOURCE))
+    over = over_gate if all(map(libraries.is_of_gate, crates)) else over_copies
+    try:
+        out, errors, status = over(folder, crates, used, begin, seconds)
+    except TimeoutExpired as error:
+        sys.exit(f"bench/{name}: not built: {no_end(error)}")
+    if status != 0 or answer not in (None, out.decode().strip()):
+        sys.exit(f"bench/{name}: not built:\n{out.decode()}\n{errors.decode()}")
+    return os.path.join(folder, PROGRAM)
+
+
+def put_source(name, path):
+    """Puts `bench/NAME.rt.txt` there. A file that has its text already stays as old as it is."""
+    with open(os.path.join(HOME, "bench", f"{name}.rt.txt")) as file:
+        text = file.read()
+    os.makedirs(os.path.dirname(path), exist_ok=True)
+    with open(path, "a+") as file:
+        file.seek(0)
+        if file.read() != text:
+            file.truncate(0)
+            file.write(text)
+
+
+def is_newer(program, files):
+    """Whether a program was built after each of these files."""
+    return os.path.exists(program) and os.stat(program).st_mtime_ns > max(os.stat(it).st_mtime_ns for it in files)
+
+
+def over_gate(folder, crates, used, begin, seconds):
+    """Builds it over the crates as `rt ci` proved them, unless that was done, and runs it.
+
+    Returns the output, the errors and the status of the last step.
+    """
+    kit, words = libraries.kit(), list(libraries.arguments(used))
+    program = os.path.join(folder, PROGRAM)
+    os.makedirs(os.path.dirname(program), exist_ok=True)
+    prove = [f"{kit}/bin/rattle", "build", "--crate-name", "measure", "src/main.rt", *words, "--links", "measure=",
+             "--toolchain", f"{kit}/toolchain", "--backend", "llvm", "-o", f"{program}.o"]
+    link = [f"{kit}/bin/rattle-link", "--target", "x86_64-unknown-linux-gnu", "--toolchain", f"{kit}/toolchain",
+            "-o", program, f"{program}.o", f"{kit}/c/libos_c.a", f"{kit}/c/liblibc_c.a"]
+    is_built = is_newer(program, [os.path.join(folder, SOURCE), *map(libraries.library, crates)])
+    for step in () if is_built else (prove, link):
+        out, errors, status = answer_of(step, seconds, cwd=os.path.join(folder, "crates", "measure"))
+        if status:
+            return out, errors, status
+    return answer_of([program], seconds, begin.encode())
+
+
+def over_copies(folder, crates, used, begin, seconds):
+    """Proves copies of the crates too, from what earlier checks kept, builds it and runs it."""
     for crate in crates:
         copy(crate, folder)
     shutil.copy(os.path.join(HOME, "HANDLES"), folder)
-    shutil.copy(os.path.join(HOME, "bench", f"{name}.rt.txt"), os.path.join(source, "main.rt"))
     with open(os.path.join(HOME, "crates.txt")) as file:
         lines = [line for line in file if line.split(":")[0] in crates]
     with open(os.path.join(folder, "crates.txt"), "w") as file:
         file.writelines([*lines, f"measure: {' '.join(used)}\n"])
     subprocess.run(["git", "init", "-q", folder], check=True)
-    try:
-        out, errors, status = answer_of(["rt", "run"], seconds, begin.encode(), cwd=os.path.dirname(source))
-    except TimeoutExpired as error:
-        sys.exit(f"bench/{name}: not built: {no_end(error)}")
-    if status != 0 or answer not in (None, out.decode().strip()):
-        sys.exit(f"bench/{name}: not built:\n{out.decode()}\n{errors.decode()}")
-    return os.path.join(folder, "crates", "measure", "out", "measure")
+    return answer_of(["rt", "run"], seconds, begin.encode(), cwd=os.path.join(folder, "crates", "measure"))
 
 
 def copy(crate, folder):

@@ -22,7 +22,7 @@ POINTS = '[{"x":2,"y":1},{"x":1,"z":6}]'
 class Case:
     """A run of the program. Where `out` is None, the reference answers; a large text is a function to its pieces.
 
-    A run that takes more than `most_seconds` fails. One with `most_memory` has so many bytes of address space.
+    A run that takes more than `most_seconds` fails. One with `most_memory` has that many bytes of address space.
     """
 
     name: str
@@ -131,7 +131,7 @@ def widest_text(format_, count=999_998):
 
 
 def named_alike(pairs):
-    """The names of so many pairs of letters that each sum by powers of 31 is the same for all."""
+    """Names of this many pairs of letters each. Hashes that sum their letters by powers of 31 are the same for all."""
     return ["".join(it) for it in product(("Aa", "BB"), repeat=pairs)]
 
 

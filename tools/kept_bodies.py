@@ -1,4 +1,4 @@
-"""Wrong bodies one at a time over what `rt check` has kept of their crate, for `tools/wrong-bodies --kept`."""
+"""Wrong bodies one at a time over what a check has kept of their crate, for `tools/wrong-bodies --kept`."""
 import re
 import shutil
 import subprocess
@@ -38,9 +38,10 @@ def reason(printed, changed):
 class Kept:
     """Tries edits of one crate in a copy of the repository."""
 
-    def __init__(self, rt, crate, room, kept):
-        """`kept`: the folder with what `rt check` kept of the crate without edits. Each check begins with that."""
-        self.rt, self.folder, self.kept = rt, room / "crates" / crate, kept
+    def __init__(self, check, crate, room, kept):
+        """`check`: the command for a check. `kept`: the folder with what a check kept of the crate without edits: each
+        begins with that."""
+        self.command, self.folder, self.kept = check, room / "crates" / crate, kept
 
     def check(self, texts):
         """What `rt check` prints of the crate with these texts in place of its own."""
@@ -51,10 +52,10 @@ class Kept:
         try:
             for path, text in texts.items():
                 (self.folder / path).write_text(text)
-            return subprocess.run([self.rt, "check", "--jobs", "1"], cwd=self.folder, text=True, errors="replace",
+            return subprocess.run([*self.command, "--jobs", "1"], cwd=self.folder, text=True, errors="replace",
                                   stdin=subprocess.DEVNULL, stdout=subprocess.PIPE, stderr=subprocess.STDOUT).stdout
         except OSError as error:
-            return f"{self.rt}: {error.strerror}\n"
+            return f"{self.command[0]}: {error.strerror}\n"
         finally:
             for path, text in own.items():
                 (self.folder / path).write_text(text)

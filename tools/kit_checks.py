@@ -35,23 +35,27 @@ def of_benches(room):
                         has_count=False)
 
 
-# What a fake kit prints in the place of a proof.
-BY_RT, BY_RATTLE = "rt: lib", "rattle: build"
+def fake_kit(room, name, rattle):
+    """The environment with a kit whose prover does this, and whose rt knows no more than where the kit is."""
+    rt = room.executable(f"{name}/bin/rt", """[ "$1" != doc ] || exec echo "${0%/bin/rt}/START-HERE.md"
+echo "rt: $1"; exit 1""")
+    room.executable(f"{name}/bin/rattle", rattle)
+    room.executable(f"{name}/c/liblibc_c.a", "")
+    return {"PATH": os.path.dirname(rt) + os.pathsep + os.environ["PATH"]}
 
 
-def of_library(room):
-    """Over a fake kit: the crates below the library are taken as `rt ci` left them, unless a source has changed."""
-    kit = os.path.dirname(os.path.dirname(room.executable(
-        "fake kit/bin/rt", f'[ "$1" = doc ] && echo "${{0%/bin/rt}}/START-HERE.md" || {{ echo "rt: $1"; exit 1; }}')))
-    room.executable("fake kit/bin/rattle", 'echo "rattle: $1"; exit 1')
-    room.executable("fake kit/c/liblibc_c.a", "")
-    env = {"PATH": os.path.join(kit, "bin") + os.pathsep + os.environ["PATH"]}
-    for name, says, how in (("after rt ci", BY_RATTLE, {}), ("a crate isn't built", BY_RT, {"without": "js_doc"}),
-                            ("rt lib built a crate", BY_RT, {"stamped": "js_eval"}),
-                            ("a source was edited", BY_RT, {"edited": "js_assert"}),
-                            ("a crate that it doesn't use was edited", BY_RATTLE, {"edited": "js_command"})):
-        home = room.copy_with_crates(f"library, {name}", **how)
-        yield Check(f"tools/build-library, {name}", ["tools/build-library"], says, home, env, has_count=False, status=4)
+def over_the_gate(room):
+    """Over a kit that prints what it is asked for: the crates below the library for C, or below a benchmark, are taken
+    as `rt ci` left them, unless a source has changed."""
+    env = fake_kit(room, "fake kit", 'echo "rattle: $1"; exit 1')
+    for name, is_of_gate, how in (("after rt ci", True, {}), ("a crate isn't built", False, {"without": "js_doc"}),
+                                  ("rt lib built a crate", False, {"stamped": "js_bundle"}),
+                                  ("a source was edited", False, {"edited": "js_assert"}),
+                                  ("a crate that it doesn't use was edited", True, {"edited": "js_command"})):
+        home = room.copy_with_crates(f"over the gate, {name}", **how)
+        for script, by_rt, status in (("tools/build-library", "lib", 4), ("bench/finish", "run", 1)):
+            says = "rattle: build" if is_of_gate else f"rt: {by_rt}"
+            yield Check(f"{script}, {name}", [script], says, home, env, has_count=False, status=status)
 
 
 # A fake rt for two functions: `check` answers by what is written in each, and `must-fail` refuses nothing.
@@ -79,20 +83,25 @@ CALLS_IT = 'echo "fn js_doc::ends::$one: no proof: it calls \\`js_doc::ends::oth
 DOES_NOT_COMPILE = 'echo "error[type]: src/ends.rt:1:1"; exit 1'
 
 
+def write_bodies(home, crate, first):
+    """Two functions of a crate, and a wrong body for each."""
+    for folder in (f"crates/{crate}/src", f"wrong-bodies/{crate}"):
+        os.makedirs(os.path.join(home, folder), exist_ok=True)
+    Path(home, f"crates/{crate}/src/ends.rt").write_text(
+        f"fn first() {{\n    {first}\n}}\n\nfn second() {{\n    right_second\n}}\n")
+    for one in ("first", "second"):
+        Path(home, f"wrong-bodies/{crate}/{one}.edit").write_text(
+            f"file: src/ends.rt\nold: right_{one}\nnew: wrong_{one}\n")
+
+
 def of_wrong_bodies(room):
     """Over fakes of rt: an edit passes only where the function that it is in is refused for its contract."""
     homes = [room.copy("wrong bodies"), room.copy("wrong bodies of what isn't proved")]
     for home, first in zip(homes, ("right_first", "wrong_first")):
-        for folder in ("crates/js_doc/src", "wrong-bodies/js_doc"):
-            os.makedirs(os.path.join(home, folder))
+        write_bodies(home, "js_doc", first)
         for folder in ("rlib", "incremental"):
             os.makedirs(os.path.join(home, "crates/js_doc/out", folder))
         Path(home, "crates/js_doc/out/rlib/stamp").touch()
-        Path(home, "crates/js_doc/src/ends.rt").write_text(
-            f"fn first() {{\n    {first}\n}}\n\nfn second() {{\n    right_second\n}}\n")
-        for one in ("first", "second"):
-            Path(home, f"wrong-bodies/js_doc/{one}.edit").write_text(
-                f"file: src/ends.rt\nold: right_{one}\nnew: wrong_{one}\n")
     missing, script = os.path.join(room.folder, "none"), "tools/wrong-bodies"
     for words in ([script], [script, "--quick"]):
         yield Check(f"{' '.join(words)}, no rt", words, f"{missing}: No such file", homes[0], {"RT": missing})
@@ -130,6 +139,10 @@ def of_wrong_bodies(room):
         yield Check(f"{script} --kept, an rt that {name}", [script, "--kept"], says, homes[0], env)
     yield Check(f"{script} --kept, a crate that isn't proved", [script, "--kept"], "NOT REFUSED", homes[1],
                 {"RT": room.executable("rt/whole refuses each", FAKE_WHOLE % (refuses + ends))})
+    home = room.copy_with_crates("wrong bodies over the gate")
+    write_bodies(home, "js_assert", "right_first")
+    env = fake_kit(room, "kit that refuses each", "mkdir -p out/incremental; " + FAKE_WHOLE % (refuses + ends))
+    yield Check(f"{script} --kept, over the libraries of the gate", [script, "--kept"], "", home, env)
 
 
 # A fake gate: what a fake prover does, in the order of lines. The words of a line: the crate, the folder of kept work,

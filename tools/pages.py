@@ -5,7 +5,7 @@ import sys
 def write_part(page, name, text):
     """Puts a text between the marks `<!-- NAME: begin -->` and `<!-- NAME: end -->` of a page.
 
-    Ends the script where the page hasn't both.
+    Ends the script where the page lacks one of them.
     """
     begin, end = f"<!-- {name}: begin -->\n", f"<!-- {name}: end -->\n"
     with open(page, encoding="utf-8") as file:

@@ -1,7 +1,7 @@
 """Wrong bodies many at a time, for `tools/wrong-bodies --quick`.
 
 A check costs more than what it has to prove anew: reading the crate, and loading what is kept. So as many edits as
-don't touch each other's functions are made in one copy, and one `rt check` goes over the modules that they are in. A
+don't touch each other's functions are made in one copy, and one check goes over the modules that they are in. A
 contract binds one function, so the prover says of each function by itself whether its body meets it.
 """
 import os
@@ -149,9 +149,10 @@ def apart(edits):
 class Quick:
     """Tries edits of one crate in a copy of the repository."""
 
-    def __init__(self, rt, crate, room, kept=None):
-        """`kept`: a folder with what `rt check` kept of the crate without edits. Each check begins with that."""
-        self.rt, self.crate, self.folder, self.kept = rt, crate, room / "crates" / crate, kept
+    def __init__(self, check, crate, room, kept=None):
+        """`check`: the command for a check. `kept`: a folder with what a check kept of the crate without edits: each
+        begins with that."""
+        self.command, self.crate, self.folder, self.kept = check, crate, room / "crates" / crate, kept
         self.printed, self.blocked = "", set()
 
     def forget(self):
@@ -177,11 +178,11 @@ class Quick:
             for path, text in texts.items():
                 (self.folder / path).write_text(text)
             words = [word for it in sorted(modules) for word in ("--only", it)]
-            self.printed = subprocess.run([self.rt, "check", *words, "--jobs", "1"], cwd=self.folder, text=True,
+            self.printed = subprocess.run([*self.command, *words, "--jobs", "1"], cwd=self.folder, text=True,
                                           errors="replace", stdin=subprocess.DEVNULL, stdout=subprocess.PIPE,
                                           stderr=subprocess.STDOUT).stdout
         except OSError as error:
-            self.printed = f"{self.rt}: {error.strerror}\n"
+            self.printed = f"{self.command[0]}: {error.strerror}\n"
         finally:
             for path, text in own.items():
                 (self.folder / path).write_text(text)

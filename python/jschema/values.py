@@ -44,7 +44,7 @@ def _encoded(text: str) -> bytes:
 
 
 def _is_plain(value: Any, levels: int) -> bool:
-    """Whether a value is within the profile, without values of subclasses, in so many levels at most.
+    """Whether a value is within the profile, without values of subclasses, in at most `levels` levels.
 
     So most values are, and this is quicker than `_check`, which decides about the others and says where they go wrong.
     """
