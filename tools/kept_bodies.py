@@ -44,7 +44,7 @@ class Kept:
         self.command, self.folder, self.kept = check, room / "crates" / crate, kept
 
     def check(self, texts):
-        """What `rt check` prints of the crate with these texts in place of its own."""
+        """What a check prints of the crate with these texts in place of its own."""
         own = {path: (self.folder / path).read_text() for path in texts}
         work = self.folder / "out" / "incremental"
         shutil.rmtree(work, ignore_errors=True)
