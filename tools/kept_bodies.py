@@ -23,16 +23,16 @@ def verdict(printed):
 
 
 def reason(printed, changed):
-    """Why the prover refuses the crate: the first line that isn't about a name alone. None if it doesn't refuse it, or
-    if it can't read an edited text or one that isn't a proof."""
+    """Why the prover refuses the crate: the clearest line that isn't about a name alone. None if it doesn't refuse it,
+    or if it can't read an edited text or one that isn't a proof."""
     if not verdict(printed).startswith("logic=not-proved"):
         return None
     lines = printed.split("\n")
     located = [(found[1], it) for it in lines if (found := LOCATED.match(it))]
     if any(": error" in it and (path in changed or not path.startswith("proofs/")) for path, it in located):
         return None
-    return next((it for path, it in located if (": error" in it or it.startswith("note: "))
-                 and not (path.startswith("proofs/") and quick_bodies.OF_NAMES.search(it))), None)
+    return quick_bodies.clearest(it for path, it in located if (": error" in it or it.startswith("note: "))
+                                 and not (path.startswith("proofs/") and quick_bodies.OF_NAMES.search(it)))
 
 
 class Kept:

@@ -79,6 +79,7 @@ FAKE_WHOLE = r"""[ "$1" = must-fail ] && for edit in "crates/$2/must-fail"/*; do
     echo "rt: must-fail $2/${edit##*/}: NOT REFUSED: the crate is still proved"
 done
 [ "$1" = check ] && if grep -q wrong_ src/ends.rt; then printf '%s'; else echo logic=proved functions=2; fi"""
+AT_LIMIT = "; `search` gave up at one of its limits"
 CALLS_IT = 'echo "fn js_doc::ends::$one: no proof: it calls \\`js_doc::ends::other\\`, which is not proved"'
 DOES_NOT_COMPILE = 'echo "error[type]: src/ends.rt:1:1"; exit 1'
 
@@ -137,6 +138,11 @@ def of_wrong_bodies(room):
                                 ("comes to no verdict", "NOT REFUSED", refuses)):
         env = {"RT": room.executable(f"rt/whole {name}", FAKE_WHOLE % printed)}
         yield Check(f"{script} --kept, an rt that {name}", [script, "--kept"], says, homes[0], env)
+    for name, prints, printed in (("meets limits", "2 of 2 refused, 2 at a limit", refuses + AT_LIMIT + ends),
+                                  ("meets a limit and refuses", "2 of 2 refused$",
+                                   refuses + AT_LIMIT + r"\n" + refuses + ends)):
+        env = {"RT": room.executable(f"rt/whole {name}", FAKE_WHOLE % printed)}
+        yield Check(f"{script} --kept, an rt that {name}", [script, "--kept"], "", homes[0], env, prints=prints)
     yield Check(f"{script} --kept, a crate that isn't proved", [script, "--kept"], "NOT REFUSED", homes[1],
                 {"RT": room.executable("rt/whole refuses each", FAKE_WHOLE % (refuses + ends))})
     home = room.copy_with_crates("wrong bodies over the gate")
@@ -212,11 +218,11 @@ KEPT = {
     "Rattle-js_doc-proofs.token.escape.Lts.oantt": 3_000_000,
     "Rattle-js_doc-proofs.token.escape.Code.Mir.oantt": 1_000_000,
     "Rattle-js_doc-specs.contracts.token.escape.Key.oantt": 200_000,
-    "Rattle-js_doc-proofs.reading.+convert.Lts-convert_items.oantt": 5_000_000,
+    "Rattle-js_doc-proofs.conversion.+convert.Lts-convert_items.oantt": 5_000_000,
     "Rattle-js_doc-proofs.Alike.oantt": 800_000,
 }
 WANTED_SIZES = """js_doc: 10 MB, of which 8 MB are the tables of paths of 2 functions and cycles
-    5.0    5.0  reading.+convert
+    5.0    5.0  conversion.+convert
     4.2    3.0  token.escape
 """
 

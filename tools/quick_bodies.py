@@ -21,6 +21,8 @@ NOTE = re.compile(r"note: src/(\S+)\.rt:(\d+):\d+: it is not proved ")
 # A proof file that names what the edit took away says nothing of the contract. (rt's own words for it.)
 OF_NAMES = re.compile(r"has no field|is not in scope|has no `|was not admitted")
 OF_CALLEES = "it calls `"
+# What `search` adds where it found neither a proof nor values at which the goal is false: this says less.
+OF_LIMITS = "gave up at one of its limits"
 # Their functions are in no module.
 ROOTS = ("src/lib.rt", "src/main.rt")
 
@@ -233,5 +235,10 @@ def reason(place, answer, printed):
     goal = UNPROVED_GOAL.match(answer)
     if not goal and answer != "not proved":
         return None
-    lines = printed.split("\n")
-    return next((it for it in lines if place.has_error(it) or place.has_goal(it)), answer if goal else None)
+    lines = [it for it in printed.split("\n") if place.has_error(it) or place.has_goal(it)]
+    return clearest(lines) or (answer if goal else None)
+
+
+def clearest(lines):
+    """The first of these reasons that is more than a limit of `search`, or else the first, or None."""
+    return min(lines, key=lambda it: OF_LIMITS in it, default=None)

@@ -26,7 +26,7 @@ COPIED = ("bench", "c", "diff", "fuzz", "hostile", "python", "reference", "tools
 
 @dataclass
 class Check:
-    """A script that must fail and say something, or, where it has to say nothing, must pass."""
+    """A script that must fail and say something, or, where it has to say nothing, must pass and print something."""
 
     name: str
     words: list
@@ -35,6 +35,7 @@ class Check:
     env: dict = field(default_factory=dict)
     has_count: bool = True
     status: int | None = None
+    prints: str = ""
 
     def fault(self):
         """None, or what is wrong with how the script ends."""
@@ -48,7 +49,8 @@ class Check:
         count = COUNT.search(out)
         ending = f"status {status}, output {out[-300:]!r}, errors {errors[-600:]!r}"
         if not self.says:
-            return None if status == 0 and count and count[2] == "0" else f"wanted to pass: {ending}"
+            passes = status == 0 and count and count[2] == "0" and re.search(self.prints, out, re.M)
+            return None if passes else f"wanted to pass{' with ' + repr(self.prints) if self.prints else ''}: {ending}"
         if not 0 < status < 128 or self.status not in (None, status):
             return f"wanted to fail: {ending}"
         if self.has_count and not (count and int(count[2]) > 0):

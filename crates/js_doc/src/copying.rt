@@ -43,7 +43,7 @@ fn copy_items(alloc: Global, docs: &[Doc]) -> Result<Vec<Doc>, Memory>
 {
     let mut copies = Vec::with_capacity(alloc, docs.len())?;
     for doc in docs {
-        copies.push(copy_doc(alloc, doc)?)?;
+        copies.push_reserved(copy_doc(alloc, doc)?);
     }
     Ok(copies)
 }
@@ -55,7 +55,7 @@ fn copy_entries(alloc: Global, entries: &[(String, Doc)]) -> Result<Vec<(String,
     let mut copies = Vec::with_capacity(alloc, entries.len())?;
     for (name, doc) in entries {
         let name = name.clone()?;
-        copies.push((name, copy_doc(alloc, doc)?))?;
+        copies.push_reserved((name, copy_doc(alloc, doc)?));
     }
     Ok(copies)
 }

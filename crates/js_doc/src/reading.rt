@@ -1,24 +1,20 @@
 //! From a text's bytes to a value (RFC 8259), by `serde_json`.
-ghost use Rattle.std.specs.Prelude.{◌≡◌, Ok, IfOk, IfErr, decimal, string_bytes};
-ghost use Rattle.serde_json.specs.View.{view, number_view, items_view, members_view};
-ghost use Rattle.js_doc.specs.Value.{members};
+ghost use Rattle.std.specs.Prelude.{◌≡◌, Ok, IfOk, IfErr};
+ghost use Rattle.serde_json.specs.View.{view};
 ghost use Rattle.js_doc.specs.Members.{NamesAscend};
 ghost use Rattle.js_doc.specs.Short.{IsShort};
-ghost use Rattle.js_doc.specs.Seen.{value_of, items_seen};
-ghost use Rattle.js_doc.specs.WholeNumbers.{whole_number, value_in, items_in, members_in};
+ghost use Rattle.js_doc.specs.Seen.{value_of};
+ghost use Rattle.js_doc.specs.WholeNumbers.{value_in};
 ghost use Rattle.js_doc.specs.Reading.{IsReadAs, IsReadFault, IsConversionFault, Lifts};
 ghost use Rattle.js_doc.specs.declared.reading.ReadFault.TheVariants.{Memory};
 
-use crate::conversion::{convert_owned, values_with_room};
+use crate::conversion::convert;
 use crate::doc::Doc;
 use crate::from_tokens::read_by_tokens;
-use crate::items::Items;
-use crate::members::Members;
 use crate::memory::Memory;
 use crate::pointer::Pointer;
 use crate::string::Text;
-use crate::whole::Whole;
-use serde_json::{Map, Number, Value};
+use serde_json::Value;
 use std::alloc::Global;
 
 /// Why a text isn't read.
@@ -85,7 +81,7 @@ fn read_tree(alloc: Global, bytes: &[u8]) -> Result<Doc, ReadFault>
 {
     match Value::from_slice(alloc, bytes) {
         Ok(value) => {
-            let doc = convert_owned(alloc, value)?;
+            let doc = convert(alloc, value)?;
             doc.lawful();
             Ok(doc)
         }
@@ -97,7 +93,7 @@ fn read_tree(alloc: Global, bytes: &[u8]) -> Result<Doc, ReadFault>
     }
 }
 
-/// The value that one of `serde_json`'s is.
+/// The value that one of `serde_json`'s is, whose texts are copied.
 ///
 /// # Errors
 /// `Memory`, or `NotWhole`; `NotJson` never comes.
@@ -107,92 +103,15 @@ pub fn from_value(alloc: Global, value: &Value) -> Result<Doc, ReadFault>
     ensures short { IfOk result (λ d. IsShort (value_of d)) }
     ensures err { IfErr result (λ e. IsConversionFault (value_in (view value.now)) e) }
 {
-    let doc = convert(alloc, value)?;
+    let doc = convert(alloc, copied(value)?)?;
     doc.lawful();
     Ok(doc)
 }
 
-pub(crate) fn convert_number(alloc: Global, number: &Number) -> Result<Doc, ReadFault>
-    ensures ok { IfOk result (λ d. whole_number (number_view number.now) ≡ Ok (value_of d)) }
-    ensures err { IfErr result (λ e. IsConversionFault (whole_number (number_view number.now)) e) }
+// A copy, whose texts can move.
+fn copied(value: &Value) -> Result<Value, Memory>
+    ensures { IfOk result (λ v. view v ≡ view value.now) }
 {
-    if let Some(n) = number.as_u64() {
-        return Ok(Doc::Whole(Whole::from_u64(n)));
-    }
-    match number.as_i64() {
-        Some(n) => Ok(Doc::Whole(Whole::from_i64(n))),
-        None => Err(ReadFault::NotWhole(Pointer::new(alloc))),
-    }
-}
-
-#[cycle(convert)]
-fn convert(alloc: Global, value: &Value) -> Result<Doc, ReadFault>
-    ensures ok { IfOk result (λ d. value_in (view value.now) ≡ Ok (value_of d)) }
-    ensures err { IfErr result (λ e. IsConversionFault (value_in (view value.now)) e) }
-{
-    match value {
-        Value::Null => Ok(Doc::Null),
-        Value::Bool(b) => Ok(Doc::Truth(*b)),
-        Value::Number(number) => convert_number(alloc, number),
-        Value::String(text) => Ok(Doc::Text(text_of(text)?)),
-        Value::Array(values) => {
-            let docs = convert_items(alloc, values)?;
-            Ok(Doc::List(Items::new(docs)))
-        }
-        Value::Object(map) => {
-            let members = convert_members(alloc, map)?;
-            Ok(Doc::Members(members))
-        }
-    }
-}
-
-#[cycle(convert)]
-fn convert_items(alloc: Global, values: &Vec<Value>) -> Result<Vec<Doc>, ReadFault>
-    ensures ok { IfOk result
-        (λ v. items_in 0 (items_view values.now.items) ≡ Ok (items_seen v.items)) }
-    ensures err { IfErr result (λ e. IsConversionFault (items_in 0 (items_view values.now.items)) e) }
-{
-    let mut docs = values_with_room(alloc, values.len())?;
-    for value in values {
-        match convert(alloc, value) {
-            Ok(doc) => docs.push_reserved(doc),
-            Err(fault) => {
-                let token = index_token(alloc, docs.len())?;
-                return Err(fault.lifted(token));
-            }
-        }
-    }
-    Ok(docs)
-}
-
-#[cycle(convert)]
-fn convert_members(alloc: Global, map: &Map<String, Value>) -> Result<Members, ReadFault>
-    ensures ok { IfOk result (λ m. members_in (members_view map.now.entries) ≡ Ok (members m)) }
-    ensures err { IfErr result (λ e. IsConversionFault (members_in (members_view map.now.entries)) e) }
-{
-    let mut members = Members::new(alloc);
-    for (name, value) in map.iter() {
-        match convert(alloc, value) {
-            Ok(doc) => members.put(text_of(name)?.into_string(), doc)?,
-            Err(fault) => {
-                let token = text_of(name)?;
-                return Err(fault.lifted(token));
-            }
-        }
-    }
-    Ok(members)
-}
-
-pub(crate) fn index_token(alloc: Global, index: usize) -> Result<Text, Memory>
-    ensures { IfOk result (λ t. t ≡ decimal index) }
-{
-    let text = index.to_string(alloc)?;
-    Ok(Text::new(text))
-}
-
-fn text_of(string: &String) -> Result<Text, Memory>
-    ensures { IfOk result (λ t. t ≡ string_bytes string.now) }
-{
-    let text = string.clone()?;
-    Ok(Text::new(text))
+    let copy = value.clone()?;
+    Ok(copy)
 }

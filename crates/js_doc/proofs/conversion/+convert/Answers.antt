@@ -11,10 +11,10 @@ use Rattle.js_doc.specs.WholeNumbers.{value_in, items_in, members_in}
 use Rattle.js_doc.specs.Reading.{Lifts}
 use Rattle.js_doc.proofs.Finding.{Entry, items_extend, items_stop, snoc_items_seen, members_extend}
 use Rattle.js_doc.proofs.Finding.{members_stop, above_found, lifted_stops}
-use Rattle.js_doc.proofs.conversion.+convert_owned.Goals as goal
+use Rattle.js_doc.proofs.conversion.+convert.Goals as goal
 
-pub convert_owned_items-loop-value-preserved : goal.convert_owned_items-loop-value-preserved
-convert_owned_items-loop-value-preserved t c =
+pub convert_items-loop-value-preserved : goal.convert_items-loop-value-preserved
+convert_items-loop-value-preserved t c =
     let l = c.loop-value in let done = l.invariant.0 in let v = c.in-Some.value in
     let left = c.next.new.self.rest.items in let all : c.args.values.items ≡ done ++ v ∷ left = l.invariant.1
     ∙ ap (λ ws. done ++ ws) c.in-Some.ensures.steps.0 in
@@ -28,8 +28,8 @@ convert_owned_items-loop-value-preserved t c =
       omega (arith, l.invariant.4, c.push_reserved.ensures.capacity),
     )
 
-pub convert_owned_items-returns-in-Err-clause-err : goal.convert_owned_items-returns-in-Err-clause-err
-convert_owned_items-returns-in-Err-clause-err t c =
+pub convert_items-returns-in-Err-clause-err : goal.convert_items-returns-in-Err-clause-err
+convert_items-returns-in-Err-clause-err t c =
     let l = c.loop-value in let done = l.invariant.0 in let v = c.in-Some.value in
     let left = c.next.new.self.rest.items in let all : c.args.values.items ≡ done ++ v ∷ left = l.invariant.1
     ∙ ap (λ ws. done ++ ws) c.in-Some.ensures.steps.0 in
@@ -40,8 +40,8 @@ convert_owned_items-returns-in-Err-clause-err t c =
     (subst (λ k. Lifts k c.in-Err.fault c.lifted.result) named c.lifted.ensures)
     (λ p e. ap (λ ws. items_in 0 (items_view ws)) all ∙ items_stop 0 _ done v left _ p l.invariant.2 e so_far)
 
-pub convert_owned_members-push-requires : goal.convert_owned_members-push-requires
-convert_owned_members-push-requires t c =
+pub convert_members-push-requires : goal.convert_members-push-requires
+convert_members-push-requires t c =
     let l = c.loop-name in
     let done = l.invariant.0 in
     let e : Entry = (c.in-Some.name, c.in-Some.value) in
@@ -50,8 +50,8 @@ convert_owned_members-push-requires t c =
     above_found done e left l.members l.invariant.2 (subst (λ es. IsStrictlySortedBy string_cmp (keys_of es)) all
     c.into_iter-name-iterator.ensures.into_iter_gives.5)
 
-pub convert_owned_members-loop-name-preserved : goal.convert_owned_members-loop-name-preserved
-convert_owned_members-loop-name-preserved t c =
+pub convert_members-loop-name-preserved : goal.convert_members-loop-name-preserved
+convert_members-loop-name-preserved t c =
     let l = c.loop-name in
     let done = l.invariant.0 in
     let e : Entry = (c.in-Some.name, c.in-Some.value) in
@@ -64,8 +64,8 @@ convert_owned_members-loop-name-preserved t c =
           ∙ ap (λ ms. Ok (members ms)) (sym c.in_ok-push-in-Ok.ensures.ok),
     )
 
-pub convert_owned_members-returns-in-Err-clause-err : goal.convert_owned_members-returns-in-Err-clause-err
-convert_owned_members-returns-in-Err-clause-err t c =
+pub convert_members-returns-in-Err-clause-err : goal.convert_members-returns-in-Err-clause-err
+convert_members-returns-in-Err-clause-err t c =
     let l = c.loop-name in
     let done = l.invariant.0 in
     let e : Entry = (c.in-Some.name, c.in-Some.value) in
