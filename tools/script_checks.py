@@ -26,7 +26,7 @@ COPIED = ("bench", "c", "diff", "fuzz", "hostile", "python", "reference", "tools
 
 @dataclass
 class Check:
-    """A script that must fail and say something, or, where it has to say nothing, must pass and print something."""
+    """A script that must fail and say something, or, where it has to say nothing, must pass and print `prints`."""
 
     name: str
     words: list
