@@ -1,18 +1,18 @@
 #!/usr/bin/env python3
 """Where the prover finds the libraries that a crate uses.
 
-    tools/libraries.py [--of-gate] CRATE
+    tools/libraries.py [--of-gate] [--made FILE] CRATE
 
 Prints the prover's arguments, a line each. With --of-gate it ends with status 1 unless `rt ci` proved all of these
-crates and no source has changed since.
+crates and no source has changed since; with --made unless the file was made of the present sources of all of them and
+the crate, by the present kit.
 """
 import argparse
 import os
 import subprocess
 import sys
 
-from programs import HOME
-
+HOME = os.path.dirname(os.path.dirname(os.path.abspath(__file__)))
 CRATES = os.path.join(HOME, "crates")
 
 
@@ -53,6 +53,16 @@ def is_of_gate(crate):
     return all(os.stat(path).st_ctime_ns <= since for path in sources(crate))
 
 
+def is_made_of(path, crate):
+    """Whether a file is newer than each source of a crate and of those below, and than the kit."""
+    if not os.path.isfile(path):
+        return False
+    since = os.stat(path).st_mtime_ns
+    used = [*with_below(crates()[crate]), crate]
+    paths = [f"{kit()}/KIT-ID", *(it for name in used for it in sources(name))]
+    return all(os.stat(it).st_ctime_ns <= since for it in paths)
+
+
 def kit():
     """The folder of the Rattle kit."""
     page = subprocess.run(["rt", "doc"], stdout=subprocess.PIPE, text=True, check=True).stdout
@@ -84,10 +94,13 @@ def check(rt, crate):
 def main():
     words = argparse.ArgumentParser(description="Lists where the libraries that a crate uses are.")
     words.add_argument("--of-gate", action="store_true", help="fail unless `rt ci` made them, of the present sources")
+    words.add_argument("--made", metavar="FILE", help="fail unless this was made of the present sources")
     words.add_argument("crate")
     given = words.parse_args()
     used = crates()[given.crate]
     if given.of_gate and not all(map(is_of_gate, with_below(used))):
+        sys.exit(1)
+    if given.made and not is_made_of(given.made, given.crate):
         sys.exit(1)
     print("\n".join(arguments(used)))
 

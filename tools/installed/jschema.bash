@@ -1,5 +1,10 @@
 # Completions of jschema for bash.
 
+# interface: words
+_jschema_commands='check suite places'
+_jschema_formats='flag basic detailed merged verbose'
+# interface: end
+
 # Puts the words up to the cursor into `words`. Bash also splits at `:`, `=` and `@`, which are part of URIs: here only
 # blanks separate words.
 _jschema_set_words() {
@@ -31,8 +36,8 @@ _jschema() {
     _jschema_set_words
     current=${words[-1]}
     case $((${#words[@]} - 1)):${words[1]-} in
-        1:*) mapfile -t COMPREPLY < <(compgen -W 'check suite places' -- "$current") ;;
-        2:check) mapfile -t COMPREPLY < <(compgen -W 'flag basic detailed merged verbose' -- "$current") ;;
+        1:*) mapfile -t COMPREPLY < <(compgen -W "$_jschema_commands" -- "$current") ;;
+        2:check) mapfile -t COMPREPLY < <(compgen -W "$_jschema_formats" -- "$current") ;;
         4:check) ;; # ENTRY, any URI
         3:check | *[02468]:check | *[02468]:suite | *[13579]:places) compopt -o default ;; # a file
         *:check) _jschema_uri "${words[4]}" "$current" ;;

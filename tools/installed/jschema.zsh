@@ -1,6 +1,7 @@
 #compdef jschema
 # Completions of jschema for zsh.
 
+# interface: words
 local -a commands=(
     'check:validate an instance'
     'suite:run a suite of tests'
@@ -13,6 +14,7 @@ local -a formats=(
     'merged:a condensed tree without repeated siblings'
     'verbose:the whole tree'
 )
+# interface: end
 
 case $((CURRENT - 1)):$words[2] in
     1:*) _describe command commands ;;

@@ -9,3 +9,4 @@ pub mod FileFaults
 pub mod LastFlush
 pub mod InputUse
 pub mod ProgramAnswers
+pub mod Written

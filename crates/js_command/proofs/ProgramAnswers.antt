@@ -3,19 +3,19 @@ use Rattle.std.proofs.Common.{◌≡◌, ◌≢◌, ℕ, List, [], ◌∷◌, �
 use Rattle.std.proofs.Common.{Bool, true, false, ◌⊎◌, inl, inr, refl, sym, ap, subst, arith, ◌<◌}
 use Rattle.std.specs.Borrow.{Bor}
 use Rattle.std.specs.Io.KnownBytes.{Keeps}
-use Rattle.js_output.specs.Cause.{Causes, MayGoOn}
+use Rattle.js_output.specs.Cause.{MayGoOn}
 use Rattle.js_output.specs.Device.{Tracked, IsLeft, Sends, SendsBeginning}
 use Rattle.js_output.specs.Documents.{DocumentTexts, documents_causes}
-use Rattle.js_output.specs.Outcome.{Output, Outcome, PairOutcome, output_report, beginning_causes}
+use Rattle.js_output.specs.Outcome.{Output, Outcome, PairOutcome, output_report}
 use Rattle.js_output.specs.Places.{ReportsPlaces, places_text}
 use Rattle.js_output.specs.Suite.{SuiteOutcome, lines_report}
 use Rattle.js_output.specs.SuiteLines.{counts_of, lines_text}
-use Rattle.js_output.specs.Report.{Answers}
+use Rattle.js_output.specs.Report.{Answers, Reports}
 use Rattle.js_output.specs.declared.suite_lines.Counts.{Counts}
 use Rattle.js_output.specs.declared.fault.Fault.{Fault}
 use Rattle.js_output.specs.declared.fault.Fault.TheVariants as fault
 use Rattle.js_tree.specs.declared.forms.Format.{Format}
-use Rattle.js_command.specs.Answer.{AreContents, MayReadAgain, OverFiles, OverTexts, PlacesOutcome, RequestOutcome}
+use Rattle.js_command.specs.Answer.{AreContents, OverFiles, OverTexts, PlacesOutcome, RequestOutcome}
 use Rattle.js_command.specs.Answer.{SuiteReported, all_passed, suite_output, WordsOutcome}
 use Rattle.js_command.specs.Answer.{Performs, IsPartlyReported, IsReason}
 use Rattle.js_command.specs.Files.{ContentsByPath, IsFirstFileFault}
@@ -34,16 +34,16 @@ use Rattle.js_command.proofs.FileFaults.{input_fault}
 use Rattle.js_command.proofs.Holding.{holds_over}
 
 -- a file isn't taken
-pub performs-fault : {D : Type 0} (contents : ContentsByPath) (paths : List (List ℕ)) (Unread : Type 0)
-    (P : Result Output Fault → Type 0) (taken : D → Option (List ℕ)) (old new : Tracked D) (e : Fault)
+pub performs-fault : {D : Type 0} (contents : ContentsByPath) (paths : List (List ℕ)) (P : Result Output Fault → Type 0)
+    (taken : D → Option (List ℕ)) (old new : Tracked D) (e : Fault)
     → (¬ (e ≡ fault.Memory) → IsFirstFileFault contents paths e)
-    → Performs (OverFiles contents paths Unread P) taken old new (Err e)
-performs-fault contents paths Unread P taken old new fault.Memory h = tt
-performs-fault contents paths Unread P taken old new fault.Read h = inl (h (λ e. cc))
-performs-fault contents paths Unread P taken old new fault.InputTooLarge h = inl (h (λ e. cc))
-performs-fault contents paths Unread P taken old new fault.Write h =
+    → Performs (OverFiles contents paths P) taken old new (Err e)
+performs-fault contents paths P taken old new fault.Memory h = tt
+performs-fault contents paths P taken old new fault.Read h = h (λ e. cc)
+performs-fault contents paths P taken old new fault.InputTooLarge h = inl (h (λ e. cc))
+performs-fault contents paths P taken old new fault.Write h =
     absurd (input_fault contents paths fault.Write (h (λ e. cc)))
-performs-fault contents paths Unread P taken old new _ h = absurd (input_fault contents paths _ (h (λ e. cc)))
+performs-fault contents paths P taken old new _ h = absurd (input_fault contents paths _ (h (λ e. cc)))
 
 module _ (words : List (List ℕ)) (contents : ContentsByPath) (input : Option (List ℕ)) (unread : Bool)
     (request : Request)
@@ -68,34 +68,32 @@ module _ (words : List (List ℕ)) (contents : ContentsByPath) (input : Option (
 module _ {D : Type 0} (contents : ContentsByPath) (pairs : DocumentPairs) (file : List ℕ) (taken : D → Option (List ℕ))
     (old new : Tracked D) where
   -- they are taken
-  texts_reported : (documents : DocumentTexts) (bytes : List ℕ) (causes : DocumentTexts → Causes)
+  texts_reported : (documents : DocumentTexts) (bytes : List ℕ)
       (Expected : DocumentTexts → List ℕ → Result Output Fault → Type 0) (answer : Result Bool Fault)
       → AreContents contents pairs documents → IsLeft (contents file) bytes
-      → Answers output_report (Expected documents) (causes documents) (Some bytes) taken old new answer
-      → Performs (OverTexts contents pairs file causes Expected) taken old new answer
-  texts_reported documents bytes causes Expected (Ok valid) holds here (read, is, (output, h, same, sent)) =
-      (output, (documents, holds, (read, subst (IsLeft (contents file)) is here, h)), same, sent)
-  texts_reported documents bytes causes Expected (Err fault.Write) holds here (read, is, (output, h, begun)) =
-      (output, (documents, holds, (read, subst (IsLeft (contents file)) is here, h)), begun)
-  texts_reported documents bytes causes Expected (Err fault.Memory) holds here h = tt
-  texts_reported documents bytes causes Expected (Err fault.Read) holds here clear = inr (documents, holds, clear)
-  texts_reported documents bytes causes Expected (Err fault.InputTooLarge) holds here (read, is, h) =
-      inr (documents, holds, (read, subst (IsLeft (contents file)) is here, h))
-  texts_reported documents bytes causes Expected (Err _) holds here (read, is, h) =
-      (documents, holds, (read, subst (IsLeft (contents file)) is here, h))
+      → Reports output_report (Expected documents bytes) taken old new answer
+      → Performs (OverTexts contents pairs file Expected) taken old new answer
+  texts_reported documents bytes Expected (Ok valid) holds here (output, h, same, sent) =
+      (output, (documents, holds, (bytes, here, h)), same, sent)
+  texts_reported documents bytes Expected (Err fault.Write) holds here (output, h, begun) =
+      (output, (documents, holds, (bytes, here, h)), begun)
+  texts_reported documents bytes Expected (Err fault.Memory) holds here h = tt
+  texts_reported documents bytes Expected (Err fault.Read) holds here h = absurd h
+  texts_reported documents bytes Expected (Err fault.InputTooLarge) holds here h =
+      inr (documents, holds, (bytes, here, h))
+  texts_reported documents bytes Expected (Err _) holds here h = (documents, holds, (bytes, here, h))
 
   -- one isn't
   pub texts_untaken : (subject : Subject) (e : Fault)
       → (¬ (e ≡ fault.Memory) → IsFirstFileFault contents (files_of pairs ++ file ∷ []) e)
       → Performs (RequestOutcome contents None false (request_by subject file pairs)) taken old new (Err e)
   texts_untaken (subject.Instance format entry) e h =
-      performs-fault contents (files_of pairs ++ file ∷ []) (MayReadAgain contents pairs
-      (λ documents. beginning_causes documents entry.now))
+      performs-fault contents (files_of pairs ++ file ∷ [])
       (λ reported. (documents : DocumentTexts) × AreContents contents pairs documents
       × ((bytes : List ℕ) × IsLeft (contents file) bytes × Outcome documents entry.now format bytes
       reported)) taken old new e h
   texts_untaken subject.Suite e h =
-      performs-fault contents (files_of pairs ++ file ∷ []) (MayReadAgain contents pairs documents_causes)
+      performs-fault contents (files_of pairs ++ file ∷ [])
       (λ reported. (documents : DocumentTexts) × AreContents contents pairs documents
       × ((bytes : List ℕ) × IsLeft (contents file) bytes × SuiteReported documents bytes reported)) taken old new e h
 
@@ -107,14 +105,13 @@ module _ (contents : ContentsByPath) (judging : Judgement) (named : List Documen
     (holds : AreContents contents (pairs_seen named) (documents_taken texts.documents.items))
     (here : IsLeft (contents judging.file.now) texts.judged.items)
     {D : Type 0} (taken : D → Option (List ℕ)) (old new : Tracked D) where
-  judged_reported : (causes : DocumentTexts → Causes) (Expected : DocumentTexts → List ℕ → Result Output Fault → Type 0)
-      (answer : Result Bool Fault)
-      → Answers output_report (Expected documents) (causes documents) (Some bytes) taken old new answer
-      → Performs (OverTexts contents (pairs_seen judging.documents.items) judging.file.now causes
-      Expected) taken old new answer
-  judged_reported causes Expected answer h =
+  judged_reported : (Expected : DocumentTexts → List ℕ → Result Output Fault → Type 0) (answer : Result Bool Fault)
+      → Reports output_report (Expected documents bytes) taken old new answer
+      → Performs (OverTexts contents (pairs_seen judging.documents.items) judging.file.now Expected) taken old new
+      answer
+  judged_reported Expected answer h =
       texts_reported contents (pairs_seen judging.documents.items) judging.file.now taken old new documents
-      bytes causes Expected answer
+      bytes Expected answer
       (holds_over contents named judging.documents.items (documents_taken texts.documents.items) documents same docs
       holds)
       (subst (IsLeft (contents judging.file.now)) (sym all) here) h
@@ -129,36 +126,33 @@ module _ (contents : ContentsByPath) (judging : Judgement) (named : List Documen
 
   pub check_reported : (format : Format) (entry : Bor (List ℕ)) (answer : Result Bool Fault)
       → judging.subject ≡ subject.Instance format entry
-      → Answers output_report (Outcome documents entry.now format) (beginning_causes documents entry.now)
-      (Some bytes) taken old new answer
+      → Reports output_report (Outcome documents entry.now format bytes) taken old new answer
       → Performs (RequestOutcome contents None false (judging_seen judging)) taken old new answer
   check_reported format entry answer e h =
       of_subject (subject.Instance format entry) answer e
-      (judged_reported (λ ds. beginning_causes ds entry.now) (λ ds. Outcome ds entry.now format) answer h)
+      (judged_reported (λ ds. Outcome ds entry.now format) answer h)
 
   pub suite_reported : (counts : Counts) → judging.subject ≡ subject.Suite
-      → Answers lines_report (SuiteOutcome documents) (documents_causes documents) (Some bytes)
-      taken old new (Ok counts)
+      → Reports lines_report (SuiteOutcome documents bytes) taken old new (Ok counts)
       → Performs (RequestOutcome contents None false (judging_seen judging)) taken old new (Ok (all_passed counts))
-  suite_reported counts e (read, is, (lines, h, passed, sent)) =
+  suite_reported counts e (lines, h, passed, sent) =
       of_subject subject.Suite (Ok (all_passed counts)) e
-      (judged_reported documents_causes SuiteReported (Ok (all_passed counts))
-      (read, is, (suite_output (counts_of lines) (lines_text lines), (lines, h, refl), ap all_passed passed, sent)))
+      (judged_reported SuiteReported (Ok (all_passed counts))
+      (suite_output (counts_of lines) (lines_text lines), (lines, h, refl), ap all_passed passed, sent))
 
-  suite_output_fault : (f : Fault) → Answers lines_report (SuiteOutcome documents) (documents_causes documents)
-      (Some bytes) taken old new (Err f)
-      → Answers output_report (SuiteReported documents) (documents_causes documents) (Some bytes) taken old new (Err f)
-  suite_output_fault fault.Write (read, is, (lines, h, begun)) =
-      (read, is, (suite_output (counts_of lines) (lines_text lines), (lines, h, refl), begun))
+  suite_output_fault : (f : Fault) → Reports lines_report (SuiteOutcome documents bytes) taken old new (Err f)
+      → Reports output_report (SuiteReported documents bytes) taken old new (Err f)
+  suite_output_fault fault.Write (lines, h, begun) =
+      (suite_output (counts_of lines) (lines_text lines), (lines, h, refl), begun)
   suite_output_fault fault.Memory h = tt
   suite_output_fault fault.Read h = h
-  suite_output_fault _ (read, is, h) = (read, is, h)
+  suite_output_fault _ h = h
 
   pub suite_fault : (f : Fault) → judging.subject ≡ subject.Suite
-      → Answers lines_report (SuiteOutcome documents) (documents_causes documents) (Some bytes) taken old new (Err f)
+      → Reports lines_report (SuiteOutcome documents bytes) taken old new (Err f)
       → Performs (RequestOutcome contents None false (judging_seen judging)) taken old new (Err f)
-  suite_fault f e h = of_subject subject.Suite (Err f) e
-      (judged_reported documents_causes SuiteReported (Err f) (suite_output_fault f h))
+  suite_fault f e h =
+      of_subject subject.Suite (Err f) e (judged_reported SuiteReported (Err f) (suite_output_fault f h))
 
 -- ---- places
 
@@ -167,7 +161,7 @@ module _ {D : Type 0} (contents : ContentsByPath) (pairs : DocumentPairs) (taken
   pub places_untaken : (e : Fault) → (¬ (e ≡ fault.Memory) → IsFirstFileFault contents (files_of pairs) e)
       → Performs (RequestOutcome contents None false (places pairs)) taken old new (Err e)
   places_untaken e h =
-      performs-fault contents (files_of pairs) ⊥ (λ reported. (documents : DocumentTexts)
+      performs-fault contents (files_of pairs) (λ reported. (documents : DocumentTexts)
       × AreContents contents pairs documents
       × PlacesOutcome documents reported) taken old new e h
 

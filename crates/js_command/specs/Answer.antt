@@ -2,10 +2,10 @@
 use Rattle.std.specs.Prelude.{◌≡◌, ◌≤◌, ◌⊎◌, ℕ, ◌==◌, List, [], ◌∷◌, ◌++◌, length, Option}
 use Rattle.std.specs.Prelude.{Result, Ok, Err, Bool, true, ◌&&◌, ⊤}
 use Rattle.std.specs.Io.KnownBytes.{Appends}
-use Rattle.js_output.specs.Cause.{Causes, MayGoOn, IsFirstFault}
+use Rattle.js_output.specs.Cause.{MayGoOn, IsFirstFault}
 use Rattle.js_output.specs.Device.{Tracked, input_limit, IsLeft, AppendsBeginning, Sends, SendsBeginning}
 use Rattle.js_output.specs.Documents.{DocumentTexts, documents_causes}
-use Rattle.js_output.specs.Outcome.{Output, Outcome, PairOutcome, beginning_causes}
+use Rattle.js_output.specs.Outcome.{Output, Outcome, PairOutcome}
 use Rattle.js_output.specs.Places.{places_text}
 use Rattle.js_output.specs.Suite.{SuiteOutcome}
 use Rattle.js_output.specs.SuiteLines.{counts_of, lines_text}
@@ -47,25 +47,18 @@ abbrev pub OverInput : Bool → (Result Output Fault → Type 0) → Result Outp
 OverInput failed Expected (Err fault.Read) = failed ≡ true
 OverInput failed Expected answer = Expected answer
 
--- What comes of files, which are read in this order. `Unread` is what else `Read` can come of.
-abbrev pub OverFiles : ContentsByPath → List (List ℕ) → Type 0 → (Result Output Fault → Type 0)
-    → Result Output Fault → Type 0
-OverFiles contents paths Unread Expected (Err fault.Read) = IsFirstFileFault contents paths fault.Read ⊎ Unread
-OverFiles contents paths Unread Expected (Err fault.InputTooLarge) = IsFirstFileFault contents paths fault.InputTooLarge
+-- what comes of files, which are read in this order
+abbrev pub OverFiles : ContentsByPath → List (List ℕ) → (Result Output Fault → Type 0) → Result Output Fault → Type 0
+OverFiles contents paths Expected (Err fault.Read) = IsFirstFileFault contents paths fault.Read
+OverFiles contents paths Expected (Err fault.InputTooLarge) = IsFirstFileFault contents paths fault.InputTooLarge
     ⊎ Expected (Err fault.InputTooLarge)
-OverFiles contents paths Unread Expected answer = Expected answer
-
--- The text of the last file is read again, from memory, once the documents are accepted. That this reading doesn't
--- fail is no promise of its reader.
-abbrev pub MayReadAgain : ContentsByPath → DocumentPairs → (DocumentTexts → Causes) → Type 0
-MayReadAgain contents pairs causes = (documents : DocumentTexts) × AreContents contents pairs documents
-    × MayGoOn (causes documents)
+OverFiles contents paths Expected answer = Expected answer
 
 -- what comes of documents, and of a file that is judged by them
-abbrev pub OverTexts : ContentsByPath → DocumentPairs → List ℕ → (DocumentTexts → Causes)
+abbrev pub OverTexts : ContentsByPath → DocumentPairs → List ℕ
     → (DocumentTexts → List ℕ → Result Output Fault → Type 0) → Result Output Fault → Type 0
-OverTexts contents pairs file causes Expected answer =
-    OverFiles contents (files_of pairs ++ file ∷ []) (MayReadAgain contents pairs causes)
+OverTexts contents pairs file Expected answer =
+    OverFiles contents (files_of pairs ++ file ∷ [])
     (λ reported. (documents : DocumentTexts) × AreContents contents pairs documents
     × ((bytes : List ℕ) × IsLeft (contents file) bytes × Expected documents bytes reported)) answer
 
@@ -74,12 +67,11 @@ abbrev pub RequestOutcome : ContentsByPath → Option (List ℕ) → Bool → Re
 RequestOutcome contents input failed pair answer =
     OverInput failed (λ reported. (bytes : List ℕ) × IsLeft input bytes × PairOutcome bytes reported) answer
 RequestOutcome contents input failed (check format instance entry pairs) answer =
-    OverTexts contents pairs instance (λ documents. beginning_causes documents entry)
-    (λ documents. Outcome documents entry format) answer
+    OverTexts contents pairs instance (λ documents. Outcome documents entry format) answer
 RequestOutcome contents input failed (suite file pairs) answer =
-    OverTexts contents pairs file documents_causes SuiteReported answer
+    OverTexts contents pairs file SuiteReported answer
 RequestOutcome contents input failed (places pairs) answer =
-    OverFiles contents (files_of pairs) ⊥ (λ reported. (documents : DocumentTexts)
+    OverFiles contents (files_of pairs) (λ reported. (documents : DocumentTexts)
     × AreContents contents pairs documents
     × PlacesOutcome documents reported) answer
 
@@ -93,6 +85,10 @@ Performs Expected taken old new (Err fault.Memory) = ⊤
 Performs Expected taken old new (Err fault.Write) = (output : Output) × Expected (Ok output)
     × SendsBeginning taken old new output.text
 Performs Expected taken old new (Err f) = Expected (Err f)
+
+-- a text was written; or the device has failed, after a beginning of it
+abbrev pub IsWrittenOrFailed : Option (List ℕ) → Option (List ℕ) → Bool → List ℕ → Type 0
+IsWrittenOrFailed old new failed text = Appends old new text ⊎ ((failed ≡ true) × AppendsBeginning old new text)
 
 -- it comes to this verdict, and its text was written
 abbrev pub IsReported : (Result Output Fault → Type 0) → Bool → Option (List ℕ) → Option (List ℕ) → Type 0

@@ -3,6 +3,7 @@ ghost use Rattle.std.specs.Prelude.{◌≡◌, ◌++◌, ◌∷◌, [], IfSome, 
 ghost use Rattle.js_output.specs.Device.{AppendsBeginning};
 ghost use Rattle.js_output.specs.Line.{fault_line};
 ghost use Rattle.js_output.specs.declared.fault.Fault.{Fault};
+ghost use Rattle.js_command.specs.Answer.{IsWrittenOrFailed};
 ghost use Rattle.js_command.specs.Words.{usage_line};
 ghost use Rattle.js_command.specs.Status.{misuse_status};
 
@@ -33,8 +34,8 @@ fn ended_line(alloc: Global, fault: &Fault) -> Option<String>
 /// Writes the usage text, or that memory ran out. Returns the status.
 pub(crate) fn report_misuse<V: Write>(alloc: Global, misuse: Misuse, faults: &mut Sink<V>) -> u8
     ensures status { result ≡ misuse_status misuse }
-    ensures usage { result ≡ 2 → AppendsBeginning (V.contents faults.old.device)
-        (V.contents faults.new.device) (usage_line misuse) }
+    ensures usage { result ≡ 2 → IsWrittenOrFailed (V.contents faults.old.device)
+        (V.contents faults.new.device) faults.new.failed (usage_line misuse) }
     ensures reported { result ≡ 4 → AppendsBeginning (V.contents faults.old.device)
         (V.contents faults.new.device) (fault_line Fault.Memory ++ 10 ∷ []) }
 {
@@ -44,12 +45,20 @@ pub(crate) fn report_misuse<V: Write>(alloc: Global, misuse: Misuse, faults: &mu
             FAILED
         }
         Misuse::OtherForm => {
-            let _ = faults.write_all(USAGE);
+            write_usage(USAGE, faults);
             MISUSED
         }
         Misuse::OddPairs => {
-            let _ = faults.write_all(PAIRS_USAGE);
+            write_usage(PAIRS_USAGE, faults);
             MISUSED
         }
     }
+}
+
+// It stands in the program, so it takes no memory.
+fn write_usage<V: Write>(text: &[u8], faults: &mut Sink<V>)
+    ensures { IsWrittenOrFailed (V.contents faults.old.device) (V.contents faults.new.device)
+        faults.new.failed text.now }
+{
+    let _ = faults.write_all(text);
 }

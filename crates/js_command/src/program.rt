@@ -8,7 +8,7 @@ ghost use Rattle.js_output.specs.declared.fault.Fault.{Fault};
 ghost use Rattle.js_command.specs.Words.{request_of, usage_line, words_of};
 ghost use Rattle.js_command.specs.declared.words.Misuse.{Misuse};
 ghost use Rattle.js_command.specs.Answer.{RequestOutcome, WordsOutcome, IsReported, IsPartlyReported, IsReason};
-ghost use Rattle.js_command.specs.Answer.{UsesInput};
+ghost use Rattle.js_command.specs.Answer.{IsWrittenOrFailed, UsesInput};
 ghost use Rattle.js_command.specs.Status.{fault_status};
 ghost use Rattle.js_command.specs.code.Tasks.{ReadsInput, first_fault, request_seen};
 
@@ -29,7 +29,7 @@ use std::io::{Read, Write};
 /// |---|---|
 /// | none | `js_output::run_pair` on `input` |
 /// | `check FORMAT INSTANCE ENTRY [URI FILE]...` | `js_output::run` on the instance |
-/// | `suite SUITE [URI FILE]...` | `js_output::run_suite` on the suite |
+/// | `suite SUITE [URI FILE]...` | `js_output::run_suite_text` on the suite |
 /// | `places [URI FILE]...` | `js_output::run_places` on the documents |
 ///
 /// The files of the documents are taken in the order given, then INSTANCE or SUITE. FORMAT is
@@ -75,15 +75,16 @@ pub fn command<'a, F: Files, R: Read, W: Write, V: Write>(
         (R.remaining input.old.device) input.new.failed)
         (W.contents out.old.device) (W.contents out.new.device)) }
 
-    // What went to standard error, or a beginning of it, and its reason. After any fault but `Write`
-    // nothing was written to the output.
+    // What went to standard error, and its reason: a usage text whole, unless standard error has
+    // failed; of a line maybe only a beginning. After any fault but `Write` nothing was written to
+    // the output.
     ensures quiet { result < 2 → faults.new ≡ faults.old }
     ensures misused { OnErr (request_of (words_of words.entry.now)) ((result ≡ 2) ⊎ ((result ≡ 4)
         × AppendsBeginning (V.contents faults.old.device) (V.contents faults.new.device)
         (fault_line Fault.Memory ++ 10 ∷ []))) }
     ensures usage { result ≡ 2 → (m : Misuse) × (request_of (words_of words.entry.now) ≡ Err m)
-        × AppendsBeginning (V.contents faults.old.device) (V.contents faults.new.device)
-        (usage_line m) }
+        × IsWrittenOrFailed (V.contents faults.old.device) (V.contents faults.new.device)
+        faults.new.failed (usage_line m) }
     ensures reported { 2 < result → (fault : Fault) × (fault_status fault ≡ result)
         × IsReason (WordsOutcome (words_of words.entry.now) (F.contents files.old)
         (R.remaining input.old.device) input.new.failed)

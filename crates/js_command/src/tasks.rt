@@ -8,7 +8,7 @@ ghost use Rattle.js_command.specs.code.Tasks.{ReadsInput, judging_seen, pairs_se
 use crate::documents::{borrowed_documents, take_all, take_texts};
 use crate::files::Files;
 use crate::words::{DocumentFile, Judgement, Subject, Task};
-use js_output::{Counts, Fault, Sink, Source, run, run_pair, run_places, run_suite};
+use js_output::{Counts, Fault, Sink, Source, run_pair, run_places, run_suite_text, run_text};
 use std::alloc::Global;
 use std::io::{Read, Write};
 
@@ -49,13 +49,13 @@ fn perform_judging<F: Files, W: Write>(
 {
     let texts = take_texts(alloc, judging.documents.as_slice(), judging.file, files)?;
     let docs = borrowed_documents(alloc, texts.documents.as_slice())?;
-    let mut text = Source::new(texts.judged.as_slice());
+    let judged = texts.judged.as_slice();
     match &judging.subject {
         Subject::Instance(format, entry) => {
-            run(alloc, docs.as_slice(), entry, &mut text, *format, out)
+            run_text(alloc, docs.as_slice(), entry, judged, *format, out)
         }
         Subject::Suite => {
-            let counts = run_suite(alloc, docs.as_slice(), &mut text, out)?;
+            let counts = run_suite_text(alloc, docs.as_slice(), judged, out)?;
             Ok(all_passed(&counts))
         }
     }

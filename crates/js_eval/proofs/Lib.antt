@@ -18,3 +18,4 @@ pub mod NamesLeft
 pub mod Collected
 pub mod ResultExamples
 pub mod NothingStandsIn
+pub mod PatternsAt

@@ -165,6 +165,17 @@ reference_named name e =
     (by_kind (λ n. bytes_eq n (codes "$ref")) is_reference name refl refl
     (each_same (λ row. bytes_eq row.0 (codes "$ref")) (λ row. is_reference row.1) applicators refl) e)
 
+abbrev is_pattern_properties : Kind → Bool
+is_pattern_properties PatternProperties = true
+is_pattern_properties _ = false
+
+pub patterns_named : (name : Text) → kind name ≡ PatternProperties → name ≡ codes "patternProperties"
+patterns_named name e =
+    (bytes_eq-Decides name (codes "patternProperties")).0
+    (by_kind (λ n. bytes_eq n (codes "patternProperties")) is_pattern_properties name refl refl
+    (each_same (λ row. bytes_eq row.0 (codes "patternProperties")) (λ row. is_pattern_properties row.1) applicators
+    refl) (ap is_pattern_properties e))
+
 dynamic_reference_named : (name : Text) → is_dynamic_reference (kind name) ≡ true → name ≡ codes "$dynamicRef"
 dynamic_reference_named name e =
     (bytes_eq-Decides name (codes "$dynamicRef")).0

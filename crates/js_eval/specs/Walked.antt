@@ -9,6 +9,7 @@ use Rattle.js_bundle.specs.Document.{Documents}
 use Rattle.js_walk.specs.Bundle.{schemas_of}
 use Rattle.js_walk.specs.Location.{at_root}
 use Rattle.js_walk.specs.Result.{ResultTree, IsResult, IsWithinLimits}
+use Rattle.js_walk.specs.declared.walking.limits.Limits.{Limits}
 use Rattle.js_walk.specs.Sited.{numbered_site}
 pub use Rattle.js_walk.specs.Fault.{OnTooLarge}
 
@@ -18,13 +19,16 @@ module _ (documents : Documents) (place : ℕ) (v : Value) where
   abbrev pub IsResultThere : ResultTree → Type 0
   IsResultThere t = IsResult (schemas_of documents) [] (numbered_site documents place) at_root v t
 
+-- ---- with these limits
+
+module _ (limits : Limits) (documents : Documents) (place : ℕ) (v : Value) where
   abbrev pub NoneStands : Type 0
-  NoneStands = (t : ResultTree) → IsResultThere t → IsWithinLimits t → ⊥
+  NoneStands = (t : ResultTree) → IsResultThere documents place v t → IsWithinLimits limits t → ⊥
 
   -- t is the result, and is within the limits
   pub record IsResultWithin (t : ResultTree) : Type 0 where
-    pub is : IsResultThere t
-    pub stands : IsWithinLimits t
+    pub is : IsResultThere documents place v t
+    pub stands : IsWithinLimits limits t
 
   -- the result is within the limits, and this is its verdict
   pub record IsVerdict (valid : Bool) : Type 0 where

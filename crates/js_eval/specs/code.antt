@@ -6,3 +6,4 @@ pub mod NamesLeft
 pub mod ListLeft
 pub mod Leaves
 pub mod Recorded
+pub mod Patterns

@@ -1,5 +1,6 @@
 //! What a keyword asks for, one application after another: where a cursor over it starts, and how it goes on.
 
+pub(crate) mod adjacent;
 pub(crate) mod application;
 pub(crate) mod asking;
 pub(crate) mod item_cursor;

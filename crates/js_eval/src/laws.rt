@@ -9,6 +9,7 @@ ghost use Rattle.js_eval.specs.Laws.{NothingStandsIn, ResultExactlyIfSettled, Si
 ghost use Rattle.js_eval.specs.Laws.{StandsForEveryItem};
 ghost use Rattle.js_walk.specs.Keywords.{Keyword};
 ghost use Rattle.js_eval.specs.ResultExamples.{GiveTheseResults};
+ghost use Rattle.js_walk.specs.declared.walking.limits.Limits.{Limits};
 ghost use Rattle.js_walk.specs.SchemaSet.{SchemaSet, Text};
 
 use js_bundle::laws::what_is_held_and_named_is_found;
@@ -65,12 +66,15 @@ pub fn nothing_stands_in()
     what_is_held_and_named_is_found()
 }
 
-/// After a walk that succeeds, a collector of js_tree that was new holds the result: `Verdict` its verdict, `Boxed`
-/// the tree, `Flat` its rows.
+/// After a walk that succeeds, a collector of js_tree that was new holds the result: `Verdict` its verdict (with limits
+/// that are no greater than the standard ones), `Boxed` the tree, `Flat` its rows.
 pub fn walks_are_collected()
-    ensures verdict { (documents : Documents) (place : ℕ) (v : JsonValue) → VerdictIsCollected documents place v }
-    ensures tree { (documents : Documents) (place : ℕ) (v : JsonValue) → TreeIsCollected documents place v }
-    ensures rows { (documents : Documents) (place : ℕ) (v : JsonValue) → RowsAreCollected documents place v }
+    ensures verdict { (limits : Limits) (documents : Documents) (place : ℕ) (v : JsonValue)
+        → VerdictIsCollected limits documents place v }
+    ensures tree { (limits : Limits) (documents : Documents) (place : ℕ) (v : JsonValue)
+        → TreeIsCollected limits documents place v }
+    ensures rows { (limits : Limits) (documents : Documents) (place : ℕ) (v : JsonValue)
+        → RowsAreCollected limits documents place v }
 {}
 
 /// For some schemas and instances, the definitions give the verdicts that the standard gives.
@@ -79,7 +83,7 @@ pub fn examples()
 {}
 
 /// For some documents and instances, the definitions give these results, node by node. 512 nested applications are
-/// within the limit, and a chain of that many needs all of them.
+/// within the standard limit, and a chain of that many needs all of them.
 pub fn results()
     ensures { GiveTheseResults }
 {}

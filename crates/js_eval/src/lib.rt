@@ -16,5 +16,8 @@ mod reporters;
 mod schema;
 mod searching;
 
-pub use js_walk::WalkFault;
-pub use public_walks::{verdict, walk, walk_into, walk_noted_rows, walk_rows};
+pub use js_walk::{Limits, WalkFault};
+pub use public_walks::{
+    verdict, verdict_within, walk, walk_into, walk_into_within, walk_noted_rows,
+    walk_noted_rows_within, walk_rows, walk_rows_within,
+};

@@ -5,6 +5,7 @@ ghost use Rattle.js_doc.specs.Seen.{value_of};
 ghost use Rattle.js_bundle.specs.Location.{location};
 ghost use Rattle.js_bundle.specs.Schemas.{is_place, place_at};
 ghost use Rattle.js_walk.specs.Bundle.{schemas_of};
+ghost use Rattle.js_walk.specs.Result.{standard_limits};
 ghost use Rattle.js_walk.specs.Sited.{numbered_site};
 ghost use Rattle.js_eval.specs.code.Recorded.{AddsRow};
 ghost use Rattle.js_walk.specs.Walk.Reported.{Reported};
@@ -22,7 +23,7 @@ use js_doc::{Doc, Memory};
 use js_rows::RelativeRows;
 use js_tree::{Boxed, Collector, Tree};
 use js_walk::{
-    HeldText, Instance, PointerText, Reporter, UnseenText, WalkFault, schema_at, walk_from,
+    HeldText, Instance, Limits, PointerText, Reporter, UnseenText, WalkFault, schema_at, walk_from,
 };
 use std::alloc::Global;
 use std::marker::PhantomData;
@@ -41,8 +42,31 @@ pub fn walk_into<'a, C: Collector<'a>>(
     collector: C,
 ) -> Result<C, (WalkFault, C)>
     requires { is_place schemas.now place ≡ true }
-    ensures ok { IfOk result (λ d. LeadsTo schemas.now place (value_of value.now) C.takes collector d) }
-    ensures too_large { IfErr result (λ e. OnTooLarge (e.0) (NoneStands schemas.now place (value_of value.now))) }
+    ensures ok { IfOk result (λ d. LeadsTo standard_limits schemas.now place (value_of value.now)
+        C.takes collector d) }
+    ensures too_large { IfErr result (λ e. OnTooLarge (e.0)
+        (NoneStands standard_limits schemas.now place (value_of value.now))) }
+{
+    walk_into_within(alloc, schemas, place, value, Limits::standard(), collector)
+}
+
+/// [`walk_into`] with these limits.
+///
+/// # Errors
+/// `Memory` if an allocation fails. `TooLarge` exactly if the result isn't within the limits. The collector is returned
+/// with the fault; what it holds then is unspecified.
+pub fn walk_into_within<'a, C: Collector<'a>>(
+    alloc: Global,
+    schemas: &'a Schemas,
+    place: Place,
+    value: &'a Doc,
+    limits: Limits,
+    collector: C,
+) -> Result<C, (WalkFault, C)>
+    requires { is_place schemas.now place ≡ true }
+    ensures ok { IfOk result (λ d. LeadsTo limits schemas.now place (value_of value.now) C.takes collector d) }
+    ensures too_large { IfErr result (λ e. OnTooLarge (e.0)
+        (NoneStands limits schemas.now place (value_of value.now))) }
 {
     let here = FinishedSchemas {
         schemas,
@@ -61,6 +85,7 @@ pub fn walk_into<'a, C: Collector<'a>>(
         place,
         schema,
         value,
+        limits,
     );
     let Collecting {
         collector,
@@ -84,8 +109,9 @@ pub fn walk<'a>(
     value: &'a Doc,
 ) -> Result<Tree<'a>, WalkFault>
     requires { is_place schemas.now place ≡ true }
-    ensures ok { IfOk result (λ t. IsResultWithin schemas.now place (value_of value.now) t) }
-    ensures too_large { IfErr result (λ e. OnTooLarge e (NoneStands schemas.now place (value_of value.now))) }
+    ensures ok { IfOk result (λ t. IsResultWithin standard_limits schemas.now place (value_of value.now) t) }
+    ensures too_large { IfErr result (λ e. OnTooLarge e
+        (NoneStands standard_limits schemas.now place (value_of value.now))) }
 {
     match walk_into(alloc, schemas, place, value, Boxed::new(alloc)) {
         Ok(boxed) => Ok(boxed.tree().unwrap()),
@@ -107,14 +133,35 @@ pub fn walk_rows<'a>(
     value: &'a Doc,
 ) -> Result<RelativeRows<'a>, WalkFault>
     requires { is_place schemas.now place ≡ true }
-    ensures ok { IfOk result (AreResultRows schemas.now place (value_of value.now)) }
-    ensures too_large { IfErr result (λ e. OnTooLarge e (NoneStands schemas.now place (value_of value.now))) }
+    ensures ok { IfOk result (AreResultRows standard_limits schemas.now place (value_of value.now)) }
+    ensures too_large { IfErr result (λ e. OnTooLarge e
+        (NoneStands standard_limits schemas.now place (value_of value.now))) }
+{
+    walk_rows_within(alloc, arena, schemas, place, value, Limits::standard())
+}
+
+/// [`walk_rows`] with these limits.
+///
+/// # Errors
+/// Those of [`walk_into_within`].
+pub fn walk_rows_within<'a>(
+    alloc: Global,
+    arena: &'a Bump,
+    schemas: &'a Schemas,
+    place: Place,
+    value: &'a Doc,
+    limits: Limits,
+) -> Result<RelativeRows<'a>, WalkFault>
+    requires { is_place schemas.now place ≡ true }
+    ensures ok { IfOk result (AreResultRows limits schemas.now place (value_of value.now)) }
+    ensures too_large { IfErr result (λ e. OnTooLarge e (NoneStands limits schemas.now place (value_of value.now))) }
 {
     match recorded(
         alloc,
         schemas,
         place,
         value,
+        limits,
         RelativeRows::new(alloc, arena),
     ) {
         Ok((_valid, rows)) => Ok(rows),
@@ -136,14 +183,35 @@ pub fn walk_noted_rows<'a>(
     value: &'a Doc,
 ) -> Result<RelativeRows<'a>, WalkFault>
     requires { is_place schemas.now place ≡ true }
-    ensures ok { IfOk result (AreNotedRows schemas.now place (value_of value.now)) }
-    ensures too_large { IfErr result (λ e. OnTooLarge e (NoneStands schemas.now place (value_of value.now))) }
+    ensures ok { IfOk result (AreNotedRows standard_limits schemas.now place (value_of value.now)) }
+    ensures too_large { IfErr result (λ e. OnTooLarge e
+        (NoneStands standard_limits schemas.now place (value_of value.now))) }
+{
+    walk_noted_rows_within(alloc, arena, schemas, place, value, Limits::standard())
+}
+
+/// [`walk_noted_rows`] with these limits.
+///
+/// # Errors
+/// Those of [`walk_into_within`].
+pub fn walk_noted_rows_within<'a>(
+    alloc: Global,
+    arena: &'a Bump,
+    schemas: &'a Schemas,
+    place: Place,
+    value: &'a Doc,
+    limits: Limits,
+) -> Result<RelativeRows<'a>, WalkFault>
+    requires { is_place schemas.now place ≡ true }
+    ensures ok { IfOk result (AreNotedRows limits schemas.now place (value_of value.now)) }
+    ensures too_large { IfErr result (λ e. OnTooLarge e (NoneStands limits schemas.now place (value_of value.now))) }
 {
     match recorded(
         alloc,
         schemas,
         place,
         value,
+        limits,
         RelativeRows::trimming(alloc, arena),
     ) {
         Ok((valid, mut rows)) => {
@@ -161,19 +229,27 @@ fn recorded<'a>(
     schemas: &'a Schemas,
     place: Place,
     value: &'a Doc,
+    limits: Limits,
     rows: RelativeRows<'a>,
 ) -> Result<(bool, RelativeRows<'a>), WalkFault>
     requires { is_place schemas.now place ≡ true }
     ensures { MatchResult result
-        (λ r. Reported (schemas_of schemas.now) (numbered_site schemas.now place) (value_of value.now)
+        (λ r. Reported limits (schemas_of schemas.now) (numbered_site schemas.now place) (value_of value.now)
         AddsRow r.0 rows.entry r.1)
-        (λ e. OnTooLarge e (NoneStands schemas.now place (value_of value.now))) }
+        (λ e. OnTooLarge e (NoneStands limits schemas.now place (value_of value.now))) }
 {
     let mut recording = Recording {
         rows,
         token: String::new(alloc),
     };
-    let done = walk_to::<HeldText, Recording<'a>>(alloc, schemas, place, value, &mut recording);
+    let done = walk_to::<HeldText, Recording<'a>>(
+        alloc,
+        schemas,
+        place,
+        value,
+        limits,
+        &mut recording,
+    );
     let Recording { rows, token: _ } = recording;
     match done {
         Ok(valid) => Ok((valid, rows)),
@@ -212,10 +288,29 @@ pub fn verdict<'a>(
     value: &'a Doc,
 ) -> Result<bool, WalkFault>
     requires { is_place schemas.now place ≡ true }
-    ensures ok { IfOk result (λ b. IsVerdict schemas.now place (value_of value.now) b) }
-    ensures too_large { IfErr result (λ e. OnTooLarge e (NoneStands schemas.now place (value_of value.now))) }
+    ensures ok { IfOk result (λ b. IsVerdict standard_limits schemas.now place (value_of value.now) b) }
+    ensures too_large { IfErr result (λ e. OnTooLarge e
+        (NoneStands standard_limits schemas.now place (value_of value.now))) }
 {
-    match walk_to::<UnseenText, Silent>(alloc, schemas, place, value, &mut Silent) {
+    verdict_within(alloc, schemas, place, value, Limits::standard())
+}
+
+/// [`verdict`] with these limits.
+///
+/// # Errors
+/// Those of [`walk_into_within`].
+pub fn verdict_within<'a>(
+    alloc: Global,
+    schemas: &'a Schemas,
+    place: Place,
+    value: &'a Doc,
+    limits: Limits,
+) -> Result<bool, WalkFault>
+    requires { is_place schemas.now place ≡ true }
+    ensures ok { IfOk result (λ b. IsVerdict limits schemas.now place (value_of value.now) b) }
+    ensures too_large { IfErr result (λ e. OnTooLarge e (NoneStands limits schemas.now place (value_of value.now))) }
+{
+    match walk_to::<UnseenText, Silent>(alloc, schemas, place, value, limits, &mut Silent) {
         Ok(valid) => Ok(valid),
         Err(fault) => Err(fault),
     }
@@ -227,13 +322,14 @@ fn walk_to<'a, H: PointerText + Drop, R: Reporter<FinishedSchemas<'a>, H>>(
     schemas: &'a Schemas,
     place: Place,
     value: &'a Doc,
+    limits: Limits,
     reporter: &mut R,
 ) -> Result<bool, WalkFault>
     requires { is_place schemas.now place ≡ true }
     ensures { MatchResult result
-        (λ valid. Reported (schemas_of schemas.now) (numbered_site schemas.now place) (value_of value.now)
+        (λ valid. Reported limits (schemas_of schemas.now) (numbered_site schemas.now place) (value_of value.now)
         R.takes valid reporter.old reporter.new)
-        (λ e. OnTooLarge e (NoneStands schemas.now place (value_of value.now))) }
+        (λ e. OnTooLarge e (NoneStands limits schemas.now place (value_of value.now))) }
 {
     let here = FinishedSchemas {
         schemas,
@@ -241,5 +337,5 @@ fn walk_to<'a, H: PointerText + Drop, R: Reporter<FinishedSchemas<'a>, H>>(
     };
     let schema = schema_at(schemas, place);
     let value = Instance::Doc(value);
-    walk_from::<FinishedSchemas<'a>, H, R>(alloc, &here, reporter, place, schema, value)
+    walk_from::<FinishedSchemas<'a>, H, R>(alloc, &here, reporter, place, schema, value, limits)
 }

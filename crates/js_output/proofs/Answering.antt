@@ -5,13 +5,15 @@ use Rattle.std.proofs.lemmas.Bool.{lt-ltb, le-ltb}
 use Rattle.std.specs.Io.KnownBytes.{Consumes, IsAtEnd}
 use Rattle.js_doc.specs.Value.{Value}
 use Rattle.js_eval.specs.Result.{ResultTree, IsWithinLimits}
+use Rattle.js_walk.specs.declared.walking.limits.Limits.{Limits}
 use Rattle.js_bundle.specs.Document as bundle
 use Rattle.js_bundle.specs.Resource.{Site}
 use Rattle.js_output.specs.Cause.{Causes, MayGoOn, IsFirstFault, FailsBy}
 use Rattle.js_output.specs.Device.{Tracked, input_limit, IsLeft, Sends, SendsBeginning}
 use Rattle.js_output.specs.Input.{IsInputFault}
 use Rattle.js_output.specs.Outcome.{output_of, ValueOutcome, output_report, IsLateOrMemory, IsResultOf, IsWalkFault}
-use Rattle.js_output.specs.Report.{Report, Reports, Answers, After, OfInput}
+use Rattle.js_output.specs.Outcome.{IsEntryOrMemory, IsFinishedFault, IsInstanceFault}
+use Rattle.js_output.specs.Report.{Report, Reports, Answers, After, OfInput, StopsBy}
 use Rattle.js_output.proofs.CauseLists.{clear-append, clear-apart, first-append, first-apart, first-later}
 use Rattle.js_output.specs.declared.fault.Fault.{Fault}
 use Rattle.js_output.specs.declared.fault.Fault.TheVariants as fault
@@ -79,6 +81,12 @@ pub after-clear : {O : Type 0} (causes : Causes) (Then : Result O Fault → Type
     → (outcome : Result O Fault) → Then outcome → After causes Then outcome
 after-clear causes Then clear (Ok output) h = (clear, h)
 after-clear causes Then clear (Err e) h = inr (clear, h)
+
+pub after-or : {O : Type 0} (causes : Causes) (Then : Result O Fault → Type 0) (outcome : Result O Fault)
+    → After causes Then outcome → StopsBy causes outcome ⊎ Then outcome
+after-or causes Then (Ok output) (clear, h) = inr h
+after-or causes Then (Err e) (inl h) = inl h
+after-or causes Then (Err e) (inr (clear, h)) = inr h
 
 module _ {O A D : Type 0} (report : Report O A) (P : List ℕ → Result O Fault → Type 0) (taken : D
     → Option (List ℕ)) (old new : Tracked D) where
@@ -176,30 +184,42 @@ module _ {O A D : Type 0} (report : Report O A) (P : List ℕ → Result O Fault
 
 -- ---- what is reported of a value
 
-module _ (docs : bundle.Documents) (entry : Option Site) (v : Value) (format : Format) where
-  module _ (t : ResultTree) (is : IsResultOf docs entry v t) (stands : IsWithinLimits t) {D : Type 0} (taken : D
+module _ (limits : Limits) (docs : bundle.Documents) (entry : Option Site) (v : Value) (format : Format) where
+  module _ (t : ResultTree) (is : IsResultOf docs entry v t) (stands : IsWithinLimits limits t) {D : Type 0} (taken : D
       → Option (List ℕ)) (old new : Tracked D) where
     -- the form went out
     pub reports-sent : (valid : Bool) → valid ≡ t.root.valid → Sends taken old new (output_of format t).text
-        → Reports output_report (ValueOutcome docs entry v format) taken old new (Ok valid)
+        → Reports output_report (ValueOutcome limits docs entry v format) taken old new (Ok valid)
     reports-sent valid e sent = (output_of format t, (t, is, stands, refl), sym e, sent)
 
     -- the sink failed
     pub reports-begun : (e : Fault) → (e ≡ fault.Write) × SendsBeginning taken old new (output_of format t).text
-        → Reports output_report (ValueOutcome docs entry v format) taken old new (Err e)
+        → Reports output_report (ValueOutcome limits docs entry v format) taken old new (Err e)
     reports-begun e (write, begun) =
-        subst (λ e. Reports output_report (ValueOutcome docs entry v format) taken old new (Err e)) (sym write)
+        subst (λ e. Reports output_report (ValueOutcome limits docs entry v format) taken old new (Err e)) (sym write)
         (output_of format t, (t, is, stands, refl), begun)
 
   -- there is none
   pub reports-fault : {D : Type 0} (taken : D → Option (List ℕ)) (old new : Tracked D) (e : Fault)
-      → IsWalkFault docs entry v e → Reports output_report (ValueOutcome docs entry v format) taken old new (Err e)
+      → IsWalkFault limits docs entry v e → Reports output_report (ValueOutcome limits docs entry v format) taken old
+      new (Err e)
   reports-fault taken old new fault.Memory h = tt
   reports-fault taken old new fault.TooLarge h = (refl, h)
   reports-fault taken old new _ h = absurd h
 
-pub walk-late : (docs : bundle.Documents) (entry : Option Site) (v : Value) (e : Fault)
-    → IsWalkFault docs entry v e → IsLateOrMemory e
-walk-late docs entry v fault.Memory h = tt
-walk-late docs entry v fault.TooLarge h = tt
-walk-late docs entry v _ h = absurd h
+pub walk-late : (limits : Limits) (docs : bundle.Documents) (entry : Option Site) (v : Value) (e : Fault)
+    → IsWalkFault limits docs entry v e → IsLateOrMemory e
+walk-late limits docs entry v fault.Memory h = tt
+walk-late limits docs entry v fault.TooLarge h = tt
+walk-late limits docs entry v _ h = absurd h
+
+-- ---- the faults over finished schemas
+
+pub entry-finished : (e : Fault) → IsEntryOrMemory e → IsFinishedFault e
+entry-finished fault.Memory h = tt
+entry-finished (fault.Entry e) h = tt
+entry-finished _ h = absurd h
+
+pub instance-finished : (e : Fault) → IsInstanceFault e → IsFinishedFault e
+instance-finished (fault.Entry e) h = tt
+instance-finished _ h = h

@@ -14,6 +14,7 @@ use Rattle.js_tree.proofs.MergedLaws.{merged_is_reached, merged_is_normal, run_o
 use Rattle.js_bundle.specs.Document as bundle
 use Rattle.js_bundle.specs.Resource.{Site}
 use Rattle.js_eval.specs.Result.{ResultTree, IsWithinLimits}
+use Rattle.js_walk.specs.declared.walking.limits.Limits.{Limits}
 use Rattle.js_output.specs.Cause.{Causes, IsFirstFault}
 use Rattle.js_output.specs.Device.{Tracked, input_limit, Sends, SendsBeginning}
 use Rattle.js_output.specs.Documents.{DocumentTexts, bundle_of}
@@ -21,7 +22,7 @@ use Rattle.js_output.specs.Entry.{entry_place}
 use Rattle.js_output.specs.Finished.{AreFinished}
 use Rattle.js_output.specs.Headline.{Shows, IsAccepted, IsStandardResult, ReportsResult}
 use Rattle.js_output.specs.Outcome.{beginning_causes, Output, output_of, ValueOutcome, ReadOutcome, TextOutcome}
-use Rattle.js_output.specs.Outcome.{InstanceOutcome, FinishedOutcome, Outcome, output_report}
+use Rattle.js_output.specs.Outcome.{InstanceOutcomeWithin, FinishedOutcomeWithin, OutcomeWithin, output_report}
 use Rattle.js_output.specs.Report.{Report, Answers, Reports}
 use Rattle.js_output.proofs.Answering.{reports-map}
 use Rattle.js_output.proofs.FinishedSchemas.{finished_are, outcome_over}
@@ -59,21 +60,23 @@ shows Merged t =
 same_place : (a b : Site) → Some a ≡ Some b → a ≡ b
 same_place a b e = cc
 
-module _ (documents : DocumentTexts) (entry instance : List ℕ) (format : Format) (place : Site) (v : Value)
-    (is : IsAccepted documents entry instance place v) where
+module _ (limits : Limits) (documents : DocumentTexts) (entry instance : List ℕ) (format : Format) (place : Site)
+    (v : Value) (is : IsAccepted documents entry instance place v) where
   of_value : (outcome : Result Output Fault)
-      → InstanceOutcome (bundle_of documents) (entry_place (bundle_of documents) entry) format instance outcome
-      → ValueOutcome (bundle_of documents) (Some place) v format outcome
+      → InstanceOutcomeWithin limits (bundle_of documents) (entry_place (bundle_of documents) entry) format instance
+      outcome
+      → ValueOutcome limits (bundle_of documents) (Some place) v format outcome
   of_value outcome h =
       let d = bundle_of documents in
-      let a = subst (λ p. InstanceOutcome d p format instance outcome) is.names h in
+      let a = subst (λ p. InstanceOutcomeWithin limits d p format instance outcome) is.names h in
       let b = subst (λ t. MatchBool t (outcome ≡ Err fault.InputTooLarge)
-      (TextOutcome d (Some place) format instance outcome)) (le-ltb input_limit (length instance) is.fits) a in
-      subst (λ r. ReadOutcome d (Some place) format r outcome) is.is_read b
+      (TextOutcome limits d (Some place) format instance outcome)) (le-ltb input_limit (length instance) is.fits) a in
+      subst (λ r. ReadOutcome limits d (Some place) format r outcome) is.is_read b
 
   -- the result, and what the format shows of it
-  of_output : (output : Output) → Outcome documents entry format instance (Ok output)
-      → (t : ResultTree) × IsStandardResult documents place v t × IsWithinLimits t × (output ≡ output_of format t)
+  of_output : (output : Output) → OutcomeWithin limits documents entry format instance (Ok output)
+      → (t : ResultTree) × IsStandardResult documents place v t × IsWithinLimits limits t
+      × (output ≡ output_of format t)
   of_output output (clear, h) =
       let (t, r, stands, e) = of_value (Ok output) h in (
         t,
@@ -83,21 +86,21 @@ module _ (documents : DocumentTexts) (entry instance : List ℕ) (format : Forma
         e,
       )
 
-  of_fault : (f : Fault) → Outcome documents entry format instance (Err f)
+  of_fault : (f : Fault) → OutcomeWithin limits documents entry format instance (Err f)
       → IsFirstFault (beginning_causes documents entry) f
-      ⊎ ((f ≡ fault.TooLarge) × ((t : ResultTree) → IsStandardResult documents place v t → IsWithinLimits t → ⊥))
+      ⊎ ((f ≡ fault.TooLarge) × ((t : ResultTree) → IsStandardResult documents place v t → IsWithinLimits limits t → ⊥))
   of_fault f (inl h) = inl h
   of_fault f (inr (clear, h)) =
       let (e, none) = of_value (Err f) h in
       inr (e, λ t r. none t (record { place = place; is_entry = refl; is_result = r }))
 
   module _ {D : Type 0} (taken : D → Option (List ℕ)) (old new : Tracked D) where
-    reported_within : (answer : Result Bool Fault) → Answers output_report (Outcome documents entry format)
+    reported_within : (answer : Result Bool Fault) → Answers output_report (OutcomeWithin limits documents entry format)
         (beginning_causes documents entry) (Some instance) taken old new answer
-        → ReportsResult taken old new documents entry format place v answer
+        → ReportsResult limits taken old new documents entry format place v answer
     reported_within (Ok valid) (bytes, left, (output, h, e, sent)) =
         let (t, r, stands, o) = of_output output
-        (subst (λ b. Outcome documents entry format b (Ok output)) (sym left) h) in (
+        (subst (λ b. OutcomeWithin limits documents entry format b (Ok output)) (sym left) h) in (
           t,
           r,
           stands,
@@ -106,20 +109,21 @@ module _ (documents : DocumentTexts) (entry instance : List ℕ) (format : Forma
         )
     reported_within (Err fault.Write) (bytes, left, (output, h, begun)) =
         let (t, r, stands, o) = of_output output
-        (subst (λ b. Outcome documents entry format b (Ok output)) (sym left) h) in
+        (subst (λ b. OutcomeWithin limits documents entry format b (Ok output)) (sym left) h) in
         (t, r, stands, (form format t, shows format t, subst (λ p. SendsBeginning taken old new p.text) o begun))
     reported_within (Err fault.Memory) h = tt
     reported_within (Err fault.Read) h = tt
     reported_within (Err f) (bytes, left, h) =
-        of_fault f (subst (λ b. Outcome documents entry format b (Err f)) (sym left) h)
+        of_fault f (subst (λ b. OutcomeWithin limits documents entry format b (Err f)) (sym left) h)
 
-pub reported : {D : Type 0} (taken : D → Option (List ℕ)) (old new : Tracked D) (documents : DocumentTexts)
+pub reported : (limits : Limits) {D : Type 0} (taken : D → Option (List ℕ)) (old new : Tracked D)
+    (documents : DocumentTexts)
     (entry instance : List ℕ) (format : Format) (place : Site) (v : Value) (answer : Result Bool Fault)
-    → IsAccepted documents entry instance place v → Answers output_report (Outcome documents entry format)
+    → IsAccepted documents entry instance place v → Answers output_report (OutcomeWithin limits documents entry format)
     (beginning_causes documents entry) (Some instance) taken old new answer
-    → ReportsResult taken old new documents entry format place v answer
-reported taken old new documents entry instance format place v answer is h =
-    reported_within documents entry instance format place v is taken old new answer h
+    → ReportsResult limits taken old new documents entry format place v answer
+reported limits taken old new documents entry instance format place v answer is h =
+    reported_within limits documents entry instance format place v is taken old new answer h
 
 -- ---- over finished schemas
 
@@ -133,16 +137,18 @@ answers_of report P before instance taken old new (Err fault.Read) h = absurd h
 answers_of report P before instance taken old new (Err fault.Write) h = (instance, refl, h)
 answers_of report P before instance taken old new (Err f) h = (instance, refl, h)
 
-pub finished_reported : {D : Type 0} (taken : D
+pub finished_reported : (limits : Limits) {D : Type 0} (taken : D
     → Option (List ℕ)) (old new : Tracked D) (documents : DocumentTexts) (schemas : bundle.Documents)
     (entry instance : List ℕ) (format : Format) (place : Site) (v : Value) (answer : Result Bool Fault)
     → AreFinished documents schemas → IsAccepted documents entry instance place v
-    → Reports output_report (FinishedOutcome schemas entry format instance) taken old new answer
-    → ReportsResult taken old new documents entry format place v answer
-finished_reported taken old new documents schemas entry instance format place v answer finished is h =
+    → Reports output_report (FinishedOutcomeWithin limits schemas entry format instance) taken old new answer
+    → ReportsResult limits taken old new documents entry format place v answer
+finished_reported limits taken old new documents schemas entry instance format place v answer finished is h =
     let (of, clear) = finished_are documents schemas finished in
-    reported taken old new documents entry instance format place v answer is
-    (answers_of output_report (Outcome documents entry format) (beginning_causes documents entry)
+    reported limits taken old new documents entry instance format place v answer is
+    (answers_of output_report (OutcomeWithin limits documents entry format) (beginning_causes documents entry)
     instance taken old new answer
-    (reports-map output_report taken old new (FinishedOutcome schemas entry format instance) (Outcome documents entry
-    format instance) answer (λ outcome. outcome_over documents entry format instance outcome schemas of clear) h))
+    (reports-map output_report taken old new (FinishedOutcomeWithin limits schemas entry format instance)
+    (OutcomeWithin limits documents entry
+    format instance) answer (λ outcome. outcome_over limits documents entry format instance outcome schemas of clear)
+    h))

@@ -13,6 +13,7 @@ use Rattle.js_doc.specs.Value.{Value}
 use Rattle.js_eval.specs.Bundle.{schemas_of}
 use Rattle.js_eval.specs.Location.{at_root}
 use Rattle.js_eval.specs.Result.{ResultTree, IsResult}
+use Rattle.js_walk.specs.declared.walking.limits.Limits.{Limits}
 use Rattle.js_eval.specs.Sited.{numbered_site, nowhere}
 use Rattle.js_eval.specs.Walked.{OnTooLarge, IsResultThere, IsVerdict}
 use Rattle.js_eval.specs.Walked.{NoneStands as NoneStandsThere}
@@ -102,17 +103,18 @@ module _ (docs : Documents) (n : ℕ) (v : Value) (there : is_place docs n ≡ t
   pub result-there : (t : ResultTree) → IsResultThere docs n v t → IsResultOf docs (place_at docs n) v t
   result-there t r = record { place = numbered_site docs n; is_entry = site_there docs n there; is_result = r }
 
-  pub none-there : NoneStandsThere docs n v → NoResultStands docs (place_at docs n) v
+module _ (limits : Limits) (docs : Documents) (n : ℕ) (v : Value) (there : is_place docs n ≡ true) where
+  pub none-there : NoneStandsThere limits docs n v → NoResultStands limits docs (place_at docs n) v
   none-there none t r stands =
       let is : r.place ≡ numbered_site docs n =
       some_is r.place (numbered_site docs n) (sym r.is_entry ∙ site_there docs n there) in
       none t (subst (λ s. IsResult (schemas_of docs) [] s at_root v t) is r.is_result) stands
 
   -- its verdict alone
-  pub judged-there : (valid : Bool) → IsVerdict docs n v valid → HasVerdict docs (place_at docs n) v valid
-  judged-there valid h = (h.result, result-there h.result h.within.is, h.within.stands, sym h.verdict)
+  pub judged-there : (valid : Bool) → IsVerdict limits docs n v valid → HasVerdict limits docs (place_at docs n) v valid
+  judged-there valid h = (h.result, result-there docs n v there h.result h.within.is, h.within.stands, sym h.verdict)
 
-  pub fault-there : (e : WalkFault) → OnTooLarge e (NoneStandsThere docs n v)
-      → IsWalkFault docs (place_at docs n) v (walk_fault_of e)
+  pub fault-there : (e : WalkFault) → OnTooLarge e (NoneStandsThere limits docs n v)
+      → IsWalkFault limits docs (place_at docs n) v (walk_fault_of e)
   fault-there walk_fault.Memory h = tt
   fault-there walk_fault.TooLarge h = none-there h

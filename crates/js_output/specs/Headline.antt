@@ -15,12 +15,13 @@ use Rattle.js_bundle.specs.Resource.{Site}
 use Rattle.js_eval.specs.Bundle.{schemas_of}
 use Rattle.js_eval.specs.Location.{at_root}
 use Rattle.js_eval.specs.Result.{ResultTree, IsResult, IsWithinLimits}
+use Rattle.js_walk.specs.declared.walking.limits.Limits.{Limits}
 use Rattle.js_output.specs.Cause.{MayGoOn, IsFirstFault}
 use Rattle.js_output.specs.Device.{Tracked, input_limit, Sends, SendsBeginning}
 use Rattle.js_output.specs.Documents.{DocumentTexts, bundle_of}
 use Rattle.js_output.specs.Entry.{entry_place}
 use Rattle.js_output.specs.Finished.{AreFinished}
-use Rattle.js_output.specs.Outcome.{beginning_causes, FinishedOutcome, Outcome, output_report}
+use Rattle.js_output.specs.Outcome.{beginning_causes, FinishedOutcomeWithin, OutcomeWithin, output_report}
 use Rattle.js_output.specs.Report.{Answers, Reports}
 use Rattle.js_output.specs.Reading.{reading}
 use Rattle.js_output.specs.declared.fault.Fault.{Fault}
@@ -57,28 +58,28 @@ pub record IsAccepted (documents : DocumentTexts) (entry instance : List ℕ) (p
 abbrev pub IsStandardResult : DocumentTexts → Site → Value → ResultTree → Type 0
 IsStandardResult documents place v t = IsResult (schemas_of (bundle_of documents)) [] place at_root v t
 
-module _ {D : Type 0} (taken : D → Option (List ℕ)) (old new : Tracked D) where
+module _ (limits : Limits) {D : Type 0} (taken : D → Option (List ℕ)) (old new : Tracked D) where
   -- What is returned and written. A fault of the reader, of the writer, or for lack of memory can come; no other but
   -- `TooLarge`, where none of the causes that may be passed over is taken.
   abbrev pub ReportsResult : DocumentTexts → List ℕ → Format → Site → Value → Result Bool Fault → Type 0
   ReportsResult documents entry format place v (Ok valid) =
-      (t : ResultTree) × IsStandardResult documents place v t × IsWithinLimits t × (valid ≡ t.root.valid)
+      (t : ResultTree) × IsStandardResult documents place v t × IsWithinLimits limits t × (valid ≡ t.root.valid)
       × ((shown : Value) × Shows format t shown × Sends taken old new (compact shown ++ 10 ∷ []))
   ReportsResult documents entry format place v (Err fault.Write) =
-      (t : ResultTree) × IsStandardResult documents place v t × IsWithinLimits t
+      (t : ResultTree) × IsStandardResult documents place v t × IsWithinLimits limits t
       × ((shown : Value) × Shows format t shown × SendsBeginning taken old new (compact shown ++ 10 ∷ []))
   ReportsResult documents entry format place v (Err fault.Memory) = ⊤
   ReportsResult documents entry format place v (Err fault.Read) = ⊤
   ReportsResult documents entry format place v (Err f) =
       IsFirstFault (beginning_causes documents entry) f
-      ⊎ ((f ≡ fault.TooLarge) × ((t : ResultTree) → IsStandardResult documents place v t → IsWithinLimits t → ⊥))
+      ⊎ ((f ≡ fault.TooLarge) × ((t : ResultTree) → IsStandardResult documents place v t → IsWithinLimits limits t → ⊥))
 
   abbrev pub Headline : Type 0
   Headline =
       (documents : DocumentTexts) (entry instance : List ℕ) (format : Format) (place : Site) (v : Value)
       (answer : Result Bool Fault)
       → IsAccepted documents entry instance place v
-      → Answers output_report (Outcome documents entry format) (beginning_causes documents entry)
+      → Answers output_report (OutcomeWithin limits documents entry format) (beginning_causes documents entry)
       (Some instance) taken old new answer
       → ReportsResult documents entry format place v answer
 
@@ -89,5 +90,5 @@ module _ {D : Type 0} (taken : D → Option (List ℕ)) (old new : Tracked D) wh
       (place : Site) (v : Value) (answer : Result Bool Fault)
       → AreFinished documents schemas
       → IsAccepted documents entry instance place v
-      → Reports output_report (FinishedOutcome schemas entry format instance) taken old new answer
+      → Reports output_report (FinishedOutcomeWithin limits schemas entry format instance) taken old new answer
       → ReportsResult documents entry format place v answer

@@ -12,7 +12,8 @@ use Rattle.js_bundle.specs.Document as bundle
 use Rattle.js_bundle.specs.Resource.{Site}
 use Rattle.js_eval.specs.Bundle.{schemas_of}
 use Rattle.js_eval.specs.Location.{at_root}
-use Rattle.js_eval.specs.Result.{ResultTree, IsResult, IsWithinLimits}
+use Rattle.js_eval.specs.Result.{ResultTree, IsResult, IsWithinLimits, standard_limits}
+use Rattle.js_walk.specs.declared.walking.limits.Limits.{Limits}
 use Rattle.js_walk.specs.declared.walking.fault.WalkFault.{WalkFault}
 use Rattle.js_walk.specs.declared.walking.fault.WalkFault.TheVariants as walk_fault
 use Rattle.js_output.specs.Cause.{Causes}
@@ -39,6 +40,11 @@ abbrev pub IsEarlyOrMemory : Fault → Type 0
 IsEarlyOrMemory fault.Memory = ⊤
 IsEarlyOrMemory f = IsEarly f
 
+abbrev pub IsEntryOrMemory : Fault → Type 0
+IsEntryOrMemory fault.Memory = ⊤
+IsEntryOrMemory (fault.Entry e) = ⊤
+IsEntryOrMemory _ = ⊥
+
 -- ---- what comes of a value, which is judged at a place of finished documents
 
 -- whether the instance is valid, and the text that says so
@@ -58,20 +64,22 @@ module _ (documents : bundle.Documents) (entry : Option Site) (v : Value) where
     pub is_entry : entry ≡ Some place
     pub is_result : IsResult (schemas_of documents) [] place at_root v t
 
+module _ (limits : Limits) (documents : bundle.Documents) (entry : Option Site) (v : Value) where
   -- no result is within the limits
   abbrev pub NoResultStands : Type 0
-  NoResultStands = (t : ResultTree) → IsResultOf t → IsWithinLimits t → ⊥
+  NoResultStands = (t : ResultTree) → IsResultOf documents entry v t → IsWithinLimits limits t → ⊥
 
   -- what the format says of the result within the limits; `TooLarge` if there is none
   abbrev pub ValueOutcome : Format → Result Output Fault → Type 0
-  ValueOutcome format (Ok output) = (t : ResultTree) × IsResultOf t × IsWithinLimits t × (output ≡ output_of format t)
+  ValueOutcome format (Ok output) = (t : ResultTree) × IsResultOf documents entry v t × IsWithinLimits limits t
+      × (output ≡ output_of format t)
   ValueOutcome format (Err f) = (f ≡ fault.TooLarge) × NoResultStands
 
 -- ---- what comes of an instance
 
-module _ (documents : bundle.Documents) (entry : Option Site) (format : Format) where
+module _ (limits : Limits) (documents : bundle.Documents) (entry : Option Site) (format : Format) where
   abbrev pub ReadOutcome : Result Value ReadFault → Result Output Fault → Type 0
-  ReadOutcome (Ok v) answer = ValueOutcome documents entry v format answer
+  ReadOutcome (Ok v) answer = ValueOutcome limits documents entry v format answer
   ReadOutcome (Err e) answer = answer ≡ Err (fault.Instance e)
 
   -- of its text
@@ -79,20 +87,33 @@ module _ (documents : bundle.Documents) (entry : Option Site) (format : Format) 
   TextOutcome text = ReadOutcome (reading text)
 
   -- of its bytes
-  abbrev pub InstanceOutcome : List ℕ → Result Output Fault → Type 0
-  InstanceOutcome bytes = OfInput bytes (TextOutcome bytes)
+  abbrev pub InstanceOutcomeWithin : List ℕ → Result Output Fault → Type 0
+  InstanceOutcomeWithin bytes = OfInput bytes (TextOutcome bytes)
 
 -- ---- the outcome
 
-abbrev pub Outcome : DocumentTexts → List ℕ → Format → List ℕ → Result Output Fault → Type 0
-Outcome documents entry format instance =
-    After (beginning_causes documents entry)
-    (InstanceOutcome (bundle_of documents) (entry_place (bundle_of documents) entry) format instance)
+module _ (limits : Limits) where
+  abbrev pub OutcomeWithin : DocumentTexts → List ℕ → Format → List ℕ → Result Output Fault → Type 0
+  OutcomeWithin documents entry format instance =
+      After (beginning_causes documents entry)
+      (InstanceOutcomeWithin limits (bundle_of documents) (entry_place (bundle_of documents) entry) format instance)
 
--- over finished schemas: what comes of the entry, and then of the instance
+  -- over finished schemas: what comes of the entry, and then of the instance
+  abbrev pub FinishedOutcomeWithin : bundle.Documents → List ℕ → Format → List ℕ → Result Output Fault → Type 0
+  FinishedOutcomeWithin schemas entry format instance =
+      After (entry_causes schemas entry)
+      (InstanceOutcomeWithin limits schemas (entry_place schemas entry) format instance)
+
+-- with the standard limits
+
+abbrev pub InstanceOutcome : bundle.Documents → Option Site → Format → List ℕ → Result Output Fault → Type 0
+InstanceOutcome = InstanceOutcomeWithin standard_limits
+
+abbrev pub Outcome : DocumentTexts → List ℕ → Format → List ℕ → Result Output Fault → Type 0
+Outcome = OutcomeWithin standard_limits
+
 abbrev pub FinishedOutcome : bundle.Documents → List ℕ → Format → List ℕ → Result Output Fault → Type 0
-FinishedOutcome schemas entry format instance =
-    After (entry_causes schemas entry) (InstanceOutcome schemas (entry_place schemas entry) format instance)
+FinishedOutcome = FinishedOutcomeWithin standard_limits
 
 -- ---- the outcome of a pair: a document, a line feed, and the instance
 
@@ -153,13 +174,18 @@ abbrev pub IsInstanceFault : Fault → Type 0
 IsInstanceFault fault.InputTooLarge = ⊤
 IsInstanceFault f = IsLateOrMemory f
 
+-- those, and the refusal of an entry
+abbrev pub IsFinishedFault : Fault → Type 0
+IsFinishedFault (fault.Entry e) = ⊤
+IsFinishedFault f = IsInstanceFault f
+
 -- ---- words for the parts
 
 -- why there is no result: none is within the limits, or lack of memory
-abbrev pub IsWalkFault : bundle.Documents → Option Site → Value → Fault → Type 0
-IsWalkFault documents entry v fault.Memory = ⊤
-IsWalkFault documents entry v fault.TooLarge = NoResultStands documents entry v
-IsWalkFault documents entry v _ = ⊥
+abbrev pub IsWalkFault : Limits → bundle.Documents → Option Site → Value → Fault → Type 0
+IsWalkFault limits documents entry v fault.Memory = ⊤
+IsWalkFault limits documents entry v fault.TooLarge = NoResultStands limits documents entry v
+IsWalkFault limits documents entry v _ = ⊥
 
 abbrev pub walk_fault_of : WalkFault → Fault
 walk_fault_of walk_fault.Memory = fault.Memory

@@ -12,6 +12,11 @@ abbrev pub After : {O : Type 0} → Causes → (Result O Fault → Type 0) → R
 After causes Then (Ok o) = MayGoOn causes × Then (Ok o)
 After causes Then (Err f) = IsFirstFault causes f ⊎ (MayGoOn causes × Then (Err f))
 
+-- it is one of these causes
+abbrev pub StopsBy : {O : Type 0} → Causes → Result O Fault → Type 0
+StopsBy causes (Ok o) = ⊥
+StopsBy causes (Err f) = IsFirstFault causes f
+
 -- of a whole input: its size is looked at first
 abbrev pub OfInput : {O : Type 0} → List ℕ → (Result O Fault → Type 0) → Result O Fault → Type 0
 OfInput bytes Then outcome =

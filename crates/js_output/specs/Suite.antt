@@ -4,7 +4,8 @@ use Rattle.std.specs.Prelude.{option_to_list, Result, Ok, Err, Bool, not, codes,
 use Rattle.js_doc.specs.Value.{Value}
 use Rattle.js_bundle.specs.Document as bundle
 use Rattle.js_bundle.specs.Resource.{Site}
-use Rattle.js_eval.specs.Result.{ResultTree, IsWithinLimits}
+use Rattle.js_eval.specs.Result.{ResultTree, IsWithinLimits, standard_limits}
+use Rattle.js_walk.specs.declared.walking.limits.Limits.{Limits}
 use Rattle.js_output.specs.Cause.{Causes, MayGoOn, IsFirstFault}
 use Rattle.js_output.specs.Device.{Tracked, Sends, SendsBeginning}
 use Rattle.js_output.specs.Documents.{DocumentTexts, absolute_uri, document_under, bundle_of, uri_causes}
@@ -62,14 +63,14 @@ IsBasis documents g (Some schema) (Some all) = MayGoOn (group_causes documents g
 -- ---- what comes of a test
 
 -- the verdict on v
-abbrev pub HasVerdict : bundle.Documents → Option Site → Value → Bool → Type 0
-HasVerdict documents entry v valid = (t : ResultTree) × IsResultOf documents entry v t × IsWithinLimits t
+abbrev pub HasVerdict : Limits → bundle.Documents → Option Site → Value → Bool → Type 0
+HasVerdict limits documents entry v valid = (t : ResultTree) × IsResultOf documents entry v t × IsWithinLimits limits t
     × (t.root.valid ≡ valid)
 
 abbrev pub IsStatusOn : bundle.Documents → Option Site → Value → Bool → TestStatus → Type 0
-IsStatusOn documents entry v valid Pass = HasVerdict documents entry v valid
-IsStatusOn documents entry v valid Fail = HasVerdict documents entry v (not valid)
-IsStatusOn documents entry v valid Skip = NoResultStands documents entry v
+IsStatusOn documents entry v valid Pass = HasVerdict standard_limits documents entry v valid
+IsStatusOn documents entry v valid Fail = HasVerdict standard_limits documents entry v (not valid)
+IsStatusOn documents entry v valid Skip = NoResultStands standard_limits documents entry v
 
 -- by the documents that its group is judged by, and its instance
 abbrev pub IsStatusBy : Option bundle.Documents → ℕ → Option Value → Bool → TestStatus → Type 0

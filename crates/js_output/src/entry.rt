@@ -3,7 +3,7 @@ ghost use Rattle.std.specs.Prelude.{◌≡◌, true, OnOk, IfOk, IfErr};
 ghost use Rattle.js_bundle.specs.Schemas.{is_place, place_at};
 ghost use Rattle.js_output.specs.Cause.{MayGoOn, FailsBy};
 ghost use Rattle.js_output.specs.Entry.{entry_causes, entry_place};
-ghost use Rattle.js_output.specs.Outcome.{IsEarlyOrMemory};
+ghost use Rattle.js_output.specs.Outcome.{IsEarlyOrMemory, IsEntryOrMemory};
 
 use crate::fault::Fault;
 use js_bundle::{Place, Schemas};
@@ -23,6 +23,7 @@ pub(crate) fn entry_place(alloc: Global, schemas: &Schemas, uri: &str) -> Result
     ensures clear { OnOk result (MayGoOn (entry_causes schemas.now uri.now)) }
     ensures err { IfErr result (FailsBy (entry_causes schemas.now uri.now)) }
     ensures early { IfErr result IsEarlyOrMemory }
+    ensures entry { IfErr result IsEntryOrMemory }
 {
     Ok(schemas.entry(alloc, uri)?)
 }

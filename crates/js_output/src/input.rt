@@ -12,11 +12,11 @@ use std::io::Read;
 /// The most bytes that an input may have.
 pub(crate) const LIMIT: usize = 16_777_216;
 
-/// All bytes up to the source's end, at most 16,777,216.
+/// All bytes up to the source's end, at most 16,777,216. Each turn reads at least one byte or is the last.
 ///
-/// Returns `Fault::InputTooLarge` if there are more, `Fault::Read` if the source has failed, before
-/// this call or in it, and `Fault::Memory` if an allocation is refused. Each turn reads at least one
-/// byte or is the last.
+/// # Errors
+/// `Fault::InputTooLarge`, if there are more; `Fault::Read`, if the source has failed, before this call or in it;
+/// `Fault::Memory`, if an allocation is refused.
 pub fn read_all<R: Read>(alloc: Global, source: &mut Source<R>) -> Result<Vec<u8>, Fault>
     ensures ok { IfOk result (λ bytes. Consumes (R.remaining source.old.device)
         (R.remaining source.new.device) bytes.items) }

@@ -13,6 +13,7 @@ use crate::text::value_from;
 use bumpalo::Bump;
 use js_bundle::{Place, Schemas};
 use js_doc::{Doc, ReadFault};
+use js_eval::Limits;
 use js_tree::Format;
 use std::alloc::Global;
 use std::io::Write;
@@ -24,11 +25,12 @@ pub(crate) fn judge_text<W: Write>(
     schemas: &Schemas,
     place: Place,
     format: Format,
+    limits: Limits,
     bytes: &[u8],
     out: &mut Sink<W>,
 ) -> Result<bool, Fault>
     requires { is_place schemas.now place ≡ true }
-    ensures answer { Reports output_report (TextOutcome schemas.now
+    ensures answer { Reports output_report (TextOutcome limits schemas.now
         (place_at schemas.now place) format bytes.now)
         W.contents out.old out.new result }
     ensures late { IfErr result IsLateOrMemory }
@@ -37,7 +39,7 @@ pub(crate) fn judge_text<W: Write>(
     ensures sink_stays { out.old.failed ≡ true → out.new ≡ out.old }
 {
     match value_from(alloc, bytes) {
-        Ok(instance) => judge_value(alloc, schemas, place, format, &instance, out),
+        Ok(instance) => judge_value(alloc, schemas, place, format, limits, &instance, out),
         Err(ReadFault::Memory) => Err(Fault::Memory),
         Err(fault) => Err(Fault::Instance(fault)),
     }
@@ -49,11 +51,12 @@ fn judge_value<W: Write>(
     schemas: &Schemas,
     place: Place,
     format: Format,
+    limits: Limits,
     instance: &Doc,
     out: &mut Sink<W>,
 ) -> Result<bool, Fault>
     requires { is_place schemas.now place ≡ true }
-    ensures answer { Reports output_report (ValueOutcome schemas.now
+    ensures answer { Reports output_report (ValueOutcome limits schemas.now
         (place_at schemas.now place) (value_of instance.now) format)
         W.contents out.old out.new result }
     ensures late { IfErr result IsLateOrMemory }
@@ -62,7 +65,7 @@ fn judge_value<W: Write>(
     ensures sink_stays { out.old.failed ≡ true → out.new ≡ out.old }
 {
     let arena = Bump::new(alloc);
-    let prepared = Prepared::new(alloc, &arena, schemas, place, format, instance)?;
+    let prepared = Prepared::new(alloc, &arena, schemas, place, format, limits, instance)?;
     let valid = prepared.root_valid();
     prepared.write(out)?;
     Ok(valid)

@@ -24,14 +24,15 @@ mod writing;
 
 pub use fault::{Fault, SuiteFault};
 pub use fault_line::refusal_line;
-pub use finished::{judge, run_finished};
+pub use finished::{judge, judge_within, run_finished, run_finished_within};
 pub use input::read_all;
 pub use js_bundle::{EntryFault, Refusal, RefusalKind};
+pub use js_eval::Limits;
 pub use js_tree::Format;
 pub use pair_of_texts::run_pair;
 pub use places::{list_places, run_places};
-pub use running::run;
+pub use running::{run, run_text};
 pub use sink::Sink;
 pub use source::Source;
-pub use suite::run_suite;
+pub use suite::{run_suite, run_suite_text};
 pub use suite_lines::Counts;

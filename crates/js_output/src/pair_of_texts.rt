@@ -5,10 +5,9 @@ ghost use Rattle.js_output.specs.Outcome.{OutcomeOfTexts, PairOutcome, first_lin
 ghost use Rattle.js_output.specs.Outcome.{output_report};
 ghost use Rattle.js_output.specs.Report.{Answers, Reports};
 
-use crate::documents::finished;
 use crate::fault::Fault;
-use crate::finished::run_finished;
 use crate::input::read_all;
+use crate::running::run_text;
 use crate::sink::Sink;
 use crate::source::Source;
 use js_tree::Format;
@@ -78,6 +77,5 @@ fn run_texts<W: Write>(
     ensures sink_stays { out.old.failed ≡ true → out.new ≡ out.old }
 {
     let docs = [(PAIR_URI, document)];
-    let schemas = finished(alloc, &docs)?;
-    run_finished(alloc, &schemas, PAIR_URI, instance, Format::Flag, out)
+    run_text(alloc, &docs, PAIR_URI, instance, Format::Flag, out)
 }

@@ -14,7 +14,7 @@ use crate::writing::put_line;
 use bumpalo::Bump;
 use js_bundle::{Place, Schemas};
 use js_doc::Doc;
-use js_eval::{verdict, walk_noted_rows, walk_rows};
+use js_eval::{Limits, verdict_within, walk_noted_rows_within, walk_rows_within};
 use js_rows::{Locations, RelativeRows, is_surely_merged, kept_rows, merged_tree};
 use js_tree::{Format, Tree};
 use std::alloc::Global;
@@ -40,35 +40,36 @@ impl<'a> Prepared<'a> {
         schemas: &'a Schemas,
         place: Place,
         format: Format,
+        limits: Limits,
         instance: &'a Doc,
     ) -> Result<Prepared<'a>, Fault>
         requires { is_place schemas.now place ≡ true }
-        ensures prepared { IfOk result (IsPreparedFor schemas.now
+        ensures prepared { IfOk result (IsPreparedFor limits schemas.now
             (place_at schemas.now place) (value_of instance.now) format) }
-        ensures fault { IfErr result (IsWalkFault schemas.now
+        ensures fault { IfErr result (IsWalkFault limits schemas.now
             (place_at schemas.now place) (value_of instance.now)) }
     {
         match format {
             Format::Flag => {
-                let valid = verdict(alloc, schemas, place, instance)?;
+                let valid = verdict_within(alloc, schemas, place, instance, limits)?;
                 Ok(Prepared::Verdict(valid))
             }
             Format::Basic => {
-                let rows = walk_noted_rows(alloc, arena, schemas, place, instance)?;
+                let rows = walk_noted_rows_within(alloc, arena, schemas, place, instance, limits)?;
                 with_room(alloc, format, rows)
             }
             Format::Detailed => {
-                let noted = walk_noted_rows(alloc, arena, schemas, place, instance)?;
+                let noted = walk_noted_rows_within(alloc, arena, schemas, place, instance, limits)?;
                 let rows = kept_rows(alloc, noted)?;
                 with_room(alloc, format, rows)
             }
             Format::Merged => {
-                let noted = walk_noted_rows(alloc, arena, schemas, place, instance)?;
+                let noted = walk_noted_rows_within(alloc, arena, schemas, place, instance, limits)?;
                 let rows = kept_rows(alloc, noted)?;
                 prepared_merged(alloc, rows)
             }
             Format::Verbose => {
-                let rows = walk_rows(alloc, arena, schemas, place, instance)?;
+                let rows = walk_rows_within(alloc, arena, schemas, place, instance, limits)?;
                 with_room(alloc, format, rows)
             }
         }

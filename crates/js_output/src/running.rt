@@ -5,12 +5,12 @@ ghost use Rattle.js_output.specs.Documents.{documents_of};
 ghost use Rattle.js_output.specs.Entry.{entry_causes};
 ghost use Rattle.js_output.specs.Outcome.{beginning_causes, Outcome, FinishedOutcome, output_report};
 ghost use Rattle.js_output.specs.Outcome.{UsesSource};
-ghost use Rattle.js_output.specs.Report.{Answers};
+ghost use Rattle.js_output.specs.Report.{Answers, Reports};
 
 use crate::documents::finished;
 use crate::entry::entry_place;
 use crate::fault::Fault;
-use crate::finished::judge;
+use crate::finished::{judge, run_finished};
 use crate::input::read_all;
 use crate::sink::Sink;
 use crate::source::Source;
@@ -53,6 +53,32 @@ pub fn run<R: Read, W: Write>(
 {
     let schemas = finished(alloc, docs)?;
     run_read(alloc, &schemas, entry, instance, format, out)
+}
+
+/// [`run`] of an instance that has been read.
+///
+/// # Errors
+/// Those of [`run`], except `Read`.
+pub fn run_text<W: Write>(
+    alloc: Global,
+    docs: &[(&str, &[u8])],
+    entry: &str,
+    instance: &[u8],
+    format: Format,
+    out: &mut Sink<W>,
+) -> Result<bool, Fault>
+    // The instance has this outcome, and its text was written.
+    ensures answer { Reports output_report
+        (Outcome (documents_of docs.now) entry.now format instance.now) W.contents
+        out.old out.new result }
+
+    // Without output nothing is written.
+    ensures nothing { IfErr result (λ e. e ≢ Fault.Write → out.new ≡ out.old) }
+    ensures unflushed { Unflushed out.old out.new }
+    ensures sink_stays { out.old.failed ≡ true → out.new ≡ out.old }
+{
+    let schemas = finished(alloc, docs)?;
+    run_finished(alloc, &schemas, entry, instance, format, out)
 }
 
 // Looks the entry up in finished schemas, then reads the instance and judges it.

@@ -92,8 +92,10 @@ impl<W: Write> Sink<W> {
         self.flushes
     }
 
-    /// Writes all of the bytes, one write after another, and stops at the first that fails. After
-    /// `Fault::Write` a beginning of them has been written. A sink that has failed returns it at once.
+    /// Writes all of the bytes, one write after another, and stops at the first that fails.
+    ///
+    /// # Errors
+    /// `Fault::Write`, after a beginning of them. A sink that has failed returns it at once.
     pub fn write_all(&mut self, bytes: &[u8]) -> Result<(), Fault>
         ensures ok { OnOk result
             (Appends (W.contents self.old.device) (W.contents self.new.device) bytes.now) }
@@ -111,8 +113,10 @@ impl<W: Write> Sink<W> {
         Ok(())
     }
 
-    /// Flushes the device: one call of it, unless the sink has failed before. Returns `Fault::Write`
-    /// if and only if the sink has failed by then.
+    /// Flushes the device: one call of it, unless the sink has failed before.
+    ///
+    /// # Errors
+    /// `Fault::Write`, if and only if the sink has failed by then.
     pub fn flush(&mut self) -> Result<(), Fault>
         ensures bytes { Keeps (W.contents self.old.device) (W.contents self.new.device) }
         ensures fault { IfErr result (λ e. e ≡ Fault.Write) }

@@ -9,7 +9,7 @@ ghost use Rattle.js_output.specs.Report.{Answers, Reports};
 
 use crate::documents::finished;
 use crate::fault::Fault;
-use crate::input::read_all;
+use crate::input::{LIMIT, read_all};
 use crate::sink::Sink;
 use crate::source::Source;
 use crate::suite_judging::judged_lines;
@@ -58,6 +58,32 @@ pub fn run_suite<R: Read, W: Write>(
     finished(alloc, docs)?;
     let bytes = read_all(alloc, suite)?;
     write_suite(alloc, docs, bytes.as_slice(), out)
+}
+
+/// [`run_suite`] of a suite that has been read.
+///
+/// # Errors
+/// Those of [`run_suite`], except `Read`.
+pub fn run_suite_text<W: Write>(
+    alloc: Global,
+    docs: &[(&str, &[u8])],
+    suite: &[u8],
+    out: &mut Sink<W>,
+) -> Result<Counts, Fault>
+    // The suite has these lines, and their text was written.
+    ensures answer { Reports lines_report (SuiteOutcome (documents_of docs.now) suite.now)
+        W.contents out.old out.new result }
+
+    // Without lines nothing is written.
+    ensures nothing { IfErr result (λ e. e ≢ Fault.Write → out.new ≡ out.old) }
+    ensures unflushed { Unflushed out.old out.new }
+    ensures sink_stays { out.old.failed ≡ true → out.new ≡ out.old }
+{
+    finished(alloc, docs)?;
+    if LIMIT < suite.len() {
+        return Err(Fault::InputTooLarge);
+    }
+    write_suite(alloc, docs, suite, out)
 }
 
 // Runs the suite with this text.

@@ -13,10 +13,10 @@ use Rattle.js_tree.proofs.ChildTexts.{rest_of}
 use Rattle.js_tree.proofs.FlatRows.{drop-drop, rows_below}
 use Rattle.js_tree.proofs.Forests.{append-append, append-empty}
 use Rattle.js_tree.proofs.Marks.{flat_form-flat_of}
-use Rattle.js_rows.specs.Locations.{AreAt, HasRoom, IsBack, IsDown, IsUp}
+use Rattle.js_rows.specs.Locations.{AreAt, AreSomewhere, HasRoom, IsBack, IsDown, IsUp}
 use Rattle.js_rows.specs.Relative.{escaped_tree, escaped_unit, placed}
 use Rattle.js_rows.specs.RelativeState.{keyword_part, relative_row}
-use Rattle.js_rows.specs.code.RelativeText.{AreRowsOfTree, AreRowsOfTrees, IsAbsolute, unit_there}
+use Rattle.js_rows.specs.code.RelativeText.{AreOfNode, AreRowsOfTree, AreRowsOfTrees, IsAbsolute, unit_there}
 use Rattle.js_rows.specs.declared.locations.Locations.{Locations}
 use Rattle.js_rows.specs.declared.rows.RelativeRow.{RelativeRow}
 use Rattle.js_rows.proofs.EscapedRows.{NextTree, entered, is_absolute, no_trees, still_at}
@@ -67,6 +67,30 @@ still_entered rows these t x y old mid new k i h is at d b =
       down = n.down;
       still = still_at mid new (k ++ t.root.keyword) (i ++ t.root.instance) n.down b;
     }
+
+-- the locations stay a node's, from one node to the next
+pub somewhere_below : (rows : List RelativeRow) (t : ResultTree) (x : RelativeRow) (old new : Locations)
+    → AreRowsOfTree rows t → x ≡ get_or rows 0 x → IsDown old x new → AreSomewhere old → AreSomewhere new
+somewhere_below rows t x old new h is d w = record {
+  keyword = w.keyword ++ t.root.keyword;
+  instance = w.instance ++ t.root.instance;
+  there = (entered rows t x old new w.keyword w.instance h is w.there d).down;
+}
+
+pub still_somewhere : (old new : Locations) → IsBack old new → AreSomewhere old → AreSomewhere new
+still_somewhere old new b w = record {
+  keyword = w.keyword;
+  instance = w.instance;
+  there = still_at old new w.keyword w.instance w.there b;
+}
+
+pub still_of_node : (y : RelativeRow) (t : ResultTree) (mid new : Locations) (k i : List ℕ)
+    → StillEntered y t mid new k i → AreOfNode new y
+still_of_node y t mid new k i n = record {
+  somewhere = record { keyword = k ++ t.root.keyword; instance = i ++ t.root.instance; there = n.still };
+  absolute = t.root.absolute;
+  absolute_is = n.absolute;
+}
 
 -- the node of a row whose note has been moved
 pub with_head : (x : RelativeRow) (k a i k' a' i' : List ℕ) (g : Forest OutputUnit) (note : Note) → k' ≡ k → a' ≡ a

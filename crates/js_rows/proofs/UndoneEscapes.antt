@@ -1,5 +1,5 @@
 -- A text is known from its escaped form.
-use Rattle.std.proofs.Common.{◌≡◌, ℕ, Bool, true, false, List, [], ◌∷◌, ◌++◌, Some, ap, sym, ◌∙◌, append-nil}
+use Rattle.std.proofs.Common.{◌≡◌, ℕ, Bool, true, false, List, [], ◌∷◌, ◌++◌, Option, Some, ap, sym, ◌∙◌, append-nil}
 use Rattle.std.proofs.lemmas.Grind.{flat_map-append}
 use Rattle.std.specs.List.{list_all}
 use Rattle.json.specs.Lex.{tokens}
@@ -11,6 +11,7 @@ use Rattle.json.proofs.Printed.Tokens.{tokens-print}
 use Rattle.js_doc.specs.Escapes.{stands}
 use Rattle.js_doc.proofs.QuotedRuns.{nothing_escaped}
 use Rattle.js_rows.specs.RelativeState.{part}
+use Rattle.js_rows.specs.code.Strings.{string_in}
 
 same_text : (s t : List ℕ) → Some s ≡ Some t → s ≡ t
 same_text s t e = cc
@@ -32,13 +33,22 @@ without_escapes start slash bytes text h e =
     (flat_map-append escape_byte start rest
     ∙ (ap (λ l. escape start ++ l) (nothing_escaped rest (part_stands slash bytes h)) ∙ e))
 
-same_string : (s t : List ℕ) (more rest : List Token) → string s ∷ more ≡ string t ∷ rest → s ≡ t
-same_string s t more rest e = cc
+same_token : (token other : Token) (more rest : List Token) → token ∷ more ≡ other ∷ rest → token ≡ other
+same_token token other more rest e = cc
 
--- what a reader gives for a quoted text
-pub read_back : (json s text : List ℕ) (more : List Token) → tokens json ≡ string s ∷ more
-    → json ≡ quoted text → s ≡ text
+-- a reader gives one string for a quoted text
+pub one_string : (json text : List ℕ) → json ≡ quoted text → tokens json ≡ string text ∷ []
 unfolding print_from ArePrintable
-read_back json s text more is e =
-    same_string s text more []
-    (sym is ∙ (ap tokens (e ∙ sym (append-nil (quoted text))) ∙ tokens-print (string text ∷ []) (tt, tt)))
+one_string json text e = ap tokens (e ∙ sym (append-nil (quoted text))) ∙ tokens-print (string text ∷ []) (tt, tt)
+
+-- and it gives one
+pub gives_some : (json text : List ℕ) → json ≡ quoted text → ¬ (tokens json ≡ [])
+gives_some json text e is = let x : string text ∷ [] ≡ [] = sym (one_string json text e) ∙ is in absurd (cc)
+
+pub gives_string : (json text : List ℕ) (token : Token) (more : List Token) → tokens json ≡ token ∷ more
+    → json ≡ quoted text → string_in token ≡ Some text
+gives_string json text token more is e =
+    ap string_in (same_token token (string text) more [] (sym is ∙ one_string json text e))
+
+pub same_read : (s text : List ℕ) (o : Option (List ℕ)) → o ≡ Some s → o ≡ Some text → s ≡ text
+same_read s text o e f = same_text s text (sym e ∙ f)

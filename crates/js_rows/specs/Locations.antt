@@ -38,6 +38,12 @@ pub record AreAt (at : Locations) (keyword : List ℕ) (instance : List ℕ) : T
   pub keyword_is : at.keyword.items ≡ keyword_start ++ escape keyword
   pub instance_is : at.instance.items ≡ instance_start ++ escape instance
 
+-- they are a node's
+pub record AreSomewhere (at : Locations) : Type 0 where
+  pub keyword : List ℕ
+  pub instance : List ℕ
+  pub there : AreAt at keyword instance
+
 -- the same locations, and no less room
 pub record IsBack (old : Locations) (new : Locations) : Type 0 where
   pub same_keyword : new.keyword.items ≡ old.keyword.items

@@ -101,6 +101,10 @@ abbrev pub part : Bool → List ℕ → List ℕ
 part true text = 47 ∷ text
 part false text = text
 
+-- it is some text's, with JSON escapes
+abbrev pub IsEscaped : List ℕ → Type 0
+IsEscaped escaped = (text : List ℕ) × (escaped ≡ escape text)
+
 abbrev pub keyword_part : RelativeRow → List ℕ
 keyword_part r = part r.keyword_slash r.keyword.now
 

@@ -6,3 +6,4 @@ pub mod Listing
 pub mod Opening
 pub mod PartOrder
 pub mod RelativeText
+pub mod Strings

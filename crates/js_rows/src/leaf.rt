@@ -8,7 +8,6 @@ ghost use Rattle.js_rows.specs.RelativeState.{HasLeaf, OpenNode as Open, TakesLe
 use crate::rows::{MOST, OpenNode, RelativeRow, RelativeRows, goes};
 use js_doc::Memory;
 use js_tree::Note;
-use std::mem::forget;
 
 impl<'a> RelativeRows<'a> {
     /// Whether a keyword's leaf may be added below a schema's node at these locations (`add_leaf`). True where that
@@ -41,8 +40,7 @@ impl<'a> RelativeRows<'a> {
             self.old self.new) }
     {
         if goes(self.trims, &note, 1) {
-            // Such a note is silent: there is nothing to drop.
-            forget(note);
+            note.end_silent();
             return Ok(());
         }
         let name = name.as_bytes();

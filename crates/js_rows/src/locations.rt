@@ -6,7 +6,7 @@ ghost use Rattle.js_tree.specs.NodeText.{end_text, valid_text};
 ghost use Rattle.js_rows.specs.Locations.{AreAt, HasRoom, HasRoomFor, IsBack, IsDown, IsUp, instances_added};
 ghost use Rattle.js_rows.specs.Locations.{keyword_start, keywords_added};
 ghost use Rattle.js_rows.specs.RelativeState.{part};
-ghost use Rattle.js_rows.specs.code.RelativeText.{IsAbsolute};
+ghost use Rattle.js_rows.specs.code.RelativeText.{AreOfNode, IsAbsolute};
 
 use crate::gathered::{Gathered, with_room};
 use crate::opening::Opening;
@@ -66,6 +66,7 @@ impl Locations {
     /// # Errors
     /// `Memory` if an allocation fails.
     pub(crate) fn head(&self, alloc: Global, row: &RelativeRow) -> Result<Head, Memory>
+        requires { AreOfNode self.now row.now }
         ensures { (keyword absolute instance : List ℕ) → AreAt self.now keyword instance → IsAbsolute row.now absolute
             → IfOk result (λ head. (head.keyword ≡ keyword) × (head.absolute ≡ absolute)
             × (head.instance ≡ instance)) }

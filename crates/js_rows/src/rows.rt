@@ -13,7 +13,7 @@ use bumpalo::Bump;
 use js_doc::{Memory, put_escaped, stand_as_they_are};
 use js_tree::Note;
 use std::alloc::Global;
-use std::mem::{forget, replace};
+use std::mem::replace;
 
 /// A row of `RelativeRows`: a node, without what the rows above it say of its locations.
 #[derive(Drop)]
@@ -186,13 +186,11 @@ impl<'a> RelativeRows<'a> {
                 let size = count - number;
                 if goes(self.trims, &note, size) {
                     self.rows.truncate(number);
-                    // Such a note is silent too.
-                    forget(note);
+                    note.end_silent();
                 } else {
                     let row = &mut self.rows[number];
                     row.valid = valid;
-                    // The note of an open node is silent: there is nothing to drop.
-                    forget(replace(&mut row.note, note));
+                    drop(replace(&mut row.note, note));
                     row.size = size;
                 }
             } else {

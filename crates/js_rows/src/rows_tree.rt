@@ -4,10 +4,10 @@ ghost use Rattle.js_tree.specs.Forest.{Forest, empty, forest_of, tree, ◌⊹◌
 ghost use Rattle.js_tree.specs.OutputUnit.{OutputUnit};
 ghost use Rattle.js_tree.specs.Result.{ResultTree};
 ghost use Rattle.js_tree.specs.Seen.{note_of};
-ghost use Rattle.js_rows.specs.Locations.{AreAt, HasRoom, IsBack, IsUp};
+ghost use Rattle.js_rows.specs.Locations.{AreAt, AreSomewhere, HasRoom, IsBack, IsUp};
 ghost use Rattle.js_rows.specs.Relative.{placed, placed_tree};
 ghost use Rattle.js_rows.specs.RelativeState.{AreRowsOf, AreWhole};
-ghost use Rattle.js_rows.specs.code.RelativeText.{AreRowsOfTree, AreRowsOfTrees, IsAbsolute, unit_there};
+ghost use Rattle.js_rows.specs.code.RelativeText.{AreOfNode, AreRowsOfTree, AreRowsOfTrees, IsAbsolute, unit_there};
 
 use crate::locations::Locations;
 use crate::rows::{RelativeRow, RelativeRows};
@@ -36,7 +36,8 @@ fn take_root<'a>(
     rows: &mut [RelativeRow<'a>],
     locations: &mut Locations,
 ) -> Result<Tree<'a>, Memory>
-    requires { (r : ResultTree) × AreRowsOfTree rows.old r × HasRoom locations.old rows.old }
+    requires { (r : ResultTree) × AreRowsOfTree rows.old r × HasRoom locations.old rows.old
+        × AreSomewhere locations.old }
     ensures { (r : ResultTree) (keyword instance : List ℕ) → AreAt locations.old keyword instance
         → AreRowsOfTree rows.old r → IfOk result (λ t. t ≡ placed_tree keyword instance r) }
 {
@@ -55,7 +56,8 @@ fn take_trees<'a>(
     rows: &mut [RelativeRow<'a>],
     locations: &mut Locations,
 ) -> Result<Vec<Tree<'a>>, Memory>
-    requires { (f : Forest OutputUnit) × AreRowsOfTrees rows.old f × HasRoom locations.old rows.old }
+    requires { (f : Forest OutputUnit) × AreRowsOfTrees rows.old f × HasRoom locations.old rows.old
+        × AreSomewhere locations.old }
     ensures trees { (f : Forest OutputUnit) (keyword instance : List ℕ)
         → AreAt locations.old keyword instance → AreRowsOfTrees rows.old f
         → IfOk result (λ trees. forest_of trees.items ≡ placed keyword instance f) }
@@ -80,7 +82,8 @@ fn take_tree<'a>(
     trees: &mut Vec<Tree<'a>>,
 ) -> Result<(), Memory>
     requires { (u : OutputUnit) × (below : Forest OutputUnit)
-        × AreRowsOfTrees rows.old (tree u below empty) × HasRoom locations.old rows.old }
+        × AreRowsOfTrees rows.old (tree u below empty) × HasRoom locations.old rows.old
+        × AreSomewhere locations.old }
     ensures trees { (u : OutputUnit) (below : Forest OutputUnit) (keyword instance : List ℕ)
         → AreAt locations.old keyword instance → AreRowsOfTrees rows.old (tree u below empty)
         → OnOk result (forest_of trees.new.items
@@ -101,6 +104,7 @@ fn add_node<'a>(
     below: Vec<Tree<'a>>,
     trees: &mut Vec<Tree<'a>>,
 ) -> Result<(), Memory>
+    requires { AreOfNode locations.old row.old }
     ensures trees { (keyword absolute instance : List ℕ) → AreAt locations.old keyword instance
         → IsAbsolute row.old absolute → OnOk result (forest_of trees.new.items ≡ (forest_of trees.old.items
         ⊹ tree (unit_there row.old keyword absolute instance) (forest_of below.entry.items) empty)) }

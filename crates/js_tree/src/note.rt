@@ -1,5 +1,5 @@
 //! Notes: the error or the annotation of a node.
-ghost use Rattle.std.specs.Prelude.{◌≡◌, List, ℕ, map};
+ghost use Rattle.std.specs.Prelude.{◌≡◌, List, ℕ, false, map};
 ghost use Rattle.js_tree.specs.Note.{speaks};
 ghost use Rattle.js_tree.specs.Seen.{note_of};
 
@@ -106,5 +106,16 @@ impl<'a> Note<'a> {
         ensures { result ≡ speaks (note_of self.now) }
     {
         !matches!(self, Note::Silent)
+    }
+
+    /// Ends a silent note, which owns nothing: cheaper than a drop, which looks for what to free.
+    #[inline(always)]
+    pub fn end_silent(self)
+        requires { speaks (note_of self) ≡ false }
+    {
+        match self {
+            Note::Silent => (),
+            _ => unreachable!(),
+        }
     }
 }

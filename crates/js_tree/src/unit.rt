@@ -7,7 +7,7 @@ ghost use Rattle.js_tree.specs.Seen.{note_of};
 use crate::note::Note;
 use js_doc::Text;
 use std::marker::Model;
-use std::mem::{forget, replace};
+use std::mem::replace;
 
 /// An output unit (Core, section 12.3): a verdict, three locations and a note. Contracts see its texts as bytes, and
 /// its note without references.
@@ -56,7 +56,6 @@ impl<'a> Unit<'a> {
         ensures { self.new ≡ closed_unit self.old valid (note_of note.entry) }
     {
         self.valid = valid;
-        // The note of an open node is silent: there is nothing to drop.
-        forget(replace(&mut self.note, note));
+        drop(replace(&mut self.note, note));
     }
 }

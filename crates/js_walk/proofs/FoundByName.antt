@@ -68,7 +68,7 @@ unfolding Below
 all_later m ms [] h r = tt
 all_later m ms (x ∷ xs) h r = (found_later x m ms h.0 r.0, all_later m ms xs h.1 r.1)
 
-each_among : (ms : Named) → IsAscending ms → AreAmong ms ms
+pub each_among : (ms : Named) → IsAscending ms → AreAmong ms ms
 each_among [] a = tt
 each_among (m ∷ ms) a = (found_here m ms, all_later m ms ms (below_all ms m.0 a.0 a.1) (each_among ms a.1))
 

@@ -1,7 +1,7 @@
 pub mod Lists
 pub mod Agree
 pub mod Results
-pub mod Limits
+pub mod DepthAndSize
 pub mod NoCircle
 pub mod FoundByName
 pub mod Turns

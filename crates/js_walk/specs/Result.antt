@@ -1,7 +1,8 @@
 -- The result of evaluating an instance, as a predicate on a finished tree (JSON Schema Core, sections 12.3 and 12.4.4).
 -- A schema's node has one child for each of its keywords, in their order; a keyword's node has one for each application
 -- that it asks for, in their order.
-use Rattle.std.specs.Prelude.{◌≡◌, ℕ, suc, ◌≤◌, max, List, [], ◌∷◌, ◌++◌, Some, None, filter}
+use Rattle.std.specs.Prelude.{◌≡◌, ◌==◌, ℕ, suc, ◌≤◌, max, nat_lt, ◌||◌, if◌then◌else◌, List, [], ◌∷◌, ◌++◌, filter}
+use Rattle.std.specs.Prelude.{Option, Some, None}
 use Rattle.js_doc.specs.Pointer.{pointer_text}
 use Rattle.js_doc.specs.Value.{Value}
 use Rattle.js_tree.specs.Forest.{Forest, empty, tree, node_count}
@@ -15,6 +16,7 @@ use Rattle.js_walk.specs.Location.{Location, at_keyword_named, at_application}
 use Rattle.js_walk.specs.Note.{keyword_note, schema_note}
 use Rattle.js_walk.specs.SchemaSet.{SchemaSet}
 use Rattle.js_walk.specs.Verdict.{within, siblings, matching, asks, passes, application_holds, Settled}
+pub use Rattle.js_walk.specs.declared.walking.limits.Limits.{Limits}
 
 -- ---- the units, by what is known within n
 
@@ -103,11 +105,24 @@ pub record StandsWithin (deepest most : ℕ) (t : ResultTree) : Type 0 where
   pub deep : depth t ≤ deepest
   pub many : size t ≤ most
 
+abbrev pub IsWithinLimits : Limits → ResultTree → Type 0
+IsWithinLimits limits = StandsWithin limits.levels limits.nodes
+
 abbrev pub most_levels : ℕ
 most_levels = 512
 
 abbrev pub most_nodes : ℕ
 most_nodes = 1000000
 
-abbrev pub IsWithinLimits : ResultTree → Type 0
-IsWithinLimits = StandsWithin most_levels most_nodes
+abbrev pub standard_limits : Limits
+standard_limits = record { levels = most_levels; nodes = most_nodes }
+
+-- Those that may be set instead: at least one application, and neither number greater than the standard one.
+abbrev pub limits_at_most : ℕ → ℕ → Option Limits
+limits_at_most levels nodes =
+    if levels == 0 || nat_lt most_levels levels || nat_lt most_nodes nodes then None
+    else Some (record { levels = levels; nodes = nodes })
+
+pub record AreAtMostStandard (limits : Limits) : Type 0 where
+  pub levels : limits.levels ≤ most_levels
+  pub nodes : limits.nodes ≤ most_nodes

@@ -26,6 +26,6 @@ pub use schema_lookup::{
     below_at_rank, dynamic_target_at, held_below, names_at, schema_at, subschema_at, target_at,
 };
 pub use walking::{
-    HeldText, KeywordVerdict, Others, Path, PointerText, Reporter, ScopedPath, Tally, Trail,
-    UnseenText, WalkFault, World, walk_from,
+    HeldText, KeywordVerdict, Limits, Others, Path, PointerText, Reporter, ScopedPath, Tally,
+    Trail, UnseenText, WalkFault, World, walk_from,
 };

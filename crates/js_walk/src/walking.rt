@@ -5,6 +5,7 @@ mod dynamic_scope;
 mod fault;
 mod keeping;
 mod leaf;
+mod limits;
 mod path;
 mod pointer_text;
 mod recursion;
@@ -18,6 +19,7 @@ mod walk_state;
 mod world;
 
 pub use fault::WalkFault;
+pub use limits::Limits;
 pub use path::{Path, ScopedPath};
 pub use pointer_text::{HeldText, PointerText, UnseenText};
 pub use reporter::Reporter;

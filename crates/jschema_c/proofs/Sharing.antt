@@ -5,12 +5,12 @@ use Rattle.jschema_c.specs.declared.session.Session.{Session}
 use Rattle.jschema_c.specs.declared.status.Status.{Status}
 use Rattle.jschema_c.specs.declared.status.Status.TheVariants as status
 use Rattle.jschema_c.specs.Exports.{IsPut, IsSharedBy, Shares}
-use Rattle.jschema_c.specs.Session.{finished_in}
+use Rattle.jschema_c.specs.Session.{finished_in, IsFinished}
 
 put : (giver before after : Option Session) (s shared : Session) (x : Status) → giver ≡ Some s → IsSharedBy s shared
     → IsPut shared before after x → Shares giver before after x
 put giver before after s shared status.Done e is done = (s, shared, e, is, done)
-put giver before after s shared status.Failed e is stays = stays
+put giver before after s shared status.Failed e is stays = (stays, (s, e, is.finished))
 put giver before after s shared status.Invalid e is none = absurd none
 put giver before after s shared status.Misused e is none = absurd none
 put giver before after s shared status.Refused e is none = absurd none
@@ -33,6 +33,7 @@ unfinished_is_misused giver before after s x e none same there =
       λ t f. subst (λ z. finished_in z.phase ≡ None) (ap (λ o. unwrap_or o s) (sym e ∙ f)) none,
     )
 
-pub failed_stays : (giver before after : Option Session) (x : Status) → x ≡ status.Failed → after ≡ before
-    → Shares giver before after x
-failed_stays giver before after x same there = as_it_is giver before after before x status.Failed same there refl
+pub failed_stays : (giver before after : Option Session) (s : Session) (x : Status) → giver ≡ Some s
+    → IsFinished s.phase → x ≡ status.Failed → after ≡ before → Shares giver before after x
+failed_stays giver before after s x e finished same there =
+    as_it_is giver before after before x status.Failed same there (refl, (s, e, finished))

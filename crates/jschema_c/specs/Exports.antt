@@ -4,12 +4,15 @@ use Rattle.jschema_c.specs.declared.session.Phase.TheVariants as phase
 use Rattle.jschema_c.specs.declared.session.Session.{Session}
 use Rattle.jschema_c.specs.declared.status.Status.{Status}
 use Rattle.jschema_c.specs.declared.status.Status.TheVariants as status
+use Rattle.js_walk.specs.Result.{standard_limits}
 use Rattle.jschema_c.specs.Session.{AddCall, FinishCall, ListCall, EntryCall, CheckCall, IsFinished, finished_in}
+use Rattle.jschema_c.specs.Session.{SetsLimits}
 use Rattle.jschema_c.specs.Status.{code}
 
--- no document, no entry, no text
+-- no document, no entry, no text, and the standard limits
 pub record IsNew (s : Session) : Type 0 where
   pub none : s.phase ≡ phase.Adding []
+  pub limits : s.limits ≡ standard_limits
   pub entries : s.entries.items ≡ []
   pub text : s.text.items ≡ []
 
@@ -23,33 +26,42 @@ OnHandle Call (Some before) (Some after) number = AnswersNumber number (Call bef
 OnHandle Call (Some before) None number = ⊥
 OnHandle Call None after number = (number ≡ code status.Misused) × (after ≡ None)
 
+-- the entries and the limits stay
+pub record KeepsEntries (before after : Session) : Type 0 where
+  pub entries : after.entries.items ≡ before.entries.items
+  pub limits : after.limits ≡ before.limits
+
+abbrev pub SessionLimits : ℕ → ℕ → Session → Session → Status → Type 0
+SessionLimits applications nodes before after s =
+    SetsLimits applications nodes before.limits after.limits s
+    × ((after.text.items ≡ []) × ((after.phase ≡ before.phase) × (after.entries.items ≡ before.entries.items)))
+
 abbrev pub SessionAdds : List ℕ → List ℕ → Session → Session → Status → Type 0
 SessionAdds uri document before after s = AddCall uri document before.phase after.phase s after.text.items
-    × (after.entries.items ≡ before.entries.items)
+    × KeepsEntries before after
 
 abbrev pub SessionFinishes : Session → Session → Status → Type 0
-SessionFinishes before after s = FinishCall before.phase after.phase s after.text.items
-    × (after.entries.items ≡ before.entries.items)
+SessionFinishes before after s = FinishCall before.phase after.phase s after.text.items × KeepsEntries before after
 
 abbrev pub SessionLists : Session → Session → Status → Type 0
 SessionLists before after s =
-    ListCall before.phase s after.text.items
-    × ((after.phase ≡ before.phase) × (after.entries.items ≡ before.entries.items))
+    ListCall before.phase s after.text.items × ((after.phase ≡ before.phase) × KeepsEntries before after)
 
 abbrev pub SessionEnters : List ℕ → ℕ → ℕ → Session → Session → Status → Type 0
 SessionEnters uri old new before after s =
     EntryCall before.phase uri (before.entries.items, old) (after.entries.items, new) s after.text.items
-    × (after.phase ≡ before.phase)
+    × ((after.phase ≡ before.phase) × (after.limits ≡ before.limits))
 
 abbrev pub SessionChecks : ℕ → List ℕ → ℕ → Session → Session → Status → Type 0
 SessionChecks entry instance format before after s =
-    CheckCall before.phase before.entries.items entry instance format s after.text.items
-    × ((after.phase ≡ before.phase) × (after.entries.items ≡ before.entries.items))
+    CheckCall before.phase before.limits before.entries.items entry instance format s after.text.items
+    × ((after.phase ≡ before.phase) × KeepsEntries before after)
 
--- a session over the same finished schemas, with the same entries, and without a text
+-- a session over the same finished schemas, with the same limits and entries, and without a text
 pub record IsSharedBy (s shared : Session) : Type 0 where
   pub finished : IsFinished s.phase
   pub schemas : finished_in shared.phase ≡ finished_in s.phase
+  pub limits : shared.limits ≡ s.limits
   pub entries : shared.entries.items ≡ s.entries.items
   pub text : shared.text.items ≡ []
 
@@ -65,7 +77,8 @@ Shares giver before after status.Done = (s : Session) × (shared : Session) × (
     × (after ≡ Some shared)
 Shares giver before after status.Misused = (after ≡ before)
     × ((s : Session) → giver ≡ Some s → finished_in s.phase ≡ None)
-Shares giver before after status.Failed = after ≡ before
+Shares giver before after status.Failed = (after ≡ before)
+    × ((s : Session) × (giver ≡ Some s) × IsFinished s.phase)
 Shares giver before after _ = ⊥
 
 -- as much of the text as fits is copied, and the rest stays

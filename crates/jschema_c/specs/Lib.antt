@@ -2,3 +2,4 @@ pub mod BoxedValue
 pub mod Status
 pub mod Session
 pub mod Exports
+pub mod Run

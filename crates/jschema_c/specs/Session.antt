@@ -1,19 +1,24 @@
 -- What a session answers to each call, and what it and its text are afterwards.
-use Rattle.std.specs.Prelude.{◌≡◌, ℕ, List, [], ◌∷◌, ◌++◌, length, slice_get, Option, Some}
+use Rattle.std.specs.Prelude.{◌≡◌, ◌≤◌, ◌<◌, ◌⊎◌, ℕ, List, [], ◌∷◌, ◌++◌, length, slice_get, Option, Some}
 use Rattle.std.specs.Prelude.{None, Result, Ok, Err, Bool, true, false, ⊤}
 use Rattle.std.specs.Str.{IsUtf8}
 use Rattle.js_tree.specs.declared.forms.Format.{Format}
 use Rattle.js_bundle.specs.Adding.{IsAdded, IsRefusedBy}
 use Rattle.js_bundle.specs.Document.{Documents}
-use Rattle.js_bundle.specs.Refusals.{refusals, IsRefusalOf}
+use Rattle.js_bundle.specs.Candidate.{IsClear}
+use Rattle.js_bundle.specs.Refusals.{candidates, refusals, IsRefusalOf}
 use Rattle.js_bundle.specs.Resource.{sites}
 use Rattle.js_bundle.specs.Schemas.{is_place, place_at, StandsFor, IsEntryFault}
 use Rattle.js_bundle.specs.declared.refusal.Refusal.{Refusal}
 use Rattle.js_bundle.specs.declared.refusal.EntryFault.{EntryFault}
+use Rattle.js_walk.specs.Result.{limits_at_most}
+use Rattle.js_walk.specs.declared.walking.limits.Limits.{Limits}
+use Rattle.js_output.specs.Cause.{MayGoOn}
+use Rattle.js_output.specs.Device.{input_limit}
 use Rattle.js_output.specs.Documents.{fault_by}
-use Rattle.js_output.specs.Entry.{entry_fault_of, entry_place}
+use Rattle.js_output.specs.Entry.{entry_causes, entry_fault_of, entry_place}
 use Rattle.js_output.specs.Line.{fault_line}
-use Rattle.js_output.specs.Outcome.{Output, InstanceOutcome}
+use Rattle.js_output.specs.Outcome.{Output, InstanceOutcomeWithin}
 use Rattle.js_output.specs.Places.{lines_of}
 use Rattle.js_output.specs.declared.fault.Fault.{Fault}
 use Rattle.js_output.specs.declared.fault.Fault.TheVariants as fault
@@ -51,7 +56,8 @@ Says given (Err f) answered text = SaysFault f answered text
 -- ---- adding
 
 abbrev pub AddedTo : Phase → List ℕ → List ℕ → Phase → Type 0
-AddedTo (phase.Adding before) uri text (phase.Adding after) = IsUtf8 uri × IsAdded before uri text after
+AddedTo (phase.Adding before) uri text (phase.Adding after) = IsUtf8 uri × (length text ≤ input_limit)
+    × IsAdded before uri text after
 AddedTo _ uri text _ = ⊥
 
 -- documents were finished before, or the URI isn't UTF-8
@@ -59,9 +65,14 @@ abbrev pub CannotAdd : Phase → List ℕ → Type 0
 CannotAdd (phase.Adding documents) uri = ¬ (IsUtf8 uri)
 CannotAdd (phase.Finished schemas) uri = ⊤
 
+-- the text is too large; or it isn't, and the document is refused beside the earlier ones
+abbrev pub RefusesDocument : Documents → List ℕ → List ℕ → Fault → Type 0
+RefusesDocument documents uri text f = ((input_limit < length text) × (f ≡ fault.InputTooLarge))
+    ⊎ ((length text ≤ input_limit)
+    × ((r : Refusal) × IsRefusedBy (length documents) uri text r × (f ≡ fault_by r.kind r)))
+
 abbrev pub RefusesText : Phase → List ℕ → List ℕ → Fault → Type 0
-RefusesText (phase.Adding documents) uri text f = (r : Refusal) × IsRefusedBy (length documents) uri text r
-    × (f ≡ fault_by r.kind r)
+RefusesText (phase.Adding documents) uri text f = IsUtf8 uri × RefusesDocument documents uri text f
 RefusesText (phase.Finished schemas) uri text f = ⊥
 
 -- the document is added, or all is as it was
@@ -78,7 +89,8 @@ AddCall uri document old new answered text = (came : Result Status Fault) × Add
 -- ---- finishing
 
 abbrev pub FinishedAs : Phase → Phase → Type 0
-FinishedAs (phase.Adding documents) new = (finished_in new ≡ Some documents) × (refusals documents ≡ [])
+FinishedAs (phase.Adding documents) new = (finished_in new ≡ Some documents) × IsClear (candidates documents)
+    × (refusals documents ≡ [])
 FinishedAs (phase.Finished schemas) new = ⊥
 
 abbrev pub IsFinished : Phase → Type 0
@@ -114,7 +126,7 @@ abbrev pub Lists : Phase → List ℕ → Result Status Fault → Type 0
 Lists state text (Ok status.Done) = Listed state text
 Lists state text (Ok status.Misused) = CannotList state × (text ≡ [])
 Lists state text (Ok _) = ⊥
-Lists state text (Err f) = f ≡ fault.Memory
+Lists state text (Err f) = IsFinished state × (f ≡ fault.Memory)
 
 abbrev pub ListCall : Phase → Status → List ℕ → Type 0
 ListCall state answered text = (given : List ℕ) × (came : Result Status Fault) × Lists state given came
@@ -122,12 +134,13 @@ ListCall state answered text = (given : List ℕ) × (came : Result Status Fault
 
 -- ---- entries
 
--- one more entry is kept, the place that the URI names, and its number is how many there were
+-- Nothing stands against the URI. One more entry is kept, the place that it names, and its number is how many there
+-- were.
 abbrev pub Entered : Phase → List ℕ → List ℕ → List ℕ → ℕ → Type 0
 Entered (phase.Adding documents) uri old new number = ⊥
-Entered (phase.Finished schemas) uri old new number =
-    (place : ℕ) × StandsFor schemas.value place (entry_place schemas.value uri) × (new ≡ old ++ place ∷ [])
-    × (number ≡ length old)
+Entered (phase.Finished schemas) uri old new number = IsUtf8 uri × MayGoOn (entry_causes schemas.value uri)
+    × ((place : ℕ) × StandsFor schemas.value place (entry_place schemas.value uri) × (new ≡ old ++ place ∷ [])
+    × (number ≡ length old))
 
 -- documents aren't finished yet, or the URI isn't UTF-8
 abbrev pub CannotEnter : Phase → List ℕ → Type 0
@@ -136,8 +149,8 @@ CannotEnter (phase.Finished schemas) uri = ¬ (IsUtf8 uri)
 
 abbrev pub RefusesEntry : Phase → List ℕ → Fault → Type 0
 RefusesEntry (phase.Adding documents) uri f = ⊥
-RefusesEntry (phase.Finished schemas) uri f = (e : EntryFault) × IsEntryFault schemas.value uri e
-    × (f ≡ entry_fault_of e)
+RefusesEntry (phase.Finished schemas) uri f = IsUtf8 uri
+    × ((e : EntryFault) × IsEntryFault schemas.value uri e × (f ≡ entry_fault_of e))
 
 -- of the entries and the number, before and after
 abbrev pub Enters : Phase → List ℕ → List ℕ × ℕ → List ℕ × ℕ → Result Status Fault → Type 0
@@ -149,6 +162,14 @@ Enters schemas uri old new (Err f) = (new ≡ old) × RefusesEntry schemas uri f
 abbrev pub EntryCall : Phase → List ℕ → List ℕ × ℕ → List ℕ × ℕ → Status → List ℕ → Type 0
 EntryCall schemas uri old new answered text = (came : Result Status Fault) × Enters schemas uri old new came
     × Says [] came answered text
+
+-- ---- limits
+
+-- they are those that are asked for, if these may be set
+abbrev pub SetsLimits : ℕ → ℕ → Limits → Limits → Status → Type 0
+SetsLimits applications nodes old new status.Done = limits_at_most applications nodes ≡ Some new
+SetsLimits applications nodes old new status.Misused = (limits_at_most applications nodes ≡ None) × (new ≡ old)
+SetsLimits applications nodes old new _ = ⊥
 
 -- ---- checks
 
@@ -175,14 +196,15 @@ Judges Expected text (Ok status.Invalid) = IsOutput Expected false text
 Judges Expected text (Ok _) = ⊥
 Judges Expected text (Err f) = IsRefusal f → Expected (Err f)
 
--- the outcome at the place, or nothing is asked
-abbrev pub Checks : Phase → List ℕ → ℕ → List ℕ → ℕ → List ℕ → Result Status Fault → Type 0
-Checks state entries entry instance number text (Ok status.Misused) = NotAsked state entries entry number × (text ≡ [])
-Checks state entries entry instance number text came =
+-- the outcome at the place within the limits, or nothing is asked
+abbrev pub Checks : Phase → Limits → List ℕ → ℕ → List ℕ → ℕ → List ℕ → Result Status Fault → Type 0
+Checks state limits entries entry instance number text (Ok status.Misused) = NotAsked state entries entry number
+    × (text ≡ [])
+Checks state limits entries entry instance number text came =
     (documents : Documents) × (place : ℕ) × (format : Format) × Asked state entries entry number documents place format
-    × Judges (InstanceOutcome documents (place_at documents place) format instance) text came
+    × Judges (InstanceOutcomeWithin limits documents (place_at documents place) format instance) text came
 
-abbrev pub CheckCall : Phase → List ℕ → ℕ → List ℕ → ℕ → Status → List ℕ → Type 0
-CheckCall state entries entry instance number answered text =
-    (given : List ℕ) × (came : Result Status Fault) × Checks state entries entry instance number given came
+abbrev pub CheckCall : Phase → Limits → List ℕ → ℕ → List ℕ → ℕ → Status → List ℕ → Type 0
+CheckCall state limits entries entry instance number answered text =
+    (given : List ℕ) × (came : Result Status Fault) × Checks state limits entries entry instance number given came
     × Says given came answered text

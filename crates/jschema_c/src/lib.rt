@@ -4,13 +4,15 @@
 
 ghost use Rattle.std.specs.Prelude.{◌≡◌, ◌≢◌, None, IfSome, IsSomeAnd, length};
 ghost use Rattle.jschema_c.specs.Exports.{IsNew, OnHandle, SessionAdds, SessionFinishes, SessionLists, SessionEnters};
-ghost use Rattle.jschema_c.specs.Exports.{AnswersNumber, IsPut, SessionChecks, Shares, copied};
+ghost use Rattle.jschema_c.specs.Exports.{AnswersNumber, IsPut, SessionChecks, SessionLimits, Shares, copied};
 ghost use Rattle.jschema_c.specs.Status.{code};
 ghost use Rattle.jschema_c.specs.declared.status.Status.TheVariants as Status;
 
 mod handle;
+pub mod laws;
 mod loose;
 mod session;
+pub mod sharing_laws;
 mod status;
 
 use handle::Handle;
@@ -28,11 +30,29 @@ pub extern "C" fn jschema_new(alloc: Global, handle: &mut Handle) -> u32
     jschema_free(alloc, handle);
     match Box::new(alloc, Session::new(alloc)) {
         Ok(made) => {
-            handle.put_session(made);
+            handle.put_session(alloc, made);
             Status::Done.code()
         }
         Err(_) => Status::Failed.code(),
     }
+}
+
+/// Sets the limits on results: how many nested schema applications one may need, and how many nodes it may have.
+#[unsafe(no_mangle)]
+pub extern "C" fn jschema_limit(
+    alloc: Global,
+    handle: &mut Handle,
+    applications: usize,
+    nodes: usize,
+) -> u32
+    ensures { OnHandle (SessionLimits applications nodes) handle.old.value handle.new.value result }
+{
+    let Some(mut taken) = handle.take_session(alloc) else {
+        return Status::Misused.code();
+    };
+    let status = taken.session.set_limits(applications, nodes);
+    handle.put_back(alloc, taken);
+    status.code()
 }
 
 /// Adds a document under a URI.
@@ -45,11 +65,11 @@ pub extern "C" fn jschema_add(
 ) -> u32
     ensures { OnHandle (SessionAdds uri.now document.now) handle.old.value handle.new.value result }
 {
-    let Some(mut session) = handle.take_session(alloc) else {
+    let Some(mut taken) = handle.take_session(alloc) else {
         return Status::Misused.code();
     };
-    let status = session.add_document(alloc, uri, document);
-    handle.put_session(session);
+    let status = taken.session.add_document(alloc, uri, document);
+    handle.put_back(alloc, taken);
     status.code()
 }
 
@@ -58,11 +78,11 @@ pub extern "C" fn jschema_add(
 pub extern "C" fn jschema_finish(alloc: Global, handle: &mut Handle) -> u32
     ensures { OnHandle SessionFinishes handle.old.value handle.new.value result }
 {
-    let Some(mut session) = handle.take_session(alloc) else {
+    let Some(mut taken) = handle.take_session(alloc) else {
         return Status::Misused.code();
     };
-    let status = session.finish_documents(alloc);
-    handle.put_session(session);
+    let status = taken.session.finish_documents(alloc);
+    handle.put_back(alloc, taken);
     status.code()
 }
 
@@ -71,15 +91,15 @@ pub extern "C" fn jschema_finish(alloc: Global, handle: &mut Handle) -> u32
 pub extern "C" fn jschema_places(alloc: Global, handle: &mut Handle) -> u32
     ensures { OnHandle SessionLists handle.old.value handle.new.value result }
 {
-    let Some(mut session) = handle.take_session(alloc) else {
+    let Some(mut taken) = handle.take_session(alloc) else {
         return Status::Misused.code();
     };
-    let status = session.list(alloc);
-    handle.put_session(session);
+    let status = taken.session.list(alloc);
+    handle.put_back(alloc, taken);
     status.code()
 }
 
-/// Looks up the schema that a URI names, and gives it a number.
+/// Looks up the schema that a URI names, and gives it a number. On an empty handle the caller's number stays.
 #[unsafe(no_mangle)]
 pub extern "C" fn jschema_entry(
     alloc: Global,
@@ -87,29 +107,30 @@ pub extern "C" fn jschema_entry(
     uri: &[u8],
     number: &mut usize,
 ) -> u32
-    ensures { OnHandle (SessionEnters uri.now number.old number.new) handle.old.value
+    ensures enters { OnHandle (SessionEnters uri.now number.old number.new) handle.old.value
         handle.new.value result }
+    ensures stays { handle.old.value ≡ None → number.new ≡ number.old }
 {
-    let Some(mut session) = handle.take_session(alloc) else {
+    let Some(mut taken) = handle.take_session(alloc) else {
         return Status::Misused.code();
     };
-    let status = session.number_entry(alloc, uri, number);
-    handle.put_session(session);
+    let status = taken.session.number_entry(alloc, uri, number);
+    handle.put_back(alloc, taken);
     status.code()
 }
 
-/// Makes another handle on the same finished schemas, with the same numbers of entries: for another thread. What it
-/// held is dropped.
+/// Makes another handle on the same finished schemas, with the same limits and numbers of entries: for another
+/// thread. What it held is dropped.
 #[unsafe(no_mangle)]
 pub extern "C" fn jschema_share(alloc: Global, handle: &mut Handle, other: &mut Handle) -> u32
     ensures shares { AnswersNumber result (Shares handle.old.value other.old.value other.new.value) }
     ensures stays { handle.new.value ≡ handle.old.value }
 {
-    let Some(session) = handle.take_session(alloc) else {
+    let Some(taken) = handle.take_session(alloc) else {
         return Status::Misused.code();
     };
-    let made = session.share_schemas(alloc);
-    handle.put_session(session);
+    let made = taken.session.share_schemas(alloc);
+    handle.put_back(alloc, taken);
     let status = match made {
         Ok(Some(shared)) => put_shared(alloc, shared, other),
         Ok(None) => Status::Misused,
@@ -130,11 +151,11 @@ pub extern "C" fn jschema_check(
     ensures { OnHandle (SessionChecks entry instance.now format) handle.old.value
         handle.new.value result }
 {
-    let Some(mut session) = handle.take_session(alloc) else {
+    let Some(mut taken) = handle.take_session(alloc) else {
         return Status::Misused.code();
     };
-    let status = session.check_instance(alloc, entry, instance, format);
-    handle.put_session(session);
+    let status = taken.session.check_instance(alloc, entry, instance, format);
+    handle.put_back(alloc, taken);
     status.code()
 }
 
@@ -146,14 +167,14 @@ pub extern "C" fn jschema_text(alloc: Global, handle: &mut Handle, out: &mut [u8
         × (out.new ≡ copied s.text.items out.old)) }
     ensures stays { handle.new.value ≡ handle.old.value }
 {
-    let Some(session) = handle.take_session(alloc) else {
+    let Some(taken) = handle.take_session(alloc) else {
         return 0;
     };
-    let text = session.text.as_slice();
+    let text = taken.session.text.as_slice();
     let whole = text.len();
     let fits = whole.min(out.len());
     out[..fits].copy_from_slice(&text[..fits]);
-    handle.put_session(session);
+    handle.put_back(alloc, taken);
     whole
 }
 
@@ -162,7 +183,9 @@ pub extern "C" fn jschema_text(alloc: Global, handle: &mut Handle, out: &mut [u8
 pub extern "C" fn jschema_free(alloc: Global, handle: &mut Handle)
     ensures { handle.new.value ≡ None }
 {
-    drop(handle.take_session(alloc));
+    if let Some(taken) = handle.take_session(alloc) {
+        taken.free();
+    }
 }
 
 /// The library's version: 10,000 for each major one, 100 for each minor one, and the patch.
@@ -180,7 +203,7 @@ fn put_shared(alloc: Global, shared: Session, other: &mut Handle) -> Status
     match Box::new(alloc, shared) {
         Ok(made) => {
             jschema_free(alloc, other);
-            other.put_session(made);
+            other.put_session(alloc, made);
             Status::Done
         }
         Err(_) => Status::Failed,

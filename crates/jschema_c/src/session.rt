@@ -1,19 +1,22 @@
 //! What a handle holds: documents or schemas, the entries that were looked up, and a text.
-ghost use Rattle.std.specs.Prelude.{◌≡◌, [], None, true, IfOk, MatchOption};
+ghost use Rattle.std.specs.Prelude.{◌≡◌, [], None, true, IfOk, OnErr, MatchOption};
 ghost use Rattle.jschema_c.specs.Exports.{IsNew, SessionAdds, SessionFinishes, SessionLists, SessionEnters};
-ghost use Rattle.jschema_c.specs.Exports.{IsSharedBy, SessionChecks};
-ghost use Rattle.jschema_c.specs.Session.{finished_in};
+ghost use Rattle.jschema_c.specs.Exports.{IsSharedBy, SessionChecks, SessionLimits};
+ghost use Rattle.jschema_c.specs.Session.{finished_in, IsFinished};
 ghost use Rattle.jschema_c.specs.Session.{Adds, Finishes, Lists, Enters, Checks, Judges, Says, SaysFault};
 ghost use Rattle.js_bundle.specs.Schemas.{is_place, place_at};
-ghost use Rattle.js_output.specs.Outcome.{InstanceOutcome};
+ghost use Rattle.js_output.specs.Outcome.{InstanceOutcomeWithin};
 
 use crate::status::{Status, format_numbered};
 use js_bundle::{Bundle, Place, Schemas};
-use js_output::{Fault, Sink, judge, list_places, refusal_line};
+use js_output::{Fault, Limits, Sink, judge_within, list_places, refusal_line};
 use js_tree::Format;
 use std::alloc::{AllocError, Global};
 use std::mem::replace;
 use std::sync::Arc;
+
+/// A document has at most so many bytes, as every input of the program.
+const LONGEST_DOCUMENT: usize = 16_777_216;
 
 /// Documents, or the schemas of finished ones.
 #[derive(Drop)]
@@ -24,10 +27,11 @@ pub enum Phase {
     Finished(Arc<Schemas>),
 }
 
-/// A phase, the entries that were looked up in it, and the text of the last call.
+/// A phase, the limits on results, the entries that were looked up, and the text of the last call.
 #[derive(Drop)]
 pub struct Session {
     pub phase: Phase,
+    pub limits: Limits,
     pub entries: Vec<Place, Global>,
     pub text: Vec<u8, Global>,
 }
@@ -39,8 +43,23 @@ impl Session {
     {
         Session {
             phase: Phase::Adding(Bundle::new(alloc)),
+            limits: Limits::standard(),
             entries: Vec::new(alloc),
             text: Vec::new(alloc),
+        }
+    }
+
+    /// Sets the limits on results.
+    pub(crate) fn set_limits(&mut self, applications: usize, nodes: usize) -> Status
+        ensures { SessionLimits applications nodes self.old self.new result }
+    {
+        self.text.clear();
+        match Limits::at_most(applications, nodes) {
+            Some(limits) => {
+                self.limits = limits;
+                Status::Done
+            }
+            None => Status::Misused,
         }
     }
 
@@ -84,7 +103,8 @@ impl Session {
     /// # Errors
     /// `AllocError` if an allocation fails.
     pub(crate) fn share_schemas(&self, alloc: Global) -> Result<Option<Session>, AllocError>
-        ensures { IfOk result (λ o. MatchOption o (finished_in self.now.phase ≡ None) (IsSharedBy self.now)) }
+        ensures shared { IfOk result (λ o. MatchOption o (finished_in self.now.phase ≡ None) (IsSharedBy self.now)) }
+        ensures finished { OnErr result (IsFinished self.now.phase) }
     {
         let Phase::Finished(schemas) = &self.phase else {
             return Ok(None);
@@ -93,6 +113,7 @@ impl Session {
         entries.extend_from_slice(self.entries.as_slice())?;
         Ok(Some(Session {
             phase: Phase::Finished(schemas.clone()?),
+            limits: self.limits,
             entries,
             text: Vec::new(alloc),
         }))
@@ -108,19 +129,41 @@ impl Session {
     ) -> Status
         ensures { SessionChecks entry instance.now format self.old self.new result }
     {
-        let entries = self.entries.as_slice();
-        match checked(
-            alloc,
-            &self.phase,
-            entries,
-            entry,
-            instance,
-            format,
-            &mut self.text,
-        ) {
+        let mut text = replace(&mut self.text, Vec::new(alloc));
+        let came = self.checked(alloc, entry, instance, format, &mut text);
+        self.text = text;
+        match came {
             Ok(status) => status,
             Err(fault) => say(alloc, &fault, &mut self.text),
         }
+    }
+
+    // The result of a check. The text becomes its output.
+    fn checked(
+        &self,
+        alloc: Global,
+        entry: usize,
+        instance: &[u8],
+        format: u32,
+        text: &mut Vec<u8, Global>,
+    ) -> Result<Status, Fault>
+        ensures { Checks self.now.phase self.now.limits self.now.entries.items entry instance.now format
+            text.new.items result }
+    {
+        text.clear();
+        let Phase::Finished(schemas) = &self.phase else {
+            return Ok(Status::Misused);
+        };
+        let Some(place) = self.entries.as_slice().get(entry) else {
+            return Ok(Status::Misused);
+        };
+        let Some(format) = format_numbered(format) else {
+            return Ok(Status::Misused);
+        };
+        if !schemas.has(*place) {
+            return Ok(Status::Misused);
+        }
+        judged(alloc, schemas, *place, instance, format, self.limits, text)
     }
 }
 
@@ -133,6 +176,9 @@ fn added(phase: &mut Phase, uri: &[u8], document: &[u8]) -> Result<Status, Fault
     let Ok(uri) = str::from_utf8(uri) else {
         return Ok(Status::Misused);
     };
+    if LONGEST_DOCUMENT < document.len() {
+        return Err(Fault::InputTooLarge);
+    }
     match bundle.add(uri, document) {
         Ok(()) => Ok(Status::Done),
         Err(refusal) => Err(Fault::from(refusal)),
@@ -203,48 +249,22 @@ fn entered(
     }
 }
 
-fn checked(
-    alloc: Global,
-    phase: &Phase,
-    entries: &[Place],
-    entry: usize,
-    instance: &[u8],
-    format: u32,
-    text: &mut Vec<u8, Global>,
-) -> Result<Status, Fault>
-    ensures { Checks phase.now entries.now entry instance.now format text.new.items result }
-{
-    text.clear();
-    let Phase::Finished(schemas) = phase else {
-        return Ok(Status::Misused);
-    };
-    let Some(place) = entries.get(entry) else {
-        return Ok(Status::Misused);
-    };
-    let Some(format) = format_numbered(format) else {
-        return Ok(Status::Misused);
-    };
-    if !schemas.has(*place) {
-        return Ok(Status::Misused);
-    }
-    judged(alloc, schemas, *place, instance, format, text)
-}
-
 fn judged(
     alloc: Global,
     schemas: &Schemas,
     place: Place,
     instance: &[u8],
     format: Format,
+    limits: Limits,
     text: &mut Vec<u8, Global>,
 ) -> Result<Status, Fault>
     requires place { is_place schemas.now place ≡ true }
     requires empty { text.old.items ≡ [] }
-    ensures { Judges (InstanceOutcome schemas.now (place_at schemas.now place) format instance.now)
+    ensures { Judges (InstanceOutcomeWithin limits schemas.now (place_at schemas.now place) format instance.now)
         text.new.items result }
 {
     let mut out = Sink::new(replace(text, Vec::new(alloc)));
-    let answer = judge(alloc, schemas, place, instance, format, &mut out);
+    let answer = judge_within(alloc, schemas, place, instance, format, limits, &mut out);
     *text = out.into_device();
     match answer {
         Ok(true) => Ok(Status::Done),

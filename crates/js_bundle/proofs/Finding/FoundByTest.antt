@@ -112,10 +112,10 @@ assertion_found k s = built_by keyword_named
 
 -- ---- patterns
 
-abbrev the_patterns : Text
+abbrev pub the_patterns : Text
 the_patterns = codes "patternProperties"
 
-no_patterns : (ms : Members) → ((l : Text) (w : Value) → Among (l, w) (member_list ms) → ¬ (the_patterns ≡ l))
+pub no_patterns : (ms : Members) → ((l : Text) (w : Value) → Among (l, w) (member_list ms) → ¬ (the_patterns ≡ l))
     → flat_map patterns_of (member_list ms) ≡ []
 no_patterns no_members h = refl
 no_patterns (member l v ms) h =

@@ -1,12 +1,14 @@
 //! What a place has by its keywords.
-ghost use Rattle.std.specs.Prelude.{◌≡◌, Some, true, codes, find, bytes_eq, option_map, option_and_then};
+ghost use Rattle.std.specs.Prelude.{◌≡◌, ◌∷◌, [], Some, true, codes, find, bytes_eq, option_map, option_and_then};
+ghost use Rattle.std.specs.Ordering.{is_lt};
 ghost use Rattle.js_assert.specs.Keyword.{name_of};
 ghost use Rattle.js_bundle.specs.AssertionsAndPatterns.{assertions_at, patterns_at};
+ghost use Rattle.js_doc.specs.Members.{name_cmp};
 ghost use Rattle.js_places.specs.KeywordName.{member_keywords};
 ghost use Rattle.js_places.specs.PlaceNumber.{is_place, place_at};
 ghost use Rattle.js_bundle.specs.Schemas.{has_keyword, assertion, pattern};
 ghost use Rattle.js_places.specs.Seen.{AreRead};
-ghost use Rattle.js_bundle.specs.code.Patterns.{AreOwn};
+ghost use Rattle.js_bundle.specs.code.Patterns.{AreInOrder};
 
 use crate::check::assertions_and_patterns::BuiltPattern;
 use crate::finished::dynamic_target::reference_under;
@@ -103,25 +105,30 @@ fn find_assertion<'b>(built: &'b [Assertion], keyword: &str) -> Option<&'b Asser
     None
 }
 
-// The pattern of this name. They stand in the order of their names, so a binary search for the first whose name doesn't
-// come before this one finds it. Where it doesn't, each is looked at.
+// The pattern of this name, by a binary search.
 fn find_pattern<'b>(built: &'b [BuiltPattern], name: &str) -> Option<&'b BuiltPattern>
-    requires { AreOwn built.now }
+    requires { AreInOrder built.now }
     ensures { option_map (λ b. b.now) result ≡ find (λ b. bytes_eq name.now b.name) built.now }
 {
-    match built.get(built.partition_point(|one| one.name.as_str() < name)) {
-        Some(one) if name == one.name.as_str() => Some(one),
-        _ => search_pattern(built, name),
+    let rank = built.partition_point(|one| comes_before(one, name));
+    match built.get(rank) {
+        Some(one) => if_named(one, name),
+        None => None,
     }
 }
 
-fn search_pattern<'b>(built: &'b [BuiltPattern], name: &str) -> Option<&'b BuiltPattern>
-    ensures { option_map (λ b. b.now) result ≡ find (λ b. bytes_eq name.now b.name) built.now }
+fn if_named<'b>(one: &'b BuiltPattern, name: &str) -> Option<&'b BuiltPattern>
+    ensures { option_map (λ b. b.now) result ≡ find (λ b. bytes_eq name.now b.name) (one.now ∷ []) }
 {
-    for one in built {
-        if name == one.name.as_str() {
-            return Some(one);
-        }
+    if name == one.name.as_str() {
+        Some(one)
+    } else {
+        None
     }
-    None
+}
+
+fn comes_before(one: &BuiltPattern, name: &str) -> bool
+    ensures { result ≡ is_lt (name_cmp one.now.name name.now) }
+{
+    one.name.as_str() < name
 }

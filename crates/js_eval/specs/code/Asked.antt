@@ -1,7 +1,7 @@
 -- The applications that an `Asking` still has to ask for, of the schemas that it was made for.
-use Rattle.std.specs.Prelude.{◌≡◌, [], ◌∷◌, MatchOption, Option, Some, None}
+use Rattle.std.specs.Prelude.{◌≡◌, [], ◌∷◌, MatchOption, Option, Some, None, map}
 use Rattle.std.specs.Prelude as prelude
-use Rattle.js_doc.specs.Seen.{value_of}
+use Rattle.js_doc.specs.Seen.{pair_of, value_of}
 use Rattle.js_bundle.specs.Document.{Documents}
 use Rattle.js_bundle.specs.Resource.{Site}
 use Rattle.js_walk.specs.Applications.{Application}
@@ -9,6 +9,7 @@ use Rattle.js_eval.specs.code.Applied.{IsHeld, applied_of}
 use Rattle.js_eval.specs.code.Cursors.{items_asked, members_asked, patterns_asked}
 use Rattle.js_eval.specs.code.ListLeft.{IsList, list_asked}
 use Rattle.js_eval.specs.code.NamesLeft.{IsNames, names_asked}
+use Rattle.js_eval.specs.code.Patterns.{ArePatternsAt}
 use Rattle.js_walk.specs.code.Standing.{IsSchemaAt}
 use Rattle.js_walk.specs.declared.instance.Applied.{Applied}
 use Rattle.js_eval.specs.declared.cursors.asking.Asking.{Asking}
@@ -41,10 +42,11 @@ abbrev pub IsOne : Documents → Option Applied → Type 0
 IsOne documents None = Unit {0}
 IsOne documents (Some a) = IsApplied documents a
 
--- the place with the patterns, and that of the present one's schema
+-- the place with the patterns, that of the present one's schema, and the patterns that are still to come
 abbrev pub ArePatterns : Documents → PatternCursor → Type 0
 ArePatterns documents c = IsSchemaAt documents c.place (value_of c.schema.now)
     × IsSchemaAt documents c.below (value_of c.schema_below.now)
+    × ArePatternsAt documents c.place (map pair_of c.patterns)
 
 abbrev pub IsAsking : Documents → Asking → Type 0
 IsAsking documents (One one) = IsOne documents one

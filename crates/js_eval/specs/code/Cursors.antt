@@ -15,6 +15,7 @@ use Rattle.js_bundle.specs.Document.{Documents}
 use Rattle.js_bundle.specs.Resource.{Site}
 use Rattle.js_walk.specs.Applications.{Application, application, among_indexes, among_names, indexed_from}
 use Rattle.js_eval.specs.code.Applied.{applied}
+pub use Rattle.js_eval.specs.code.Patterns.{named_in}
 use Rattle.js_walk.specs.code.Standing.{IsSchemaAt}
 use Rattle.js_walk.specs.Bundle.{schemas_of}
 use Rattle.js_walk.specs.SchemaSet.{Text, Index, Name}
@@ -54,10 +55,6 @@ is_key keys name = list_any (λ k. is_eq (slice_cmp nat_cmp name k.now)) keys
 -- a set has these names, and no others
 abbrev pub HasNames : List (Bor Text) → List Text → Type 0
 HasNames keys names = (name : Text) → is_key keys name ≡ among_names name names
-
-abbrev pub named_in : Option (Bor Named) → Named
-named_in None = []
-named_in (Some members) = members.now
 
 abbrev pub is_named : Option (Bor Named) → Text → Bool
 is_named properties name = has name (named_in properties)

@@ -1,22 +1,25 @@
 //! Applications member by member (Core, sections 10.2.2.4, 10.3.2 and 11.3): a schema on each member that the keyword
 //! chooses by name, or on the value itself for each of the keyword's names that a member has.
-ghost use Rattle.std.specs.Prelude.{◌≡◌, ◌∷◌, [], IfOk, MatchOption};
+ghost use Rattle.std.specs.Prelude.{◌≡◌, ◌∷◌, [], IfOk, MatchOption, codes, true};
 ghost use Rattle.std.specs.List.{list_any};
 ghost use Rattle.std.specs.Option.{option_map_or};
 ghost use Rattle.js_assert.specs.Pattern.{matches};
-ghost use Rattle.js_doc.specs.Members.{get};
+ghost use Rattle.js_bundle.specs.Schemas.{is_place};
+ghost use Rattle.js_doc.specs.Members.{IsAscending, get};
 ghost use Rattle.js_eval.specs.code.Applied.{IsHeld};
 ghost use Rattle.js_eval.specs.code.Asked.{IsApplied, IsNext};
 ghost use Rattle.js_eval.specs.code.Cursors.{is_chosen, is_named, members_asked, chosen_members, named_in};
+ghost use Rattle.js_eval.specs.code.Patterns.{ArePatternsAt, IsPatternAt};
 ghost use Rattle.js_walk.specs.code.Terms.{entries, value_of};
 
+use crate::cursors::adjacent::Adjacent;
 use crate::cursors::application::{AppliedTo, Subschemas, apply_to_part};
 use crate::schema::argument_in;
 use crate::searching::name_set::is_in;
 use crate::searching::searchers::{NamedPattern, PatternSearch};
 use js_bundle::{Place, Schemas, Step};
 use js_doc::{Doc, Members, Memory, Pairs};
-use js_walk::{Applied, object_in};
+use js_walk::{Applied, names_ascend, object_in};
 use std::collections::BTreeSet;
 
 /// Which members a keyword chooses, by their names.
@@ -29,14 +32,6 @@ pub(crate) enum Choice<'a> {
     Additional(Adjacent<'a>),
     /// Those whose name isn't in this set.
     Except(BTreeSet<&'a str>),
-}
-
-/// The arguments of the adjacent `properties` and `patternProperties`, if they are objects, and the schema's place.
-#[derive(Clone, Copy)]
-pub(crate) struct Adjacent<'a> {
-    pub place: Place,
-    pub properties: Option<&'a Members>,
-    pub patterns: Option<&'a Members>,
 }
 
 /// The applications that a keyword still has to ask for, one for each chosen member.
@@ -54,6 +49,21 @@ pub(crate) fn object_at<'a>(schema: &'a Doc, keyword: &str) -> Option<&'a Member
 {
     match argument_in(schema, keyword) {
         Some(argument) => object_in(argument),
+        None => None,
+    }
+}
+
+/// The patterns of the schema's `patternProperties`, if that is an object.
+pub(crate) fn patterns_in<'a>(schema: &'a Doc) -> Option<&'a Members>
+    ensures is { named_in result
+        ≡ option_map_or entries (get (codes "patternProperties") (entries (value_of schema.now))) [] }
+    ensures ascend { IsAscending (named_in result) }
+{
+    match object_at(schema, "patternProperties") {
+        Some(patterns) => {
+            names_ascend(patterns);
+            Some(patterns)
+        }
         None => None,
     }
 }
@@ -120,7 +130,7 @@ fn is_chosen<'a>(
                 return Ok(true);
             };
             let place = adjacent.place;
-            Ok(!matches_any(search, place, patterns, name)?)
+            Ok(!matches_any(search, adjacent.schemas, place, patterns, name)?)
         }
         Choice::Except(names) => Ok(!is_in(names, name)),
     }
@@ -138,10 +148,13 @@ fn is_named(properties: Option<&Members>, name: &str) -> bool
 // Whether one of the patterns of `patternProperties` at the place matches the name, as stored or by searches.
 fn matches_any<'a>(
     search: &PatternSearch<'_, 'a>,
+    schemas: &'a Schemas,
     place: Place,
     patterns: &'a Members,
     name: &str,
 ) -> Result<bool, Memory>
+    requires place { is_place schemas.now place ≡ true }
+    requires patterns { ArePatternsAt schemas.now place patterns.now }
     ensures { IfOk result (λ b. b ≡ list_any (λ p. matches p.0 name.now) patterns.now) }
 {
     let searchers = search.searchers;
@@ -149,7 +162,7 @@ fn matches_any<'a>(
         return Ok(answer);
     }
     for (pattern, _) in patterns.pairs() {
-        let built = pattern_of(search.schemas, place, pattern.as_str())?;
+        let built = pattern_of(schemas, place, pattern.as_str());
         if searchers.matches_name(search.alloc, built, name)? {
             return Ok(true);
         }
@@ -157,22 +170,14 @@ fn matches_any<'a>(
     Ok(false)
 }
 
-/// The pattern with this text in the `patternProperties` of the place. Finished schemas have all their patterns.
-///
-/// # Errors
-/// `Memory` if it isn't found.
-pub(crate) fn pattern_of<'a>(
-    schemas: &'a Schemas,
-    place: Place,
-    text: &'a str,
-) -> Result<NamedPattern<'a>, Memory>
-    ensures { IfOk result (λ p. p.text.now ≡ text.now) }
+/// The pattern with this text in the `patternProperties` of the place.
+pub(crate) fn pattern_of<'a>(schemas: &'a Schemas, place: Place, text: &'a str) -> NamedPattern<'a>
+    requires place { is_place schemas.now place ≡ true }
+    requires pattern { IsPatternAt schemas.now place text.now }
+    ensures { result.text.now ≡ text.now }
 {
-    if !schemas.has(place) {
-        return Err(Memory);
-    }
-    match schemas.pattern(place, text) {
-        Some(pattern) => Ok(NamedPattern { pattern, text }),
-        None => Err(Memory),
+    NamedPattern {
+        pattern: schemas.pattern(place, text).unwrap(),
+        text,
     }
 }

@@ -5,6 +5,7 @@ ghost use Rattle.std.specs.List.{flat_map};
 ghost use Rattle.js_assert.specs.Pattern.{matches};
 ghost use Rattle.js_eval.specs.code.Asked.{ArePatterns, IsApplied, IsNext};
 ghost use Rattle.js_eval.specs.code.Cursors.{IsBegun, on_matched_member, patterns_asked};
+ghost use Rattle.js_eval.specs.code.Patterns.{ArePatternsAt, IsPatternAt};
 ghost use Rattle.js_walk.specs.SchemaSet as spec;
 ghost use Rattle.js_walk.specs.code.Starting.{IsAtPlace, by_keyword};
 ghost use Rattle.js_walk.specs.code.Terms.{Documents, IsSchemaAt, pair_of, value_of};
@@ -42,7 +43,8 @@ impl<'a> PatternCursor<'a> {
         ensures asked { (documents : Documents) → patterns_asked documents result
             ≡ flat_map (λ p. map (λ m. by_keyword documents at.now (spec.Name p.0) (spec.Name m.0) m.1)
             (filter (λ m. matches p.0 m.0) members.now)) patterns.now }
-        ensures are { (documents : Documents) → IsAtPlace documents at.now → ArePatterns documents result }
+        ensures are { (documents : Documents) → IsAtPlace documents at.now
+            → ArePatternsAt documents at.now.place patterns.now → ArePatterns documents result }
     {
         let schema = at.schema;
         let keyword = at.keyword;
@@ -127,11 +129,12 @@ fn begin<'a>(
     cursor: &mut PatternCursor<'a>,
     name: &'a str,
 ) -> Result<NamedPattern<'a>, Memory>
-    requires { IsSchemaAt search.now.schemas.now cursor.old.place (value_of cursor.old.schema.now) }
+    requires schema { IsSchemaAt search.now.schemas.now cursor.old.place (value_of cursor.old.schema.now) }
+    requires pattern { IsPatternAt search.now.schemas.now cursor.old.place name.now }
     ensures { IfOk result (λ p. IsBegun search.now.schemas.now name.now p cursor.old cursor.new) }
 {
     let schemas = search.schemas;
-    let pattern = pattern_of(schemas, cursor.place, name)?;
+    let pattern = pattern_of(schemas, cursor.place, name);
     cursor.present = Some(pattern);
     cursor.name = name;
     let step = Step::Name(name);

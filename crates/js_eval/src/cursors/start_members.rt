@@ -13,11 +13,14 @@ ghost use Rattle.js_eval.specs.code.Asked.{IsAsking, asked};
 ghost use Rattle.js_eval.specs.code.Cursors.{is_chosen, members_asked};
 ghost use Rattle.js_eval.specs.code.NamesLeft.{members_among};
 ghost use Rattle.js_walk.specs.code.Starting.{HoldsBy, HoldsOne, IsAtPlace, by_keyword, on_members, on_namesakes};
-ghost use Rattle.js_walk.specs.code.Terms.{Documents, entries, has, instance_of, texts_of, value_of};
+ghost use Rattle.js_walk.specs.code.Holding.{IsIn};
+ghost use Rattle.js_walk.specs.code.Terms.{Documents, entries, has, instance_of, keyword_of, texts_of, value_of};
+ghost use Rattle.js_walk.specs.declared.keywords.kind.Kind.TheVariants.{PatternProperties};
 
+use crate::cursors::adjacent::Adjacent;
 use crate::cursors::application::{AppliedTo, Subschemas};
 use crate::cursors::asking::{Asking, in_box};
-use crate::cursors::member_cursor::{Adjacent, Choice, MemberCursor, object_at};
+use crate::cursors::member_cursor::{Choice, MemberCursor, object_at, patterns_in};
 use crate::cursors::name_cursor::{Among, NameCursor};
 use crate::cursors::pattern_cursor::PatternCursor;
 use crate::cursors::start::CursorStart;
@@ -133,7 +136,9 @@ fn among_members<'a>(named: &'a Members, members: &'a Members) -> Among<'a>
 /// # Errors
 /// `Memory` if an allocation fails.
 pub(crate) fn patterns<'a>(start: &CursorStart<'_, 'a>) -> Result<Asking<'a>, Memory>
-    requires { IsAtPlace start.now.schemas.now start.now.at.now }
+    requires place { IsAtPlace start.now.schemas.now start.now.at.now }
+    requires keyword { IsIn (value_of start.now.at.now.schema.now) (keyword_of start.now.at.now.keyword) }
+    requires kind { start.now.at.now.keyword.kind ≡ PatternProperties }
     ensures asked { IfOk result (λ a. asked start.now.schemas.now a
         ≡ flat_map (λ p. map (λ m. by_keyword start.now.schemas.now start.now.at.now (spec.Name p.0) (spec.Name m.0)
         m.1) (filter (λ m. matches p.0 m.0) (entries (instance_of start.now.value))))
@@ -145,6 +150,7 @@ pub(crate) fn patterns<'a>(start: &CursorStart<'_, 'a>) -> Result<Asking<'a>, Me
     };
     match start.value.object() {
         Some(members) => {
+            names_ascend(patterns);
             let cursor = PatternCursor::new(start.at, patterns, members);
             Ok(Asking::Patterns(in_box(start.alloc, cursor)?))
         }
@@ -171,8 +177,9 @@ pub(crate) fn additional<'a>(start: &CursorStart<'_, 'a>) -> Result<Asking<'a>, 
     let at = start.at;
     let schema = at.schema;
     let properties = object_at(schema, "properties");
-    let patterns = object_at(schema, "patternProperties");
+    let patterns = patterns_in(schema);
     let choice = Choice::Additional(Adjacent {
+        schemas: start.schemas,
         place: at.place,
         properties,
         patterns,

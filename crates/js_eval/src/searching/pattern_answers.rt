@@ -3,10 +3,11 @@
 ghost use Rattle.std.specs.Prelude.{◌≡◌, IfOk, MatchOption, drop, map};
 ghost use Rattle.std.specs.List.{list_any};
 ghost use Rattle.js_assert.specs.Pattern.{matches};
-ghost use Rattle.js_doc.specs.Seen.{pair_of};
+ghost use Rattle.js_doc.specs.Seen.{pair_of, value_of};
+ghost use Rattle.js_walk.specs.code.Standing.{IsSchemaAt};
 
 use crate::cursors::item_cursor::is_marked;
-use crate::cursors::member_cursor::{object_at, pattern_of};
+use crate::cursors::member_cursor::{pattern_of, patterns_in};
 use crate::searching::searchers::{NamedPattern, Searchers};
 use js_bundle::{Place, Schemas};
 use js_doc::{Doc, Members, Memory, Pairs};
@@ -140,8 +141,10 @@ pub(crate) fn keep_all<'p>(
     place: Place,
     schema: &'p Doc,
     value: Instance<'p>,
-) -> Result<(), Memory> {
-    let Some(patterns) = object_at(schema, "patternProperties") else {
+) -> Result<(), Memory>
+    requires { IsSchemaAt schemas.now place (value_of schema.now) }
+{
+    let Some(patterns) = patterns_in(schema) else {
         return Ok(());
     };
     let Some(members) = value.object() else {
@@ -149,7 +152,7 @@ pub(crate) fn keep_all<'p>(
     };
     let mut each = Vec::with_capacity(alloc, patterns.len())?;
     for (text, _) in patterns.pairs() {
-        let pattern = pattern_of(schemas, place, text.as_str())?;
+        let pattern = pattern_of(schemas, place, text.as_str());
         each.push(PatternAnswers::new(alloc, searchers, pattern, members)?)?;
     }
     searchers.keep_answers(AllAnswers {

@@ -12,6 +12,7 @@ use Rattle.js_tree.specs.declared.forms.Format.TheVariants.{Basic}
 use Rattle.js_bundle.specs.Document as bundle
 use Rattle.js_bundle.specs.Resource.{Site}
 use Rattle.js_eval.specs.Result.{IsWithinLimits}
+use Rattle.js_walk.specs.declared.walking.limits.Limits.{Limits}
 use Rattle.js_output.specs.Outcome.{IsResultOf}
 use Rattle.js_output.specs.declared.prepared.Prepared.{Prepared}
 use Rattle.js_output.specs.declared.prepared.Prepared.TheVariants as prepared
@@ -33,6 +34,7 @@ abbrev pub ArePrepared : Prepared → Type 0
 ArePrepared s = (valid : Bool) × (value : Value) × IsPrepared s valid value
 
 -- it is what the format shows of the result within the limits
-abbrev pub IsPreparedFor : bundle.Documents → Option Site → Value → Format → Prepared → Type 0
-IsPreparedFor documents entry v format s =
-    (t : ResultTree) × IsResultOf documents entry v t × IsWithinLimits t × IsPrepared s t.root.valid (form format t)
+abbrev pub IsPreparedFor : Limits → bundle.Documents → Option Site → Value → Format → Prepared → Type 0
+IsPreparedFor limits documents entry v format s =
+    (t : ResultTree) × IsResultOf documents entry v t × IsWithinLimits limits t
+    × IsPrepared s t.root.valid (form format t)

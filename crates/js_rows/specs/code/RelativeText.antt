@@ -10,8 +10,10 @@ use Rattle.js_tree.specs.OutputUnit.{OutputUnit}
 use Rattle.js_tree.specs.Result.{ResultTree}
 use Rattle.js_tree.specs.Seen.{note_of}
 use Rattle.js_tree.specs.NodeText.{annotation_part, children_start, end_text, error_behind}
+use Rattle.js_rows.specs.Locations.{AreSomewhere}
 use Rattle.js_rows.specs.Relative.{escaped, escaped_tree}
 use Rattle.js_rows.specs.RelativeState.{absolute_part, relative_row}
+use Rattle.js_rows.specs.declared.locations.Locations.{Locations}
 use Rattle.js_rows.specs.declared.rows.RelativeRow.{RelativeRow}
 
 -- the rows are those of the trees, whose locations have no escapes
@@ -24,6 +26,12 @@ AreRowsOfTree rows t = map relative_row rows ≡ flat_form (escaped_tree t)
 -- it is the absolute location of the row's node, without the escapes
 abbrev pub IsAbsolute : RelativeRow → List ℕ → Type 0
 IsAbsolute r absolute = escape r.schema.now ++ absolute_part r ≡ escape absolute
+
+-- the locations are those of the row's node
+pub record AreOfNode (at : Locations) (r : RelativeRow) : Type 0 where
+  pub somewhere : AreSomewhere at
+  pub absolute : List ℕ
+  pub absolute_is : IsAbsolute r absolute
 
 -- the row's unit, with these locations
 abbrev pub unit_there : RelativeRow → List ℕ → List ℕ → List ℕ → OutputUnit

@@ -8,7 +8,7 @@ use crate::note::Note;
 use crate::tree::Tree;
 use js_doc::Memory;
 use std::alloc::Global;
-use std::mem::{forget, replace};
+use std::mem::replace;
 
 // A node that has opened and not closed yet, with the finished subtrees below it.
 #[derive(Drop)]
@@ -89,8 +89,7 @@ impl<'a> Collector<'a> for Boxed<'a> {
             None => Ok(drop(note)),
             Some(node) => match self.nodes.pop() {
                 None => {
-                    // No tree was found while nodes are open: there is nothing to drop.
-                    forget(replace(&mut self.found, Some(closed(node, valid, note))));
+                    drop(replace(&mut self.found, Some(closed(node, valid, note))));
                     Ok(())
                 }
                 Some(mut parent) => match parent.children.reserve(1) {

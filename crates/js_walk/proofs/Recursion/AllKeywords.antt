@@ -9,7 +9,7 @@ use Rattle.js_doc.specs.Pointer.{pointer_text}
 use Rattle.js_doc.specs.Value.{Value}
 use Rattle.js_doc.specs.Members.{IsAscending}
 use Rattle.js_assert.specs.Argument.{entries}
-use Rattle.js_tree.specs.Forest.{Forest, tree}
+use Rattle.js_tree.specs.Forest.{Forest}
 use Rattle.js_walk.specs.Keywords.{Keyword, keywords}
 use Rattle.js_walk.specs.Location.{Location}
 use Rattle.js_walk.specs.Note.{Note, schema_note}

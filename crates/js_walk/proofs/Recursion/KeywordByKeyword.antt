@@ -1,5 +1,5 @@
 -- A schema's node, keyword by keyword.
-use Rattle.std.specs.Prelude.{◌≡◌, ℕ, suc, ◌+◌, ◌-◌, ◌<◌, Bool, true, false, ◌&&◌, cond, not, List, [], ◌∷◌}
+use Rattle.std.specs.Prelude.{◌≡◌, ℕ, suc, ◌+◌, ◌<◌, Bool, true, false, ◌&&◌, cond, not, List, [], ◌∷◌}
 use Rattle.std.specs.Prelude.{◌++◌, Option, None, filter, length, drop, sum_by, refl}
 use Rattle.std.specs.List.{list_all, flat_map}
 use Rattle.std.proofs.Common.{sym, ◌∙◌, ap, subst, arith, inl, inr, append-nil}

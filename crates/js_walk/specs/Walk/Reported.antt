@@ -2,17 +2,17 @@
 use Rattle.std.specs.Prelude.{◌≡◌, ℕ, List, [], ◌∷◌, Bool, true}
 use Rattle.js_doc.specs.Value.{Value}
 use Rattle.js_walk.specs.Location.{at_root}
-use Rattle.js_walk.specs.Result.{ResultTree, IsResult, IsWithinLimits}
+use Rattle.js_walk.specs.Result.{Limits, ResultTree, IsResult, IsWithinLimits}
 use Rattle.js_walk.specs.SchemaSet.{SchemaSet}
 use Rattle.js_tree.specs.Events.{Event, Passes, opening, closing, events}
 use Rattle.js_tree.specs.Note.{silent}
 
 -- the result is within the limits, and its events lead from c to d
-pub record Reported {C P : Type 0} (S : SchemaSet P) (place : P) (v : Value) (takes : C → Event → C
+pub record Reported {C P : Type 0} (limits : Limits) (S : SchemaSet P) (place : P) (v : Value) (takes : C → Event → C
     → Type 0) (valid : Bool) (c d : C) : Type 0 where
   pub result : ResultTree
   pub is : IsResult S [] place at_root v result
-  pub stands : IsWithinLimits result
+  pub stands : IsWithinLimits limits result
   pub verdict : valid ≡ result.root.valid
   pub passes : Passes takes (events result) c d
 

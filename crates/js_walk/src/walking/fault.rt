@@ -6,8 +6,8 @@ use js_doc::Memory;
 pub enum WalkFault {
     /// An allocation failed.
     Memory,
-    /// No result is within the limits: 512 nested schema applications, and 1,000,000 nodes. Infinite recursion ends so
-    /// too (Core, section 9.4.1).
+    /// No result is within the limits of the walk ([`crate::Limits`]). Infinite recursion ends so too (Core,
+    /// section 9.4.1).
     TooLarge,
 }
 

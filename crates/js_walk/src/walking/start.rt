@@ -1,12 +1,13 @@
 //! The start of a walk.
 ghost use Rattle.std.specs.Prelude.{◌≡◌, [], true, MatchResult};
 ghost use Rattle.js_walk.specs.Location.{at_root};
-ghost use Rattle.js_walk.specs.Result.{ResultTree, IsResult, IsWithinLimits, most_levels, most_nodes};
+ghost use Rattle.js_walk.specs.Result.{ResultTree, IsResult, IsWithinLimits};
 ghost use Rattle.js_walk.specs.Fault.{OnTooLarge};
 ghost use Rattle.js_walk.specs.Walk.Reported.{Reported};
 
 use crate::walking::dynamic_scope::DynamicScope;
 use crate::walking::fault::WalkFault;
+use crate::walking::limits::Limits;
 use crate::walking::path::Path;
 use crate::walking::pointer_text::PointerText;
 use crate::walking::recursion::node;
@@ -16,22 +17,6 @@ use crate::walking::walk_state::WalkState;
 use crate::walking::world::World;
 use js_bundle::Place;
 use std::alloc::Global;
-
-/// The maximal number of nested schema applications, the root's schema included.
-#[inline(always)]
-fn most_levels() -> usize
-    ensures { result ≡ most_levels }
-{
-    512
-}
-
-/// The maximal number of nodes of a result.
-#[inline(always)]
-fn most_nodes() -> usize
-    ensures { result ≡ most_nodes }
-{
-    1_000_000
-}
 
 /// Evaluates a value against the schema at a place, and reports the result node by node. Returns the verdict.
 ///
@@ -44,21 +29,22 @@ pub fn walk_from<W: World, H: PointerText + Drop, R: Reporter<W, H>>(
     place: Place,
     schema: W::Schema,
     value: W::Value,
+    limits: Limits,
 ) -> Result<bool, WalkFault>
     requires place { W.is_place world.now place ≡ true }
     requires schema { W.stands_at world.now place schema }
     ensures { MatchResult result
-        (λ valid. Reported (W.schemas world.now) (W.site world.now place) (W.value_of value)
+        (λ valid. Reported limits (W.schemas world.now) (W.site world.now place) (W.value_of value)
         R.takes valid into.old into.new)
         (λ e. OnTooLarge e ((t : ResultTree)
         → IsResult (W.schemas world.now) [] (W.site world.now place) at_root (W.value_of value) t
-        → IsWithinLimits t → ⊥)) }
+        → IsWithinLimits limits t → ⊥)) }
 {
     let mut state: WalkState<W::Name, H> = WalkState {
         path: Path::new(),
         keyword: Trail::new(alloc),
         instance: Trail::new(alloc),
-        left: most_nodes(),
+        left: limits.nodes,
         names: Vec::new(alloc),
         indexes: Vec::new(alloc),
         scope: DynamicScope::new(alloc),
@@ -68,7 +54,7 @@ pub fn walk_from<W: World, H: PointerText + Drop, R: Reporter<W, H>>(
         world,
         &mut state,
         into,
-        most_levels(),
+        limits.levels,
         place,
         schema,
         value,

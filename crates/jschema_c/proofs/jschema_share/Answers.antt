@@ -19,12 +19,15 @@ returns-clause-shares c =
       c.code-2.ensures,
       elim c.match-made.branch [
         | in-Ok-Some w ↦
-            let is = subst (λ o. MatchOption o none (IsSharedBy s)) w.in-Ok-Some.field-0-is w.in-Ok-Some.ensures in
+            let is = subst (λ o. MatchOption o none (IsSharedBy s)) w.in-Ok-Some.field-0-is w.in-Ok-Some.ensures.shared
+            in
             put_is_shared giver before after w.put_shared-status.new.other.value s w.in-Ok-Some.shared x
             w.put_shared-status.result e is w.put_shared-status.ensures w.status-is (ap (λ h. h.value) w.other-is)
         | in-Ok-None w ↦
-            let is = subst (λ o. MatchOption o none (IsSharedBy s)) w.in-Ok-None.field-0-is w.in-Ok-None.ensures in
+            let is = subst (λ o. MatchOption o none (IsSharedBy s)) w.in-Ok-None.field-0-is w.in-Ok-None.ensures.shared
+            in
             unfinished_is_misused giver before after s x e is w.status-is (ap (λ h. h.value) w.other-is)
-        | in-Err w ↦ failed_stays giver before after x w.status-is (ap (λ h. h.value) w.other-is)
+        | in-Err w ↦
+            failed_stays giver before after s x e w.in-Err.ensures.finished w.status-is (ap (λ h. h.value) w.other-is)
       ],
     )

@@ -1,13 +1,16 @@
-use Rattle.js_tree.proofs.EventSequences.{passes-inside}
-use Rattle.js_tree.specs.Events.{events}
+use Rattle.std.proofs.Common.{subst}
+use Rattle.std.specs.Prelude.{IfErr, IfOk}
+use Rattle.js_doc.specs.Seen.{value_of}
+use Rattle.js_eval.specs.Walked.{LeadsTo, NoneStands, OnTooLarge}
 use Rattle.js_eval.proofs.public_walks.walk_into.Goals as goal
 
-pub returns-in-Ok-clause-ok : goal.returns-in-Ok-clause-ok
-returns-in-Ok-clause-ok g c =
-    let h = c.in-Ok.ensures in
-    record {
-      result = h.result;
-      within = record { is = h.is; stands = h.stands };
-      passes = passes-inside (λ o. o.collector) g.C.Collector.takes (events h.result) _
-          c.walk_from-done.new.into h.passes;
-    }
+pub returns-clause-ok : goal.returns-clause-ok
+returns-clause-ok g c =
+    subst (λ l. IfOk c.walk_into_within.result (LeadsTo l c.args.schemas.now c.args.place (value_of c.args.value.now)
+    g.C.Collector.takes c.args.collector)) c.standard.ensures.is c.walk_into_within.ensures.ok
+
+pub returns-clause-too_large : goal.returns-clause-too_large
+returns-clause-too_large g c =
+    subst (λ l. IfErr c.walk_into_within.result (λ e. OnTooLarge e.0
+    (NoneStands l c.args.schemas.now c.args.place (value_of c.args.value.now))))
+    c.standard.ensures.is c.walk_into_within.ensures.too_large

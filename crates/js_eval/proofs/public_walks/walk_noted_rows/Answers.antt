@@ -1,25 +1,17 @@
-use Rattle.std.specs.Prelude.{[]}
+use Rattle.std.proofs.Common.{subst}
+use Rattle.std.specs.Prelude.{IfErr, IfOk}
 use Rattle.js_doc.specs.Seen.{value_of}
-use Rattle.js_rows.proofs.TrimmedRowsCollected.{trimmed_held}
-use Rattle.js_rows.specs.RelativeState.{AreTrimmedOf}
-use Rattle.js_walk.specs.Bundle.{schemas_of}
-use Rattle.js_walk.specs.Location.{at_root}
-use Rattle.js_walk.specs.Sited.{numbered_site}
-use Rattle.js_eval.proofs.Located.{result_is_located, root_is_at}
-use Rattle.js_walk.proofs.Paths.{location_is}
+use Rattle.js_eval.specs.Walked.{AreNotedRows, NoneStands, OnTooLarge}
 use Rattle.js_eval.proofs.public_walks.walk_noted_rows.Goals as goal
 
-pub returns-in_ok-put_root_back-in-Ok-clause-ok : goal.returns-in_ok-put_root_back-in-Ok-clause-ok
-returns-in_ok-put_root_back-in-Ok-clause-ok c =
-    let h = c.in-Ok.ensures in
-    let schemas = c.args.schemas.now in
-    let trimmed : AreTrimmedOf c.in-Ok.rows h.result = record {
-      trimmed_are = trimmed_held h.result c.trimming.result c.in-Ok.rows c.trimming.ensures h.passes;
-      located = result_is_located (schemas_of schemas) [] (numbered_site schemas c.args.place)
-          (value_of c.args.value.now) at_root h.result h.is;
-    } in
-    let absolute = location_is schemas c.args.place c.in_ok-absolute-in-Ok.absolute.now
-    c.in_ok-absolute-in-Ok.ensures in
-    let root = root_is_at (schemas_of schemas) (numbered_site schemas c.args.place) (value_of c.args.value.now) h.result
-    c.in_ok-absolute-in-Ok.absolute.now c.in-Ok.valid h.is absolute h.verdict in
-    (h.result, record { is = h.is; stands = h.stands }, c.in_ok-put_root_back-in-Ok.ensures h.result trimmed root)
+pub returns-clause-ok : goal.returns-clause-ok
+returns-clause-ok c =
+    subst (λ l. IfOk c.walk_noted_rows_within.result (AreNotedRows l c.args.schemas.now c.args.place
+    (value_of c.args.value.now)))
+    c.standard.ensures.is c.walk_noted_rows_within.ensures.ok
+
+pub returns-clause-too_large : goal.returns-clause-too_large
+returns-clause-too_large c =
+    subst (λ l. IfErr c.walk_noted_rows_within.result (λ e. OnTooLarge e
+    (NoneStands l c.args.schemas.now c.args.place (value_of c.args.value.now))))
+    c.standard.ensures.is c.walk_noted_rows_within.ensures.too_large

@@ -1,21 +1,17 @@
-use Rattle.std.specs.Prelude.{[]}
+use Rattle.std.proofs.Common.{subst}
+use Rattle.std.specs.Prelude.{IfErr, IfOk}
 use Rattle.js_doc.specs.Seen.{value_of}
-use Rattle.js_rows.proofs.RelativeRowsCollected.{relative_held}
-use Rattle.js_walk.specs.Bundle.{schemas_of}
-use Rattle.js_walk.specs.Location.{at_root}
-use Rattle.js_walk.specs.Sited.{numbered_site}
-use Rattle.js_eval.proofs.Located.{result_is_located}
+use Rattle.js_eval.specs.Walked.{AreResultRows, NoneStands, OnTooLarge}
 use Rattle.js_eval.proofs.public_walks.walk_rows.Goals as goal
 
-pub returns-in-Ok-clause-ok : goal.returns-in-Ok-clause-ok
-returns-in-Ok-clause-ok c =
-    let h = c.in-Ok.ensures in
-    let schemas = c.args.schemas.now in (
-      h.result,
-      record { is = h.is; stands = h.stands },
-      record {
-        rows_are = relative_held h.result c.new.result c.in-Ok.rows c.new.ensures h.passes;
-        located = result_is_located (schemas_of schemas) [] (numbered_site schemas c.args.place)
-            (value_of c.args.value.now) at_root h.result h.is;
-      },
-    )
+pub returns-clause-ok : goal.returns-clause-ok
+returns-clause-ok c =
+    subst (λ l. IfOk c.walk_rows_within.result (AreResultRows l c.args.schemas.now c.args.place
+    (value_of c.args.value.now)))
+    c.standard.ensures.is c.walk_rows_within.ensures.ok
+
+pub returns-clause-too_large : goal.returns-clause-too_large
+returns-clause-too_large c =
+    subst (λ l. IfErr c.walk_rows_within.result (λ e. OnTooLarge e
+    (NoneStands l c.args.schemas.now c.args.place (value_of c.args.value.now))))
+    c.standard.ensures.is c.walk_rows_within.ensures.too_large

@@ -12,7 +12,8 @@ returns-in_err-write-clause-answer g c =
     let docs = c.args.schemas.now in
     let format = c.args.format in
     let (t, is, stands, made) = c.in_ok-prepared.ensures.prepared in
-    rw (p.1, p.2) (reports-begun docs (place_at docs c.args.place) (value_of c.args.instance.now) format t is stands
+    rw (p.1, p.2) (reports-begun c.args.limits docs (place_at docs c.args.place) (value_of c.args.instance.now) format t
+    is stands
     g.W.Write.contents c.args.out.now c.write.new.out
     c.in_err-write.field-0.0 (c.in_err-write.ensures.sent t.root.valid (form format t) made))
 
@@ -21,7 +22,8 @@ returns-clause-answer g c =
     let docs = c.args.schemas.now in
     let format = c.args.format in
     let (t, is, stands, made) = c.in_ok-prepared.ensures.prepared in
-    reports-sent docs (place_at docs c.args.place) (value_of c.args.instance.now) format t is stands g.W.Write.contents
+    reports-sent c.args.limits docs (place_at docs c.args.place) (value_of c.args.instance.now) format t is stands
+    g.W.Write.contents
     c.args.out.now c.write.new.out
     c.root_valid-valid.result (c.root_valid-valid.ensures t.root.valid (form format t) made)
     (c.in_ok-write.ensures.sent t.root.valid (form format t) made)

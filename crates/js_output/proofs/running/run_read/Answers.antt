@@ -1,6 +1,7 @@
 use Rattle.std.proofs.Common.{Err, [], ap, subst}
 use Rattle.std.proofs.lemmas.Result.{err_from_is_err_and}
 use Rattle.js_bundle.specs.Schemas.{place_at}
+use Rattle.js_eval.specs.Result.{standard_limits}
 use Rattle.js_output.specs.Entry.{entry_causes, entry_place}
 use Rattle.js_output.specs.Outcome.{InstanceOutcome, TextOutcome, output_report}
 use Rattle.js_output.specs.Report.{Answers}
@@ -26,7 +27,8 @@ returns-in_err-bytes-clause-answer g c =
     let taken = g.W.Write.contents in
     let reported = answers-input output_report (InstanceOutcome docs (entry_place docs c.args.entry.now) c.args.format)
     taken c.args.out.now c.args.out.now left new c.in_err-bytes.field-0.0
-    (λ bytes. input-over bytes (TextOutcome docs (entry_place docs c.args.entry.now) c.args.format bytes))
+    (λ bytes. input-over bytes
+    (TextOutcome standard_limits docs (entry_place docs c.args.entry.now) c.args.format bytes))
     c.in_err-bytes.ensures.faults (λ e. c.in_err-bytes.ensures.too_large (ap Err e)) in
     rw (p.1, p.2) (answers-after output_report (InstanceOutcome docs (entry_place docs c.args.entry.now) c.args.format)
     taken c.args.out.now c.args.out.now (entry_causes docs c.args.entry.now) left c.in_ok-place.ensures.clear

@@ -4,13 +4,14 @@ use Rattle.js_bundle.specs.Resource.{Site}
 use Rattle.js_bundle.specs.Schemas.{place_at}
 use Rattle.js_doc.specs.Seen.{value_of}
 use Rattle.js_doc.specs.Value.{Value}
+use Rattle.js_eval.specs.Result.{standard_limits}
 use Rattle.js_output.specs.Suite.{HasVerdict, IsStatusOn}
 use Rattle.js_output.specs.code.SuiteJudging.{compared}
 use Rattle.js_output.proofs.Sites.{judged-there}
 use Rattle.js_output.proofs.suite_judging.judged.Goals as goal
 
 status_of_verdict : (docs : Documents) (entry : Option Site) (v : Value) (found valid : Bool)
-    → HasVerdict docs entry v found → IsStatusOn docs entry v valid (compared found valid)
+    → HasVerdict standard_limits docs entry v found → IsStatusOn docs entry v valid (compared found valid)
 status_of_verdict docs entry v true true h = h
 status_of_verdict docs entry v true false h = h
 status_of_verdict docs entry v false true h = h
@@ -22,4 +23,4 @@ returns-in-Ok c =
     let place = c.args.entry.now.place in
     let v = value_of c.args.instance.now in
     rw c.compared.ensures (status_of_verdict docs (place_at docs place) v c.in-Ok.found c.args.valid
-    (judged-there docs place v c.requires c.in-Ok.found c.in-Ok.ensures.ok))
+    (judged-there standard_limits docs place v c.requires c.in-Ok.found c.in-Ok.ensures.ok))

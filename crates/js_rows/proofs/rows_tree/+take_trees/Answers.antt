@@ -11,7 +11,8 @@ use Rattle.js_rows.specs.RelativeState.{relative_row}
 use Rattle.js_rows.proofs.AddedRows.{fewer_left, still_there}
 use Rattle.js_rows.proofs.EscapedRows.{are_trees, next_tree, still_at}
 use Rattle.js_rows.proofs.PlacedRows.{first_again, node_placed, room_for_rest, rows_of_next, rows_of_one, rows_under}
-use Rattle.js_rows.proofs.PlacedRows.{still_entered, take_ends, take_goes_on, take_starts, there_and_back}
+use Rattle.js_rows.proofs.PlacedRows.{somewhere_below, still_entered, still_of_node, still_somewhere}
+use Rattle.js_rows.proofs.PlacedRows.{take_ends, take_goes_on, take_starts, there_and_back}
 use Rattle.js_rows.proofs.RelativeTexts.{back_again, room_for_part, stays_there}
 use Rattle.js_rows.proofs.RoomLeft.{fewer_below, room_below, some_row}
 use Rattle.js_rows.proofs.rows_tree.+take_trees.Goals as goal
@@ -28,8 +29,26 @@ take_tree-take_trees-requires t c =
     let room = room_below c.args.locations.now c.go_to_node.new.self rows x c.requires.3 some
     (ap (slice_index_or rows 0) c.index-rows-0.is) c.go_to_node.ensures in (
       omega (arith, fewer_below rows some, c.decreases),
-      (below, rows_under rows u below h, subst (HasRoom c.go_to_node.new.self) (sym (rest_of rows)) room),
+      (
+        below,
+        rows_under rows u below h,
+        subst (HasRoom c.go_to_node.new.self) (sym (rest_of rows)) room,
+        somewhere_below rows one x c.args.locations.now c.go_to_node.new.self h
+            (ap (slice_index_or rows 0) c.index-rows-0.is) c.go_to_node.ensures c.requires.4,
+      ),
     )
+
+pub take_tree-add_node-requires : goal.take_tree-add_node-requires
+take_tree-add_node-requires t c =
+    let rows = c.args.rows.now in
+    let w = c.requires.4 in
+    let one : ResultTree = record { root = c.requires.0; below = c.requires.1 } in
+    let y = slice_index_or (put_mid 1 (length rows - 1) rows c.take_trees.new.rows) 0 c.index-rows-0-2.result in
+    still_of_node y one c.go_to_node.new.self c.take_trees.new.locations w.keyword w.instance
+    (still_entered rows c.take_trees.new.rows one c.index-rows-0.result c.index-rows-0-2.result
+    c.args.locations.now c.go_to_node.new.self c.take_trees.new.locations w.keyword w.instance
+    (rows_of_one rows c.requires.0 c.requires.1 c.requires.2) c.index-rows-0.is w.there c.go_to_node.ensures
+    c.in_ok-below.ensures.back)
 
 pub take_tree-returns-clause-trees : goal.take_tree-returns-clause-trees
 take_tree-returns-clause-trees t c =
@@ -83,7 +102,13 @@ take_trees-take_tree-requires t' c =
     let room = room_for_part c.args.locations.now l.locations (drop l.next l.rows) 0 size
     l.invariant.2 l.invariant.1 in (
       omega (arith, shorter size l.next l.rows, l.auto.rows, c.decreases),
-      (t.unit, t.below, rows_of_next _ _ _ _ t, room),
+      (
+        t.unit,
+        t.below,
+        rows_of_next _ _ _ _ t,
+        room,
+        still_somewhere c.args.locations.now l.locations l.invariant.1 c.requires.3,
+      ),
     )
 
 pub take_trees-loop-next-smaller : goal.take_trees-loop-next-smaller

@@ -5,7 +5,7 @@ use Rattle.js_tree.specs.Seen.{note_of}
 use Rattle.js_tree.proofs.ChildTexts.{rest_of}
 use Rattle.js_rows.specs.Locations.{HasRoom}
 use Rattle.js_rows.specs.Relative.{escaped_tree}
-use Rattle.js_rows.proofs.PlacedRows.{rows_under, still_entered, with_head}
+use Rattle.js_rows.proofs.PlacedRows.{rows_under, somewhere_below, still_entered, still_of_node, with_head}
 use Rattle.js_rows.proofs.RelativeTexts.{unit_is_there}
 use Rattle.js_rows.proofs.RoomLeft.{room_below, some_row}
 use Rattle.js_rows.proofs.rows_tree.take_root.Goals as goal
@@ -19,7 +19,23 @@ take_trees-requires c =
     let x = slice_index_or rows 0 c.index-rows-0.result in
     let room = room_below c.args.locations.now c.go_to_node.new.self rows x c.requires.2 some
     (ap (slice_index_or rows 0) c.index-rows-0.is) c.go_to_node.ensures in
-    (r.below, rows_under rows r.root r.below h, subst (HasRoom c.go_to_node.new.self) (sym (rest_of rows)) room)
+    let somewhere = somewhere_below rows r x c.args.locations.now c.go_to_node.new.self h
+    (ap (slice_index_or rows 0) c.index-rows-0.is) c.go_to_node.ensures c.requires.3 in (
+      r.below,
+      rows_under rows r.root r.below h,
+      subst (HasRoom c.go_to_node.new.self) (sym (rest_of rows)) room,
+      somewhere,
+    )
+
+pub head-requires : goal.head-requires
+head-requires c =
+    let rows = c.args.rows.now in
+    let w = c.requires.3 in
+    let y = slice_index_or (put_mid 1 (length rows - 1) rows c.take_trees.new.rows) 0 c.index-rows-0-2.result in
+    still_of_node y c.requires.0 c.go_to_node.new.self c.take_trees.new.locations w.keyword w.instance
+    (still_entered rows c.take_trees.new.rows c.requires.0 c.index-rows-0.result c.index-rows-0-2.result
+    c.args.locations.now c.go_to_node.new.self c.take_trees.new.locations w.keyword w.instance c.requires.1
+    c.index-rows-0.is w.there c.go_to_node.ensures c.in_ok-below.ensures.back)
 
 pub returns : goal.returns
 returns c =

@@ -14,6 +14,11 @@ take_root-requires c =
       relative_tree t,
       ap (map relative_row) is ∙ ap (λ s. s.rows) h.rows_are,
       subst (HasRoom c.in_ok-locations.locations) (sym is) c.in_ok-locations.ensures.room,
+      record {
+        keyword = [];
+        instance = [];
+        there = at_root c.in_ok-locations.locations c.args.rows c.in_ok-locations.ensures;
+      },
     )
 
 pub returns : goal.returns

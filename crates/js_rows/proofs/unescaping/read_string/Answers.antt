@@ -1,13 +1,26 @@
-use Rattle.std.proofs.Common.{◌∷◌, ap, sym, ◌∙◌}
+use Rattle.std.proofs.Common.{Some, option_map, ap, sym, ◌∙◌}
 use Rattle.json.specs.Reads.{token_of}
-use Rattle.js_rows.proofs.UndoneEscapes.{read_back}
+use Rattle.js_rows.specs.code.Strings.{string_in}
+use Rattle.js_rows.proofs.UndoneEscapes.{gives_some, gives_string, same_read}
 use Rattle.js_rows.proofs.unescaping.read_string.Goals as goal
+
+pub unreachable-requires : goal.unreachable-requires
+unreachable-requires c = gives_some c.args.json.now c.requires.0 c.requires.1
+    (sym c.in_ok-reader.ensures.ok ∙ c.in_default.ensures.value.0)
+
+pub unreachable-requires-in_default-string_in : goal.unreachable-requires-in_default-string_in
+unreachable-requires-in_default-string_in c =
+    let given = gives_string c.args.json.now c.requires.0 (token_of c.in-Some.token) c.next.new.self
+    (sym c.in_ok-reader.ensures.ok ∙ c.in-Some.ensures.value) c.requires.1 in
+    let none = c.in_default-string_in.ensures ∙ given in
+    absurd (cc)
 
 pub returns : goal.returns
 returns c =
     λ text e.
-    let read = c.in-Some-String.text.now in
+    let given = gives_string c.args.json.now text (token_of c.in-Some.token) c.next.new.self
+    (sym c.in_ok-reader.ensures.ok ∙ c.in-Some.ensures.value) e in
+    let read = sym c.string_in.ensures ∙ ap (option_map (λ s. s.now)) c.in-Some-string_in.is in
     c.new-2.ensures
-    ∙ (c.in_ok-from_str.ensures.ok
-    ∙ read_back c.args.json.now read text c.next.new.self (sym c.in_ok-reader.ensures.ok
-    ∙ (c.in-Some-String.ensures.value ∙ ap (λ t. token_of t ∷ c.next.new.self) c.in-Some-String.field-0-is)) e)
+    ∙ (c.in_ok-from_str.ensures.ok ∙ same_read c.in-Some-string_in.text.now text (string_in (token_of c.in-Some.token))
+    read given)

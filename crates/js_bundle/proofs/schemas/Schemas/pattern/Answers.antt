@@ -1,12 +1,12 @@
 use Rattle.std.proofs.Common.{Some, None}
-use Rattle.js_places.specs.PlaceNumber.{place_at}
-use Rattle.js_bundle.proofs.Finding.PatternsFound.{own_at}
+use Rattle.js_bundle.proofs.Finding.PatternsFound.{in_order_at}
 use Rattle.js_bundle.proofs.Finding.ListedUnderNumber.{pattern_is}
 use Rattle.js_bundle.proofs.schemas.Schemas.pattern.Goals as goal
 
 pub find_pattern-requires : goal.find_pattern-requires
 find_pattern-requires c =
-    own_at (place_at c.args.self.now c.args.place) c.patterns_of_place.result.now c.patterns_of_place.ensures.patterns
+    in_order_at c.args.self.now c.patterns_of_place.ensures.read c.args.place c.patterns_of_place.result.now
+    c.patterns_of_place.ensures.patterns
 
 pub returns-in-Some : goal.returns-in-Some
 returns-in-Some c =

@@ -1,4 +1,4 @@
-use Rattle.std.proofs.Common.{ap, map, []}
+use Rattle.std.proofs.Common.{ap, map, [], refl}
 use Rattle.std.proofs.lemmas.Result.{MatchResult-weaker}
 use Rattle.js_walk.specs.Location.{at_root}
 use Rattle.js_walk.specs.Result.{ResultTree, IsResult, IsWithinLimits}
@@ -9,18 +9,17 @@ use Rattle.js_walk.proofs.walking.start.walk_from.Goals as goal
 
 pub returns : goal.returns
 returns g c =
+    let limits = c.args.limits in
     MatchResult-weaker c.node.result c.node.ensures
     (λ valid done. led (g.W.World.schemas c.args.world.now) g.W.World.text_of g.R.Reporter.takes
-    (g.W.World.site c.args.world.now c.args.place) (g.W.World.value_of c.args.value) c.most_levels.result valid
+    (g.W.World.site c.args.world.now c.args.place) (g.W.World.value_of c.args.value) limits valid
     (map (g.W.World.site c.args.world.now) c.new.result) _ _ _ _
-    (ap (map (g.W.World.site c.args.world.now)) c.new.ensures) c.most_levels.ensures c.most_nodes.ensures
-    c.new-2.ensures c.new-3.ensures done)
-    (λ fault failed. on_too_large (HasNone (g.W.World.schemas c.args.world.now) c.most_levels.result
+    (ap (map (g.W.World.site c.args.world.now)) c.new.ensures) refl c.new-2.ensures c.new-3.ensures done)
+    (λ fault failed. on_too_large (HasNone (g.W.World.schemas c.args.world.now) limits.levels
     (map (g.W.World.site c.args.world.now) c.new.result) (g.W.World.site c.args.world.now c.args.place)
-    (g.W.World.value_of c.args.value) c.most_nodes.result)
+    (g.W.World.value_of c.args.value) limits.nodes)
     ((t : ResultTree) → IsResult (g.W.World.schemas c.args.world.now) [] (g.W.World.site c.args.world.now c.args.place)
-    at_root (g.W.World.value_of c.args.value) t → IsWithinLimits t → ⊥) fault
+    at_root (g.W.World.value_of c.args.value) t → IsWithinLimits limits t → ⊥) fault
     (λ none. none_led (g.W.World.schemas c.args.world.now) (g.W.World.site c.args.world.now c.args.place)
-    (g.W.World.value_of c.args.value) c.most_levels.result (map (g.W.World.site c.args.world.now) c.new.result)
-    c.most_nodes.result (ap (map (g.W.World.site c.args.world.now)) c.new.ensures) c.most_levels.ensures
-    c.most_nodes.ensures none) failed)
+    (g.W.World.value_of c.args.value) limits (map (g.W.World.site c.args.world.now) c.new.result)
+    limits.nodes (ap (map (g.W.World.site c.args.world.now)) c.new.ensures) refl none) failed)

@@ -1,0 +1,36 @@
+/** The words of ajv, where they mean the same. */
+import { Schemas } from "./schemas.js";
+import { written } from "./values.js";
+
+// The URI of a schema that has no absolute $id.
+const UNNAMED = "https://schema.invalid/";
+const ABSOLUTE = /^[A-Za-z][A-Za-z0-9+.-]*:[^#]*#?$/;
+
+/**
+ * A function that says whether a value is valid, and leaves `errors` as ajv does.
+ *
+ * @param {boolean | object} schema a schema as a value
+ * @param {{ schemas?: Record<string, boolean | object>, module?: unknown }} [options] other documents by their URIs
+ */
+export async function compile(schema, options = {}) {
+  const uri = typeof schema?.$id === "string" && ABSOLUTE.test(schema.$id) ? schema.$id.replace(/#$/, "") : UNNAMED;
+  const documents = new Map([[uri, written(schema)]]);
+  for (const [name, other] of Object.entries(options.schemas ?? {})) documents.set(name, written(other));
+  const schemas = await Schemas.create(documents, options);
+  const validate = (data) => {
+    const errors = schemas.errors(uri, written(data));
+    validate.errors = errors.length === 0 ? null : errors.map((error) => asAjv(error, uri));
+    return errors.length === 0;
+  };
+  return Object.assign(validate, { schema, schemas, errors: null });
+}
+
+function asAjv(error, uri) {
+  const location = error.absoluteKeywordLocation;
+  return {
+    instancePath: error.instanceLocation,
+    schemaPath: location.startsWith(`${uri}#`) ? location.slice(uri.length) : location,
+    keyword: error.keyword === "false" ? "false schema" : error.keyword,
+    message: error.message,
+  };
+}

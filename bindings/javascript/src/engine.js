@@ -1,0 +1,224 @@
+/** The WebAssembly module: what is compiled once, and its instances with their memory. */
+import { OutOfMemory, Stopped, refusalOf } from "./errors.js";
+
+/** The formats of the standard, and `merged`: `detailed` with each error once. */
+export const FORMATS = Object.freeze(["flag", "basic", "detailed", "verbose", "merged"]);
+
+// What a call answers (jschema.h).
+const DONE = 0, INVALID = 1, REFUSED = 3, FAILED = 4;
+
+// A handle, and behind it the number that jschema_entry writes.
+const HANDLE = 16, NUMBER = 8;
+
+// How much of an output is copied without asking for its length first, and how much is kept between calls.
+const ROOM = 4096, KEPT_ROOM = 1 << 20;
+
+const encoder = new TextEncoder();
+const decoder = new TextDecoder("utf-8", { fatal: true, ignoreBOM: true });
+
+/** @param {string} text @returns {Uint8Array} */
+export function encoded(text) {
+  return encoder.encode(text);
+}
+
+/** A compiled module with the instance that is in use. A new one takes the place of one that has stopped. */
+export class Engine {
+  #module;
+  #instance;
+
+  /** @param {WebAssembly.Module} module */
+  constructor(module) {
+    this.#module = module;
+  }
+
+  /** What another thread needs to make an engine of its own. */
+  get module() {
+    return this.#module;
+  }
+
+  /** The instance in use. */
+  get instance() {
+    if (this.#instance === undefined || this.#instance.hasStopped) this.#instance = new Instance(this.#module);
+    return this.#instance;
+  }
+}
+
+/** An instance of the module. After a trap, or at the end of its stack, it has stopped: data may be half written. */
+export class Instance {
+  #calls;
+  // Where inputs and outputs are put, for one call at a time.
+  #at = 0;
+  #room = 0;
+  hasStopped = false;
+
+  /** @param {WebAssembly.Module} module */
+  constructor(module) {
+    this.#calls = new WebAssembly.Instance(module, {}).exports;
+  }
+
+  /** How many bytes the memory has. It never shrinks. */
+  get memoryBytes() {
+    return this.#calls.memory.buffer.byteLength;
+  }
+
+  /** Makes a handle, and begins the documents of it. */
+  newHandle() {
+    const handle = this.#allocated(HANDLE + NUMBER);
+    this.#bytes(handle, HANDLE + NUMBER).fill(0);
+    if (this.#call("jschema_new", handle) !== DONE) {
+      this.#call("release", handle);
+      throw new OutOfMemory();
+    }
+    return handle;
+  }
+
+  /** Frees a handle. On an instance that has stopped this does nothing: its memory goes as a whole. */
+  free(handle) {
+    if (this.hasStopped) return;
+    this.#call("jschema_free", handle);
+    this.#call("release", handle);
+  }
+
+  /** @param {number} handle @param {string} uri @param {Uint8Array} document */
+  add(handle, uri, document) {
+    const name = encoded(uri);
+    const at = this.#reserved(name.length + document.length);
+    this.#bytes(at, name.length).set(name);
+    this.#bytes(at + name.length, document.length).set(document);
+    this.#expectDone(handle, this.#call("jschema_add", handle, at, name.length, at + name.length, document.length));
+  }
+
+  finish(handle) {
+    this.#expectDone(handle, this.#call("jschema_finish", handle));
+  }
+
+  /** The absolute location of each schema. */
+  places(handle) {
+    this.#expectDone(handle, this.#call("jschema_places", handle));
+    return this.#text(handle).split("\n").slice(0, -1);
+  }
+
+  /** The number of the schema that a URI names. */
+  entry(handle, uri) {
+    const name = encoded(uri);
+    const at = this.#reserved(name.length);
+    this.#bytes(at, name.length).set(name);
+    this.#expectDone(handle, this.#call("jschema_entry", handle, at, name.length, handle + HANDLE));
+    return new DataView(this.#calls.memory.buffer).getUint32(handle + HANDLE, true);
+  }
+
+  /** Whether an instance is valid. The output is the text of this call. */
+  verdict(handle, entry, instance, format) {
+    const length = this.#put(instance);
+    const status = this.#call("jschema_check", handle, entry, this.#at, length, FORMATS.indexOf(format));
+    if (status > INVALID) this.#expectDone(handle, status);
+    return status === DONE;
+  }
+
+  /** The verdict, and the output in a format. */
+  check(handle, entry, instance, format) {
+    const valid = this.verdict(handle, entry, instance, format);
+    return { valid, output: this.#text(handle) };
+  }
+
+  /** A call of the module. Whatever it throws, the instance has stopped then. */
+  #call(name, ...words) {
+    if (this.hasStopped) throw new Stopped("the instance of the module has stopped");
+    try {
+      return this.#calls[name](...words) >>> 0;
+    } catch (error) {
+      this.hasStopped = true;
+      throw new Stopped(`the module stopped in ${name}: ${error.message}`, { cause: error });
+    }
+  }
+
+  /** The bytes at a place: made anew for each use, since a memory that grows gets another buffer. */
+  #bytes(at, length) {
+    return new Uint8Array(this.#calls.memory.buffer, at, length);
+  }
+
+  #allocated(length) {
+    const at = this.#call("allocate", length);
+    if (at === 0) throw new OutOfMemory();
+    return at;
+  }
+
+  /** Room for inputs and outputs. What was there is lost. */
+  #reserved(length) {
+    if (this.#room < length || this.#room > KEPT_ROOM && length <= KEPT_ROOM) {
+      if (this.#room > 0) this.#call("release", this.#at);
+      this.#room = 0;
+      const room = Math.max(length, ROOM);
+      this.#at = this.#allocated(room);
+      this.#room = room;
+    }
+    return this.#at;
+  }
+
+  /** Puts an instance into the room, and returns its length in bytes. */
+  #put(instance) {
+    if (typeof instance === "string" && instance.length <= KEPT_ROOM) {
+      const most = instance.length * 3;
+      return encoder.encodeInto(instance, this.#bytes(this.#reserved(most), most)).written;
+    }
+    const bytes = typeof instance === "string" ? encoded(instance) : instance;
+    this.#bytes(this.#reserved(bytes.length), bytes.length).set(bytes);
+    return bytes.length;
+  }
+
+  /** The text of the last call. */
+  #text(handle) {
+    if (this.#room === 0) this.#reserved(ROOM);
+    const length = this.#call("jschema_text", handle, this.#at, this.#room);
+    if (length > this.#room) {
+      this.#reserved(length);
+      this.#call("jschema_text", handle, this.#at, length);
+    }
+    return decoder.decode(this.#bytes(this.#at, length));
+  }
+
+  /** Throws what a status other than DONE says. */
+  #expectDone(handle, status) {
+    if (status === DONE) return;
+    if (status === FAILED) throw new OutOfMemory();
+    if (status === REFUSED) throw refusalOf(this.#text(handle));
+    throw new TypeError("the call has no meaning here");
+  }
+}
+
+/** @type {Promise<Engine> | undefined} */
+let shared;
+
+/** The engine that is used where none is given: loaded once. */
+export function sharedEngine() {
+  shared ??= load().catch((error) => {
+    shared = undefined;
+    throw error;
+  });
+  return shared;
+}
+
+/** An engine of a module: its bytes, a response or a module that is compiled already; by default the package's. */
+export async function load(source = undefined) {
+  const given = await (source ?? packaged());
+  if (given instanceof WebAssembly.Module) return new Engine(given);
+  const bytes = typeof Response !== "undefined" && given instanceof Response ? await given.arrayBuffer() : given;
+  return new Engine(await WebAssembly.compile(bytes));
+}
+
+/** The module of the package; in the repository, the one that was built there. */
+async function packaged() {
+  const url = new URL("../jschema.wasm", import.meta.url);
+  if (url.protocol !== "file:") {
+    const response = await fetch(url);
+    if (!response.ok) throw new Error(`${url}: ${response.status} ${response.statusText}`);
+    return response;
+  }
+  const { readFile } = await import("node:fs/promises");
+  try {
+    return await readFile(url);
+  } catch (error) {
+    if (error.code !== "ENOENT") throw error;
+    return readFile(new URL("../../../out/wasm/jschema.wasm", import.meta.url));
+  }
+}

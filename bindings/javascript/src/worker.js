@@ -1,0 +1,168 @@
+/** Checks off the main thread, with a time limit. */
+import { sharedEngine, load } from "./engine.js";
+import { OutOfMemory, Refused, Stopped, ValidationError } from "./errors.js";
+import { explain } from "./meanings.js";
+import { parse } from "./outputs.js";
+import { Text } from "./positions.js";
+import { pairsOf } from "./schemas.js";
+import { textOf } from "./values.js";
+
+const SECONDS = 10;
+
+/** Schemas in a worker. Each call waits for those before it; at its time limit the worker is ended and begun anew. */
+export class WorkerSchemas {
+  #pairs;
+  #module;
+  #milliseconds;
+  #worker;
+  #last = Promise.resolve();
+
+  /** Use `WorkerSchemas.create`. */
+  constructor(pairs, module, seconds) {
+    this.#pairs = pairs;
+    this.#module = module;
+    this.#milliseconds = seconds * 1000;
+  }
+
+  /** As `Schemas.create`. `seconds` limits each later call. */
+  static async create(documents, { seconds = SECONDS, module } = {}) {
+    const engine = await (module === undefined ? sharedEngine() : load(module));
+    const made = new WorkerSchemas(pairsOf(documents), engine.module, seconds);
+    await made.#inTurn(() => made.#begin());
+    return made;
+  }
+
+  /** The absolute location of every schema. */
+  places() {
+    return this.#ask({ call: "places" });
+  }
+
+  async isValid(entry, instance) {
+    return (await this.#check(entry, textOf(instance), "flag")).valid;
+  }
+
+  async errors(entry, instance) {
+    const text = textOf(instance);
+    const { valid, output } = await this.#check(entry, text, "basic");
+    const shared = new Text(text);
+    return valid ? [] : parse(output).errors.map((unit) => new ValidationError(unit, shared));
+  }
+
+  async output(entry, instance, format = "basic") {
+    return parse(await this.outputText(entry, instance, format));
+  }
+
+  async outputText(entry, instance, format = "basic") {
+    return (await this.#check(entry, textOf(instance), format)).output;
+  }
+
+  /** Ends the worker. What is waiting is answered with `Stopped`. */
+  close() {
+    this.#pairs = undefined;
+    this.#worker?.end();
+    this.#worker = undefined;
+  }
+
+  async #check(entry, text, format) {
+    try {
+      return await this.#ask({ call: "check", entry, text, format });
+    } catch (error) {
+      if (!(error instanceof Refused)) throw error;
+      throw explain(error.subject === "entry" ? error : error.of(text), text, entry);
+    }
+  }
+
+  #ask(message) {
+    return this.#inTurn(async () => {
+      if (this.#pairs === undefined) throw new TypeError("these schemas are closed");
+      if (this.#worker === undefined) await this.#begin();
+      return this.#limited(message);
+    });
+  }
+
+  /** After what was asked before. */
+  #inTurn(action) {
+    const result = this.#last.then(action);
+    this.#last = result.catch(() => undefined);
+    return result;
+  }
+
+  /** Starts a worker, and gives it the documents. */
+  async #begin() {
+    const worker = this.#worker = await Conversation.begin();
+    try {
+      await worker.ask({ call: "create", module: this.#module, pairs: this.#pairs });
+    } catch (error) {
+      worker.end();
+      this.#worker = undefined;
+      if (!(error instanceof Refused) || error.index === undefined) throw error;
+      const { uri, bytes } = this.#pairs[error.index];
+      throw explain(error.of(bytes, uri), bytes, uri);
+    }
+  }
+
+  async #limited(message) {
+    const worker = this.#worker;
+    const timer = setTimeout(() => worker.end(`no answer after ${this.#milliseconds / 1000} s`), this.#milliseconds);
+    try {
+      return await worker.ask(message);
+    } finally {
+      clearTimeout(timer);
+      if (worker.hasEnded && this.#worker === worker) this.#worker = undefined;
+    }
+  }
+}
+
+/** A worker, which is asked one thing at a time. */
+class Conversation {
+  #worker;
+  #waiting;
+  hasEnded = false;
+
+  constructor(worker) {
+    this.#worker = worker;
+    const listen = (type, listener) => worker.on ? worker.on(type, listener) : worker.addEventListener(type, listener);
+    listen("message", (it) => this.#answered(worker.on ? it : it.data));
+    listen("error", (it) => this.end(it.message));
+    worker.unref?.();
+  }
+
+  static async begin() {
+    if (typeof Worker !== "undefined") {
+      return new Conversation(new Worker(new URL("./worker_main.js", import.meta.url), { type: "module" }));
+    }
+    const { Worker: Thread } = await import("node:worker_threads");
+    return new Conversation(new Thread(new URL("./worker_main.js", import.meta.url)));
+  }
+
+  ask(message) {
+    this.#worker.ref?.();
+    return new Promise((resolve, reject) => {
+      this.#waiting = { resolve, reject };
+      this.#worker.postMessage(message);
+    });
+  }
+
+  /** Ends the worker, and says why to who is waiting. */
+  end(why = "the worker was ended") {
+    this.hasEnded = true;
+    this.#worker.terminate();
+    this.#waiting?.reject(new Stopped(why));
+    this.#waiting = undefined;
+  }
+
+  #answered({ answer, fault }) {
+    this.#worker.unref?.();
+    const waiting = this.#waiting;
+    this.#waiting = undefined;
+    if (fault === undefined) waiting?.resolve(answer);
+    else waiting?.reject(thrown(fault));
+  }
+}
+
+/** The error that a worker describes. */
+function thrown({ name, message, subject, kind, place, index }) {
+  if (name === "Refused") return new Refused(subject, kind, place, index);
+  if (name === "OutOfMemory") return new OutOfMemory();
+  return name === "Stopped" ? new Stopped(message) : new Error(message);
+}

@@ -1,0 +1,44 @@
+// What the types allow and refuse: compiled by `tsc`, never run.
+import { FORMATS, OutOfMemory, Refused, Schemas, Stopped, Text, compile, textOf } from "jschema";
+import type { AjvError, Format, Output, Position, ValidationError } from "jschema";
+import { WorkerSchemas } from "jschema/worker";
+
+export async function use(bytes: Uint8Array): Promise<void> {
+  const schemas: Schemas = await Schemas.create({ "https://example.com/config": "{}" });
+  const others: Schemas = await Schemas.create(new Map([["urn:x", bytes]]), { module: fetch("jschema.wasm") });
+  const valid: boolean = schemas.isValid("urn:x", { a: [1, 2n, null, { b: true }] });
+  const errors: ValidationError[] = others.errors("urn:x", bytes);
+  const places: [number, number, string, string][] =
+    errors.map((it) => [it.line, it.column, it.message, it.instanceLocation]);
+  const output: Output = schemas.output("urn:x", "1", "detailed");
+  const text: string = schemas.outputText("urn:x", "1");
+  const format: Format = FORMATS[0];
+  const position: Position = new Text("{}").value("");
+  schemas[Symbol.dispose]();
+  others.close();
+  const validate = await compile({ type: "object" });
+  const found: AjvError[] | null = validate({}) ? null : validate.errors;
+  const worker = await WorkerSchemas.create({ "urn:x": "true" }, { seconds: 1 });
+  const inWorker: Promise<boolean> = worker.isValid("urn:x", "1");
+  console.log(valid, places, output, text, format, position, found, inWorker, textOf(1n));
+
+  // @ts-expect-error: no such format
+  schemas.output("urn:x", "1", "xml");
+  // @ts-expect-error: JSON has no undefined
+  schemas.isValid("urn:x", undefined);
+  // @ts-expect-error: JSON has no Date
+  schemas.isValid("urn:x", { at: new Date() });
+  // @ts-expect-error: documents are texts
+  await Schemas.create({ "urn:x": {} });
+  // @ts-expect-error: `create` makes schemas
+  new Schemas();
+  // @ts-expect-error: a string in a list is a value, the entry is missing
+  schemas.isValid(["1"]);
+}
+
+export function said(error: unknown): string | undefined {
+  if (error instanceof Refused) return `${error.kind} ${error.place} ${error.line}:${error.column} ${error.document}`;
+  if (error instanceof OutOfMemory || error instanceof Stopped) return error.message;
+  // @ts-expect-error: not narrowed to a class with a kind
+  return error.kind;
+}

@@ -1,0 +1,35 @@
+/** Schemas in a worker. */
+import assert from "node:assert/strict";
+import { test } from "node:test";
+import { Refused, Stopped } from "jschema";
+import { WorkerSchemas } from "jschema/worker";
+
+const URI = "https://example.com/list";
+const SCHEMA = '{"items": {"minimum": 0}, "uniqueItems": true}';
+
+test("a worker answers as the schemas do", async () => {
+  const schemas = await WorkerSchemas.create({ [URI]: SCHEMA });
+  assert.deepEqual(await schemas.places(), [`${URI}#`, `${URI}#/items`]);
+  assert.deepEqual(await Promise.all([schemas.isValid(URI, [1]), schemas.isValid(URI, "[-1]")]), [true, false]);
+  const [error] = await schemas.errors(URI, "[1,\n -1]");
+  assert.deepEqual([error.line, error.column, error.message], [2, 2, "less than 0"]);
+  assert.deepEqual(await schemas.output(URI, [1], "flag"), { valid: true });
+  await assert.rejects(schemas.isValid(URI, "[0.5]"), (it) => it instanceof Refused && it.column === 2);
+  await assert.rejects(schemas.isValid(URI, [undefined]), TypeError);
+  schemas.close();
+  await assert.rejects(schemas.isValid(URI, "1"), /closed/);
+});
+
+test("at the time limit a call is Stopped, and the next one has a new worker", async () => {
+  const schemas = await WorkerSchemas.create({ [URI]: SCHEMA }, { seconds: 1 });
+  const many = JSON.stringify(Array.from({ length: 2_000_000 }, (_, index) => index));
+  await assert.rejects(schemas.isValid(URI, many),
+    (it) => it instanceof Stopped && it.message === "no answer after 1 s");
+  assert.equal(await schemas.isValid(URI, "[-1]"), false);
+  schemas.close();
+});
+
+test("a refused document", async () => {
+  await assert.rejects(WorkerSchemas.create({ [URI]: '{"type": 1}' }),
+    (it) => it instanceof Refused && it.document === URI && it.column === 10);
+});

@@ -1,0 +1,51 @@
+/* What the module exports: the calls of jschema.h over those of the compiled library (proved_...), with pointers
+   and lengths of 32 bits, as the memory has them. The handle and the number that jschema_entry writes have 64 bits in
+   each field: 16 bytes, and 8. */
+typedef unsigned long long usize;
+typedef unsigned int u32;
+
+#define AT(address) ((void *)(usize)(address))
+
+u32 proved_jschema_new(void *);
+u32 proved_jschema_limit(void *, usize, usize);
+u32 proved_jschema_add(void *, const void *, usize, const void *, usize);
+u32 proved_jschema_finish(void *);
+u32 proved_jschema_places(void *);
+u32 proved_jschema_entry(void *, const void *, usize, void *);
+u32 proved_jschema_share(void *, void *);
+u32 proved_jschema_check(void *, usize, const void *, usize, u32);
+usize proved_jschema_text(void *, void *, usize);
+void proved_jschema_free(void *);
+u32 proved_jschema_version(void);
+
+u32 jschema_new(u32 handle) { return proved_jschema_new(AT(handle)); }
+
+u32 jschema_limit(u32 handle, u32 applications, u32 nodes) {
+    return proved_jschema_limit(AT(handle), applications, nodes);
+}
+
+u32 jschema_add(u32 handle, u32 uri, u32 uri_length, u32 document, u32 document_length) {
+    return proved_jschema_add(AT(handle), AT(uri), uri_length, AT(document), document_length);
+}
+
+u32 jschema_finish(u32 handle) { return proved_jschema_finish(AT(handle)); }
+
+u32 jschema_places(u32 handle) { return proved_jschema_places(AT(handle)); }
+
+u32 jschema_entry(u32 handle, u32 uri, u32 uri_length, u32 entry) {
+    return proved_jschema_entry(AT(handle), AT(uri), uri_length, AT(entry));
+}
+
+u32 jschema_share(u32 handle, u32 other) { return proved_jschema_share(AT(handle), AT(other)); }
+
+u32 jschema_check(u32 handle, u32 entry, u32 instance, u32 instance_length, u32 format) {
+    return proved_jschema_check(AT(handle), entry, AT(instance), instance_length, format);
+}
+
+u32 jschema_text(u32 handle, u32 out, u32 length) {
+    return proved_jschema_text(AT(handle), AT(out), length);
+}
+
+void jschema_free(u32 handle) { proved_jschema_free(AT(handle)); }
+
+u32 jschema_version(void) { return proved_jschema_version(); }

@@ -1,0 +1,161 @@
+#!/usr/bin/env python3
+"""Makes LLVM IR for x86-64, as the prover's compiler writes it, LLVM IR for wasm64.
+
+    retarget.py IN.ll OUT.ll
+
+Both have pointers of 64 bits, are little-endian, and give the types that occur the same sizes and alignments. So the
+data layout, the triple and the attributes that name the processor change, and each instruction of x86-64 becomes what
+means the same. The library's calls get names of their own, since exports.c exports calls of these names over them.
+Everything else stays as it is. Each word of the IR must be one that is known to mean the same on both;
+the script fails on any other, with status 1.
+"""
+import re
+import sys
+from collections import Counter
+
+LAYOUTS = ("e-m:e-p270:32:32-p271:32:32-p272:64:64-i64:64-i128:128-f80:128-n8:16:32:64-S128",
+           "e-m:e-p:64:64-p10:8:8-p20:8:8-i64:64-i128:128-n32:64-S128-ni:1:10:20")
+TRIPLES = ("x86_64-unknown-linux-gnu", "wasm64-unknown-unknown")
+
+# The words of the IR that mean the same on both.
+WORDS = frozenset("""
+    acq_rel acquire add align alloca alwaysinline and argmem ashr atomic atomicrmw attributes bitcast br call
+    captures cmpxchg cold constant datalayout declare define dereferenceable double e eq extractelement
+    extractvalue fadd false fcmp fdiv float fmul fneg fptosi fptoui freeze fsub getelementptr i1 i128 i16 i256
+    i32 i64 i8 icmp immarg inaccessiblemem inbounds inlinehint insertelement insertvalue internal inttoptr label
+    load lshr max memory min monotonic mul mustprogress ne nobuiltin nocallback nocreateundeforpoison nofree
+    noinline none nonnull noreturn nosync noundef nounwind nsw null nuw oeq oge ogt ole olt one or ord phi
+    poison private ptr ptrtoaddr ptrtoint read readnone readonly readwrite release ret sdiv select seq_cst sext
+    sge sgt shl shufflevector signext sitofp sle slt source_filename speculatable splat srem store sub switch
+    target to triple true trunc udiv ueq uge ugt uitofp ule ult umax umin undef une unnamed_addr uno unordered
+    unreachable urem void weak willreturn write writeonly x xchg xor zeroext zeroinitializer zext
+""".split())
+
+# The intrinsics that LLVM has for every processor, without the types that are part of their names.
+INTRINSICS = frozenset("""
+    abs arithmetic.fence bitreverse bswap ctlz ctpop cttz fabs fshl fshr memcpy memmove memset sadd.sat smax smin
+    ssub.sat trap uadd.sat uadd.with.overflow umax umin umul.with.overflow usub.sat usub.with.overflow
+    vector.reduce.add vector.reduce.and vector.reduce.or vector.reduce.umax
+""".split())
+
+# The attributes in quotes that name the processor: wasm64 has none of them.
+PROCESSOR = frozenset(("frame-pointer", "probe-stack", "stack-probe-size", "target-cpu", "target-features", "tune-cpu"))
+
+# What the IR may declare, but for intrinsics. heap.c defines it.
+DECLARED = {
+    "declare { i64, i64 } @rattle_alloc(i64, i64)",
+    "declare { i64, i64 } @rattle_realloc(ptr, i64, i64, i64)",
+    "declare void @rattle_dealloc(ptr)",
+}
+
+# An empty instruction that keeps the compiler from moving loads and stores across it.
+BARRIER = 'asm sideeffect "", "~{memory}"()'
+
+
+
+def _pshufb():
+    """pshufb as a function, a byte at a time. An index picks by its low four bits, and a negative one picks 0."""
+    lines = ["", "define internal <16 x i8> @x86_pshufb(<16 x i8> %bytes, <16 x i8> %indices) nounwind {",
+             "  %at = alloca [16 x i8], align 16", "  store <16 x i8> %bytes, ptr %at, align 16"]
+    for lane in range(16):
+        before = f"%all{lane - 1}" if lane else "zeroinitializer"
+        lines += [f"  %index{lane} = extractelement <16 x i8> %indices, i32 {lane}",
+                  f"  %none{lane} = icmp slt i8 %index{lane}, 0",
+                  f"  %low{lane} = and i8 %index{lane}, 15",
+                  f"  %wide{lane} = zext i8 %low{lane} to i64",
+                  f"  %from{lane} = getelementptr i8, ptr %at, i64 %wide{lane}",
+                  f"  %found{lane} = load i8, ptr %from{lane}, align 1",
+                  f"  %picked{lane} = select i1 %none{lane}, i8 0, i8 %found{lane}",
+                  f"  %all{lane} = insertelement <16 x i8> {before}, i8 %picked{lane}, i32 {lane}"]
+    return "\n".join([*lines, "  ret <16 x i8> %all15", "}", ""])
+
+
+# Each instruction of x86-64, with the name of a function of the same meaning and its definition. (The module has no
+# vectors: Binaryen 108 can't give all their loads addresses of 32 bits.)
+SUBSTITUTES = {"llvm.x86.ssse3.pshuf.b.128": ("x86_pshufb", _pshufb())}
+
+_QUOTED_ATTRIBUTE = re.compile(r' ?"([\w-]+)"="[^"]*"')
+# What isn't a word of the language: names, numbers of attributes and of metadata, constants of bytes.
+_NAMED = re.compile(r'[%@$]"[^"]*"|[%@$][\w.$-]+|c"(?:[^"\\]|\\.)*"|"[^"]*"|![\w.]*|#\d+|;.*$')
+_WORD = re.compile(r"[A-Za-z_][\w.]*")
+_LABEL = re.compile(r'^(?:[\w.$-]+|"[^"]*"):')
+_INTRINSIC = re.compile(r"@llvm\.([\w.]+)\(")
+_TYPES = re.compile(r"(?:\.(?:p0|i\d+|f\d+|v\d+i\d+))+$")
+
+
+class Unknown(Exception):
+    """The IR has what this script doesn't know."""
+
+
+def retargeted(text):
+    """The IR for wasm64. Raises `Unknown`."""
+    text = _exchanged(text, "datalayout", *LAYOUTS)
+    text = _exchanged(text, "triple", *TRIPLES)
+    text = text.replace("@jschema_", "@proved_jschema_")
+    added = []
+    lines = []
+    for line in text.split("\n"):
+        line = _without_processor(line)
+        for name, (ours, definition) in SUBSTITUTES.items():
+            if f"@{name}(" in line:
+                if definition not in added:
+                    added.append(definition)
+                line = "" if line.startswith("declare") else line.replace(f"@{name}(", f"@{ours}(")
+        lines.append(line)
+    _check(lines)
+    return "\n".join(lines + added)
+
+
+def _exchanged(text, what, old, new):
+    text, count = re.subn(rf'^target {what} = "{re.escape(old)}"$', f'target {what} = "{new}"', text, flags=re.M)
+    if count != 1:
+        raise Unknown(f"the target's {what} isn't {old}")
+    return text
+
+
+def _without_processor(line):
+    if not line.startswith("attributes "):
+        return line
+    if others := {it for it in _QUOTED_ATTRIBUTE.findall(line)} - PROCESSOR:
+        raise Unknown(f"attributes: {' '.join(sorted(others))}")
+    # -Os decides what is inlined: where everything is that asks for it, the module is a quarter larger.
+    line = re.sub(r"\b(?:alwaysinline|inlinehint) ", "", line)
+    # A group can't be empty. LLVM ignores an attribute in quotes that it doesn't know.
+    return _QUOTED_ATTRIBUTE.sub("", line).replace("= { }", '= { "any-processor" }')
+
+
+def _check(lines):
+    """Each word, intrinsic and declaration must be a known one."""
+    unknown = Counter()
+    for line in lines:
+        if line.startswith(("source_filename", "target ")):
+            continue
+        if line.startswith("declare ") and "@llvm." not in line and _plain(line) not in DECLARED:
+            unknown[line] += 1
+        unknown.update(f"llvm.{it}" for it in _INTRINSIC.findall(line) if _TYPES.sub("", it) not in INTRINSICS)
+        words = _WORD.findall(_NAMED.sub(" ", _LABEL.sub("", line.replace(BARRIER, ""))))
+        unknown.update(word for word in words if word not in WORDS)
+    if unknown:
+        raise Unknown("; ".join(f"{word} ({count})" for word, count in unknown.most_common(20)))
+
+
+def _plain(declaration):
+    """A declaration without attributes."""
+    return re.sub(r" (?:noundef|#\d+)", "", declaration)
+
+
+def main():
+    if len(sys.argv) != 3:
+        sys.exit("usage: retarget.py IN.ll OUT.ll")
+    with open(sys.argv[1], encoding="utf-8") as file:
+        text = file.read()
+    try:
+        text = retargeted(text)
+    except Unknown as error:
+        sys.exit(f"retarget.py: not known: {error}")
+    with open(sys.argv[2], "w", encoding="utf-8") as file:
+        file.write(text)
+
+
+if __name__ == "__main__":
+    main()

@@ -1,0 +1,16 @@
+"""JSON Schema 2020-12, by a validator in which every function is proved.
+
+    import jschema
+    schemas = jschema.Schemas({"https://example.com/config": open("config.schema.json", "rb").read()})
+    schemas.is_valid("https://example.com/config", b'{"age":-1}')
+"""
+from .engine import FORMATS, Answer, Engine
+from .errors import EngineError, EngineNotFound, Refused, ValidationError, best_first
+from .library import LibraryEngine
+from .positions import Position, Text
+from .program import ProgramEngine
+from .scanner import NotJson
+from .schemas import Schemas
+
+__all__ = ["FORMATS", "Answer", "Engine", "EngineError", "EngineNotFound", "LibraryEngine", "NotJson", "Position",
+           "ProgramEngine", "Refused", "Schemas", "Text", "ValidationError", "best_first"]

@@ -1,0 +1,59 @@
+"""The files that the arguments name, and those in folders."""
+from __future__ import annotations
+
+import errno
+import os
+import stat
+from dataclasses import dataclass
+from pathlib import Path
+from typing import Optional
+
+STDIN = "-"
+
+
+class Misuse(Exception):
+    """The arguments are wrong; the message says what to do."""
+
+
+@dataclass(frozen=True)
+class File:
+    """A file with instances, or why there is none of this name."""
+
+    name: str
+    fault: Optional[OSError] = None
+
+
+def files_of(arguments: list[str], lines: bool) -> list[File]:
+    """The files that arguments name, with those of each folder by name.
+
+    Raises `Misuse` for an empty name, for a folder without any, and for standard input that is named twice.
+    """
+    if "" in arguments:
+        raise Misuse("an INSTANCE has an empty name: is a variable of the shell empty?")
+    if arguments.count(STDIN) > 1:
+        raise Misuse(f"{STDIN} is named {arguments.count(STDIN)} times: standard input can be read once")
+    files = []
+    for argument in arguments:
+        if argument == STDIN or not os.path.isdir(argument):
+            files.append(File(argument))
+        else:
+            files += _files_in(argument, (".jsonl", ".ndjson") if lines else (".json",))
+    return files
+
+
+def _files_in(folder: str, suffixes: tuple[str, ...]) -> list[File]:
+    """The files in a folder at any depth, and each folder that can't be read. Links to folders aren't followed."""
+    found: list[File] = []
+    for parent, _, names in os.walk(folder, onerror=lambda error: found.append(File(str(error.filename), error))):
+        found += [_in_folder(str(Path(parent, name))) for name in names if Path(name).suffix.lower() in suffixes]
+    if not found:
+        raise Misuse(f"{folder} has no file {' or '.join(suffixes)}: name its files one by one")
+    return sorted(found, key=lambda file: Path(file.name).parts)
+
+
+def _in_folder(name: str) -> File:
+    try:
+        is_regular = stat.S_ISREG(os.stat(name).st_mode)
+    except OSError as error:
+        return File(name, error)
+    return File(name) if is_regular else File(name, OSError(errno.EINVAL, "not a regular file", name))

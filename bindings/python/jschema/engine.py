@@ -1,0 +1,41 @@
+"""What checks the instances. `Schemas` asks an engine for everything, and knows nothing else of it."""
+from __future__ import annotations
+
+from typing import NamedTuple, Protocol
+
+from . import interface
+
+#: The formats of the standard, and `merged`: `detailed` with each error once.
+FORMATS = tuple(interface.FORMATS)
+
+
+class Answer(NamedTuple):
+    """The verdict of a check, and the output: a JSON text with a line feed at its end."""
+
+    valid: bool
+    text: bytes
+
+
+class Engine(Protocol):
+    """Schema documents, and checks against them: `add` each, `finish` once, then check, from any thread.
+
+    `add`, `finish`, `is_valid` and `check` raise `Refused`, `MemoryError`, or `EngineError` for any other failure.
+    """
+
+    def add(self, uri: str, document: bytes) -> None:
+        """Registers the text of a schema document under an absolute URI."""
+
+    def finish(self) -> None:
+        """Checks the documents together. Nothing is added afterwards."""
+
+    def places(self) -> list[str]:
+        """The absolute location of every schema."""
+
+    def is_valid(self, entry: str, instance: bytes) -> bool:
+        """Whether a JSON text is valid against the schema with this URI."""
+
+    def check(self, entry: str, instance: bytes, format: str) -> Answer:
+        """The same, with the output in a format: one of `FORMATS`."""
+
+    def close(self) -> None:
+        """Frees what is held. A second call does nothing."""

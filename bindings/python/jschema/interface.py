@@ -1,0 +1,44 @@
+"""The tables of the interface, which `tools/interface` writes from `interface.toml`."""
+
+# interface: tables
+#: Each format, and its number in the library.
+FORMATS = {"flag": 0, "basic": 1, "detailed": 2, "verbose": 3, "merged": 4}
+
+#: What a call of the library answers, and the program's exit statuses, by their numbers from 0.
+STATUSES = ("DONE", "INVALID", "MISUSED", "REFUSED", "FAILED")
+
+#: The limits of the validator.
+LIMITS = {
+    "applications": 512,
+    "nodes": 1_000_000,
+    "documents": 1_000,
+    "schemas": 100_000,
+    "bytes": 16_777_216,
+    "nesting": 127,
+    "uri": 65_536,
+}
+
+#: What each kind of refusal means.
+MEANINGS = {
+    "BadAnchor": "an anchor is an ASCII letter or _, then letters, digits, -, _ and .",
+    "BadId": "$id can't be joined with the base URI, or has a fragment",
+    "BadKeyword": "the keyword's value has the wrong form",
+    "BadPattern": "not a regular expression of the Rust crate regex",
+    "BadReference": "the reference isn't a URI, or its fragment isn't a JSON Pointer",
+    "BadSuite": "a member of the suite is missing or has the wrong type",
+    "BadUri": "not an absolute URI, or its fragment can't be used here",
+    "DuplicateAnchor": "another schema of this resource has the same anchor",
+    "DuplicateUri": "another schema has the same URI",
+    "InputTooLarge": "more than 16,777,216 bytes",
+    "NotASchema": "a schema is an object or a boolean",
+    "NotJson": "not a JSON text, or nested deeper than 127",
+    "NotWhole": "a number that isn't whole, or isn't within -2^63 to 2^64 - 1",
+    "PatternTooLarge": "the regular expression takes too much memory",
+    "TooLarge": "more than 512 nested schema applications, or more than 1,000,000 nodes of the result",
+    "TooManyDocuments": "more than 1,000 schema documents",
+    "TooManyPlaces": "more than 100,000 schemas",
+    "UnknownDialect": "$schema isn't https://json-schema.org/draft/2020-12/schema",
+    "Unresolved": "no schema has this URI; give its document too",
+    "UriTooLong": "a URI of more than 65,536 bytes",
+}
+# interface: end

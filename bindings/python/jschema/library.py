@@ -1,0 +1,245 @@
+"""An engine in this process, which keeps the schemas: the C library, by ctypes."""
+from __future__ import annotations
+
+import ctypes
+import ctypes.util
+import os
+import threading
+from ctypes import POINTER, byref, c_bool, c_char_p, c_size_t, c_uint32, c_void_p
+from functools import lru_cache
+from pathlib import Path
+from typing import Any, Callable, Optional, TypeVar
+
+from .engine import Answer
+from .errors import EngineError, EngineNotFound
+from .interface import FORMATS, STATUSES
+from .lines import fault_of
+from .stacks import on_large_stack
+
+_Result = TypeVar("_Result")
+
+_DONE, _INVALID, _MISUSED, _REFUSED, _FAILED = range(len(STATUSES))
+# (As ctypes' own numbers: of an int each call would make one.)
+_FORMATS = {name: c_uint32(number) for name, number in FORMATS.items()}
+_FLAG = _FORMATS["flag"]
+_VERSIONS = range(100, 200)
+_FILE = "libjschema.so.0"
+
+# How much of an output is copied without asking for its length first.
+_ROOM = 4096
+# A handle that has had a larger text, or more or longer spellings of entries, isn't used again: it would keep them.
+_LARGE_TEXT = 1 << 20
+_MOST_ENTRIES = 1000
+_LONG_ENTRIES = 1 << 20
+
+# One handle makes the others, one at a time. A handler of a signal may come here while its own thread is here.
+_sharing = threading.RLock()
+
+
+def _after_fork() -> None:
+    # Another thread of the parent may have held it.
+    global _sharing
+    _sharing = threading.RLock()
+
+
+os.register_at_fork(after_in_child=_after_fork)
+
+
+class _Handle(ctypes.Structure):
+    _fields_ = (("at", c_void_p), ("full", c_bool))
+
+
+def find_library() -> Optional[str]:
+    """The library: named by JSCHEMA_LIBRARY (`off` is none), or in the package, or built in the repository that this
+    file is part of, or installed. None if there is none."""
+    if named := os.environ.get("JSCHEMA_LIBRARY"):
+        # (A name without a slash is looked up by the system.)
+        if os.sep in named and not os.path.isfile(named):
+            raise EngineNotFound(f"JSCHEMA_LIBRARY names {named}, which is no file")
+        return None if named == "off" else named
+    here = Path(__file__).resolve().parent
+    for path in (here / _FILE, here.parents[2] / "out" / "lib" / _FILE):
+        if path.is_file():
+            return str(path)
+    return _installed()
+
+
+@lru_cache(maxsize=None)
+def _installed() -> Optional[str]:
+    """The library among the system's. (Python starts programs to find it.)"""
+    return ctypes.util.find_library("jschema")
+
+
+def _load(path: str) -> ctypes.CDLL:
+    handle = POINTER(_Handle)
+    try:
+        library = ctypes.CDLL(path)
+        for name, result, arguments in (
+                ("version", c_uint32, ()),
+                ("new", c_uint32, (handle,)),
+                ("add", c_uint32, (handle, c_char_p, c_size_t, c_char_p, c_size_t)),
+                ("finish", c_uint32, (handle,)),
+                ("places", c_uint32, (handle,)),
+                ("entry", c_uint32, (handle, c_char_p, c_size_t, POINTER(c_size_t))),
+                ("share", c_uint32, (handle, handle)),
+                ("check", c_uint32, (handle, c_size_t, c_char_p, c_size_t, c_uint32)),
+                ("text", c_size_t, (handle, c_char_p, c_size_t)),
+                ("free", None, (handle,))):
+            call = getattr(library, f"jschema_{name}")
+            call.restype, call.argtypes = result, arguments
+    except (OSError, AttributeError) as error:
+        raise EngineError(f"{path} is no library of jschema: {error}") from error
+    if library.jschema_version() not in _VERSIONS:
+        raise EngineError(f"{path} has version {library.jschema_version()}, and this package needs 100 to 199 (0.1)")
+    return library
+
+
+class _Schemas:
+    """A handle of the library. One call at a time."""
+
+    def __init__(self, library: ctypes.CDLL) -> None:
+        self._library = library
+        self._handle = _Handle()
+        # (Any: that a slice of it is bytes isn't in the types.)
+        self._room: Any = ctypes.create_string_buffer(_ROOM)
+        # The numbers of the entries that were looked up.
+        self._entries: dict[str, c_size_t] = {}
+        self._length_of_entries = 0
+        #: Whether it keeps so much that another is better.
+        self.is_worn = False
+        self.uris: list[str] = []
+        self._done(library.jschema_new(self._handle))
+
+    def add(self, uri: str, document: bytes) -> None:
+        name = _encoded(uri)
+        self.uris.append(uri)
+        try:
+            self._done(self._library.jschema_add(self._handle, name, len(name), document, len(document)))
+        except BaseException:
+            self.uris.pop()
+            raise
+
+    def finish(self) -> None:
+        self._done(self._library.jschema_finish(self._handle))
+
+    def shared(self) -> _Schemas:
+        """Another handle on the same finished schemas."""
+        other = _Schemas(self._library)
+        self._done(self._library.jschema_share(self._handle, other._handle))
+        other.uris = self.uris
+        return other
+
+    def places(self) -> list[str]:
+        self._done(self._library.jschema_places(self._handle))
+        return self._text().decode().splitlines()
+
+    def check(self, entry: str, instance: bytes, format: str) -> Answer:
+        return Answer(self.verdict(entry, instance, _FORMATS[format]), self._text())
+
+    def verdict(self, entry: str, instance: bytes, format: c_uint32 = _FLAG) -> bool:
+        """Whether an instance is valid. The output in the format is the text of this call."""
+        number = self._entries.get(entry)
+        if number is None:
+            number = self._look_up(entry)
+        status: int = self._library.jschema_check(self._handle, number, instance, len(instance), format)
+        if status > _INVALID:
+            self._done(status)
+        return status == _DONE
+
+    def _look_up(self, entry: str) -> c_size_t:
+        name, number = _encoded(entry), c_size_t()
+        self._done(self._library.jschema_entry(self._handle, name, len(name), byref(number)))
+        self._entries[entry] = number
+        self._length_of_entries += len(entry)
+        if len(self._entries) >= _MOST_ENTRIES or self._length_of_entries >= _LONG_ENTRIES:
+            self.is_worn = True
+        return number
+
+    def _text(self) -> bytes:
+        """The text of the last call."""
+        length = self._library.jschema_text(self._handle, self._room, _ROOM)
+        if length <= _ROOM:
+            text: bytes = self._room[:length]
+            return text
+        self.is_worn = self.is_worn or length > _LARGE_TEXT
+        large = ctypes.create_string_buffer(length)
+        self._library.jschema_text(self._handle, large, length)
+        return large.raw
+
+    def _done(self, status: int) -> None:
+        """Raises what a status other than _DONE says."""
+        if status == _DONE:
+            return
+        if status == _FAILED:
+            raise MemoryError("failed: Memory")
+        line = self._text().decode()
+        raise fault_of(line, self.uris) or EngineError(
+            f"the library answered status {status}: {line.strip() or 'no message'}")
+
+    def free(self) -> None:
+        self._library.jschema_free(self._handle)
+
+    def __del__(self) -> None:
+        if hasattr(self, "_handle"):
+            self.free()
+
+
+class LibraryEngine:
+    """The engine. Each thread that checks at the same time as others has a handle of its own on the same schemas. It is
+    made when it is needed, and kept."""
+
+    def __init__(self, library: Optional[str] = None) -> None:
+        path = library or find_library()
+        if path is None:
+            raise EngineError("no library libjschema.so: tools/build-library in its repository makes it")
+        self._library = _load(path)
+        # Checks nothing once it is finished: the others are made of it, one at a time.
+        self._first = _Schemas(self._library)
+        # Those that no call uses. (The methods of a list are atomic.)
+        self._free: list[_Schemas] = []
+
+    def add(self, uri: str, document: bytes) -> None:
+        on_large_stack(self._first.add, uri, document)
+
+    def finish(self) -> None:
+        on_large_stack(self._first.finish)
+
+    def places(self) -> list[str]:
+        return on_large_stack(self._with_handle, _Schemas.places)
+
+    def is_valid(self, entry: str, instance: bytes) -> bool:
+        return on_large_stack(self._with_handle, _Schemas.verdict, entry, instance)
+
+    def check(self, entry: str, instance: bytes, format: str) -> Answer:
+        return on_large_stack(self._with_handle, _Schemas.check, entry, instance, format)
+
+    def close(self) -> None:
+        on_large_stack(self._close)
+
+    def _close(self) -> None:
+        self._free.clear()
+        with _sharing:
+            self._first.free()
+
+    def _with_handle(self, call: Callable[..., _Result], *arguments: Any) -> _Result:
+        """A call on a handle that no other thread uses. Afterwards it goes back to those that are free."""
+        schemas = self._taken()
+        try:
+            return call(schemas, *arguments)
+        finally:
+            if not schemas.is_worn:
+                self._free.append(schemas)
+
+    def _taken(self) -> _Schemas:
+        try:
+            return self._free.pop()
+        except IndexError:
+            with _sharing:
+                return self._first.shared()
+
+
+def _encoded(uri: str) -> bytes:
+    try:
+        return uri.encode()
+    except UnicodeEncodeError as error:
+        raise EngineError("a URI with a lone surrogate can't be passed to the library") from error

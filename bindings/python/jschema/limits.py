@@ -1,0 +1,7 @@
+"""The limits that hold before an engine is asked."""
+from __future__ import annotations
+
+from .interface import LIMITS
+
+#: The most bytes that a text may have: a schema document, or an instance.
+LARGEST_TEXT = LIMITS["bytes"]

@@ -1,0 +1,98 @@
+"""Lines and columns of the values in a JSON text.
+
+    text = Text(b'{"age": -1}')
+    text.value("/age")   # Position(offset=8, line=1, column=9)
+    text.name("/age")    # Position(offset=1, line=1, column=2)
+"""
+from __future__ import annotations
+
+import itertools
+import re
+from bisect import bisect_right
+from typing import NamedTuple, Optional, Union
+
+from .finder import Value, root
+from .locations import steps
+from .scanner import scan
+
+# The bytes of UTF-8 that begin no character, and how many bytes are counted at a time.
+_CONTINUATION = bytes(range(0x80, 0xC0))
+_BLOCK = 4096
+
+
+class Position(NamedTuple):
+    """A place in a text: bytes from 0; lines, and characters within the line, from 1."""
+
+    offset: int
+    line: int
+    column: int
+
+
+class Text:
+    """A JSON text. With `is_json` an engine has read it as JSON before; otherwise it is scanned when a position is
+    first asked for, and only once."""
+
+    def __init__(self, data: bytes, is_json: bool = False) -> None:
+        self.data = data
+        self._is_json = is_json
+        # (Made when they are needed. The lock of `functools.cached_property` would outlive a fork.)
+        self._root: Optional[Value] = None
+        self._line_starts: Optional[list[int]] = None
+        self._characters_before: Optional[list[int]] = None
+
+    def __reduce__(self) -> tuple[type[Text], tuple[bytes, bool]]:
+        return Text, (self.data, self._is_json)
+
+    def value(self, pointer: str) -> Position:
+        """Where the value at a JSON Pointer begins.
+
+        Raises `NotJson`, `LookupError` where there is none, and `ValueError` for what is no JSON Pointer.
+        """
+        return self.at(self._found(pointer)[0].offset)
+
+    def name(self, pointer: str) -> Position:
+        """Where the name of the member at a JSON Pointer begins; of an item, or the root, the value."""
+        found = self._found(pointer)[0]
+        return self.at(found.offset if found.name is None else found.name)
+
+    def path(self, pointer: str) -> list[str | int]:
+        """A JSON Pointer as the names of members and the indices of items."""
+        return self._found(pointer)[1]
+
+    def at(self, offset: int) -> Position:
+        """The line and column of a byte."""
+        if self._line_starts is None:
+            self._line_starts = [0, *(found.end() for found in re.finditer(b"\n", self.data))]
+        line = bisect_right(self._line_starts, offset)
+        start = self._line_starts[line - 1]
+        return Position(offset, line, self._characters(offset) - self._characters(start) + 1)
+
+    def _found(self, pointer: str) -> tuple[Value, list[str | int]]:
+        if pointer and not pointer.startswith("/") or re.search("~(?![01])", pointer):
+            raise ValueError(f"{pointer!r} isn't a JSON Pointer: it is empty or begins with /, and has ~0 for ~")
+        if self._root is None:
+            if not self._is_json:
+                scan(self.data)
+            self._root = root(self.data)
+        value = self._root
+        path: list[Union[str, int]] = []
+        for token in steps(pointer):
+            child = value.child(token)
+            if child is None:
+                raise LookupError(f"no value at {pointer}")
+            path.append(child[0])
+            value = child[1]
+        return value, path
+
+    def _characters(self, offset: int) -> int:
+        if self._characters_before is None:
+            # How many characters begin before each block.
+            blocks = (self.data[at:at + _BLOCK] for at in range(0, len(self.data), _BLOCK))
+            self._characters_before = [0, *itertools.accumulate(map(_characters, blocks))]
+        block = offset // _BLOCK
+        return self._characters_before[block] + _characters(self.data[block * _BLOCK:offset])
+
+
+def _characters(data: bytes) -> int:
+    """How many characters begin in these bytes."""
+    return len(data.translate(None, _CONTINUATION))

@@ -1,0 +1,60 @@
+"""The files that the tests of the command validate, and how they run it."""
+import os
+import subprocess
+import sys
+import tempfile
+import unittest
+from pathlib import Path
+
+SCHEMA = """{
+  "$id": "https://example.com/person",
+  "not": {"const": 1},
+  "properties": {"name": {"type": "string"}, "age": {"minimum": 0}, "friends": {"items": {"$ref": "person"}}},
+  "required": ["name"]
+}"""
+NAME = "https://example.com/person#/properties/name/type"
+AGE = "https://example.com/person#/properties/age/minimum"
+TWO = '{\n  "age": -1,\n  "friends": [{"name": "Bé", "age": -2}],\n  "name": "A"\n}\n'
+TWO_LINES = (f"two.json:3:37: less than 0 (/friends/0/age; minimum, {AGE})\n"
+             f"two.json:2:10: less than 0 (/age; minimum, {AGE})\n")
+FILES = {
+    "schema.json": SCHEMA,
+    "relative.json": '{"$id": "x", "$ref": "schema.json"}',
+    "other.json": '{"$ref": "urn:name"}',
+    "string.json": '{"type": "string"}',
+    "bad.json": '{\n  "allOf": [true,\n    {"type": 1}]}',
+    "data/ada.json": '{"name": "Ada"}',
+    "data/sub/bob.json": '{"name":\n 1}',
+    "data/notes.txt": "none",
+    "data/rows.jsonl": '{"name": "A"}\n\n{"name": "B", "age": -1}\n',
+    "two.json": TWO,
+    "half.json": '{"name": "A",\n "age": 0.5}',
+    "torn.json": '{"name":\n\n "A"',
+    "names.json": '{"a": 1}',
+    "no_names.json": '{"propertyNames": false}',
+    "a=b.json": '{"type": "string"}',
+    "empty/x": "",
+}
+SOME = ["validate", "--schema", "schema.json"]
+
+
+class Case(unittest.TestCase):
+    @classmethod
+    def setUpClass(cls):
+        folder = tempfile.TemporaryDirectory()
+        cls.addClassCleanup(folder.cleanup)
+        cls.folder = Path(folder.name)
+        for name, text in FILES.items():
+            path = cls.folder / name
+            path.parent.mkdir(parents=True, exist_ok=True)
+            path.write_text(text, "utf-8")
+
+    def run_command(self, *words, given=""):
+        """Standard output, standard error, and the exit status."""
+        done = subprocess.run([sys.executable, "-m", "jschema", *words], input=given, cwd=self.folder, check=False,
+                              stdout=subprocess.PIPE, stderr=subprocess.PIPE, encoding="utf-8")
+        return done.stdout, done.stderr, done.returncode
+
+    def judge(self, words, out, said, status, given="", schema="schema.json"):
+        """What a validation writes: all of standard output, and all of standard error."""
+        self.assertEqual(self.run_command("validate", "--schema", schema, *words, given=given), (out, said, status))

@@ -1,0 +1,226 @@
+"""Positions in JSON texts, against the reference's reader."""
+import json
+import re
+import unittest
+from unittest import mock
+
+import jschema
+from jschema import NotJson, Text, positions
+from jschema.command.inputs import refusal_position
+from jschema.locations import pointer
+from jschema.scanner import scan
+from tests.reference import json_text
+from tests.support.rows import texts
+
+# Of the rows, two arrays of a million numbers are larger.
+LARGE = 100_000
+SAMPLE = ('{"a\\u00e9" : [1, -20.5e+1,\n "\\ud83d\\ude00é", {}], "b/~": {"": null}, '
+          '"b/~": [true,\r\n\t[], false]}\n').encode()
+JSON = (
+    b"-0", b"1E-5", b"1e308", b'"\\u0000"', b"\r\n1\r\n", b"[[], {}]", b'"\\/\\b"', b'{"": 1, "": 2}',
+    b"123456789012345678901234567890", b"-1.5e-999", b'"\x7f"', b"\t\n[]", b'{"a":{"a":{}}}',
+)
+NOT_JSON = (
+    b"", b" ", b"01", b"-", b"1.", b"1e", b"+1", b".5", b"1e400", b"1" * 400, b"\xef\xbb\xbf1", b"NaN", b"-Infinity",
+    b'"\\ud800"', b'"\t"', b'"\\udc00\\ud800"', b'"\\ud800\\u0041"', b'"\\x41"', b'"\\u12g4"', b'"a', b"'a'",
+    b"[1,]", b'{"a":1,}', b"[,1]", b"[1 2]", b'{"a" 1}', b"{1:1}", b"[}", b"{]", b"[1]]", b"nul", b"True", b"1 1",
+    b"\x0b1",
+)
+
+
+def naive(data, offset):
+    """Line and column by the characters before a byte."""
+    before = data[:offset].decode()
+    return before.count("\n") + 1, len(before) - before.rfind("\n")
+
+
+def nodes(node, tokens=()):
+    """Each node below this one, with its tokens."""
+    yield tokens, node
+    children = node.children
+    pairs = children.items() if isinstance(children, dict) else enumerate(children or ())
+    for token, child in pairs:
+        yield from nodes(child, (*tokens, str(token)))
+
+
+def value_at(value, tokens):
+    for token in tokens:
+        value = value[int(token) if isinstance(value, list) else token]
+    return value
+
+
+def is_json(data):
+    try:
+        json_text.any_value(data)
+    except json_text.NotJson:
+        return False
+    return True
+
+
+class Positions(unittest.TestCase):
+    def judge(self, data):
+        """A text is read as the reference reads it, and every value and name is where the text has it."""
+        text = Text(data)
+        if not is_json(data):
+            with self.assertRaises(NotJson) as raised:
+                text.value("")
+            self.assertLessEqual(raised.exception.offset, len(data))
+            return
+        value = json_text.any_value(data)
+        found = list(nodes(scan(data)))
+        self.assertEqual(self.leaves(value), len(found))
+        # The values of a text that is known to be JSON are found too, those in the middle of it first.
+        known = Text(data, is_json=True)
+        for tokens, node in sorted(found, key=lambda it: it[1].offset % 7):
+            self.assertEqual(known.value(pointer(tokens)), text.value(pointer(tokens)))
+            self.assertEqual(known.name(pointer(tokens)), text.name(pointer(tokens)))
+        for tokens, node in found:
+            self.judge_node(text, node, tokens, value_at(value, tokens))
+
+    def leaves(self, value):
+        """How many values a value holds, itself included."""
+        below = value.values() if isinstance(value, dict) else value if isinstance(value, list) else ()
+        return 1 + sum(map(self.leaves, below))
+
+    def judge_node(self, text, node, tokens, value):
+        if isinstance(value, (dict, list)):
+            self.assertIs(type(node.children), type(value))
+            self.assertIn(text.data[node.offset:node.offset + 1] + text.data[node.end - 1:node.end], (b"[]", b"{}"))
+        else:
+            found = json_text.any_value(text.data[node.offset:node.end])
+            self.assertEqual((type(found), found), (type(value), value))
+        at = text.value(pointer(tokens))
+        self.assertEqual(at, (node.offset, *naive(text.data, node.offset)))
+        self.assertEqual(pointer(list(map(str, text.path(pointer(tokens))))), pointer(tokens))
+        if node.name is not None:
+            begin = text.name(pointer(tokens)).offset
+            name = re.match(rb'"(?:[^"\\]|\\.)*"', text.data[begin:])[0]
+            self.assertEqual(json.loads(name), tokens[-1])
+            self.assertRegex(text.data[begin + len(name):node.offset], rb"\A[ \t\r\n]*:[ \t\r\n]*\Z")
+
+    def test_rows(self):
+        for name, data in texts():
+            if len(data) < LARGE:
+                with self.subTest(name):
+                    if len(data) < 3000:
+                        self.judge(data)
+                    else:
+                        self.assertEqual(self.is_scanned(data), is_json(data))
+
+    def test_large_row(self):
+        """The largest row, by Python's reader: the reference takes long."""
+        data = max((data for _, data in texts()), key=len)
+        self.assertGreater(len(data), LARGE)
+        length = len(json.loads(data))
+        self.assertEqual(len(scan(data).children), length)
+        text = Text(data, is_json=True)
+        self.assertEqual(data[text.value(f"/{length - 1}").offset - 1:][:1], b",")
+        with self.assertRaises(LookupError):
+            text.value(f"/{length}")
+
+    def is_scanned(self, data):
+        try:
+            Text(data).value("")
+        except NotJson:
+            return False
+        return True
+
+    def test_sample(self):
+        self.judge(SAMPLE)
+
+    def test_torn(self):
+        for end in range(len(SAMPLE)):
+            self.assertEqual(self.is_scanned(SAMPLE[:end]), is_json(SAMPLE[:end]), SAMPLE[:end])
+
+    def test_other_bytes(self):
+        for at in range(len(SAMPLE)):
+            for byte in b'\x00\x1f "\\[]{},:0-.eEtun\x80\xc3\xff':
+                data = SAMPLE[:at] + bytes([byte]) + SAMPLE[at + 1:]
+                self.assertEqual(self.is_scanned(data), is_json(data), data)
+
+    def test_texts(self):
+        for data in (*JSON, *NOT_JSON):
+            with self.subTest(data):
+                self.assertEqual(is_json(data), data in JSON)
+                self.judge(data)
+
+    def test_last_of_a_name_counts(self):
+        text = Text(b'{"a": 1,\n "a": [2]}')
+        self.assertEqual(text.value("/a"), (15, 2, 7))
+        self.assertEqual(text.name("/a"), (10, 2, 2))
+        self.assertEqual(text.value("/a/0"), (16, 2, 8))
+
+    def test_nested(self):
+        for data, accepted in ((b"[" * 127 + b"]" * 127, True), (b"[" * 128 + b"]" * 128, False), (b"[" * 10**6, False),
+                               (b'{"a":' * 127 + b"1" + b"}" * 127, True), (b'{"a":' * 10**5, False)):
+            self.assertEqual(self.is_scanned(data), accepted)
+        self.assertEqual(Text(b"[" * 127 + b"]" * 127).value("/0" * 126).column, 127)
+
+    def test_long_line(self):
+        text = Text(("[" + ", ".join(['"é"'] * 20000) + "]").encode())
+        for index in (0, 1, 700, 19999):
+            self.assertEqual(text.value(f"/{index}"), (1 + 6 * index, 1, 2 + 5 * index))
+
+    def test_no_such_value(self):
+        text = Text(b'{"a": [1]}')
+        for place in ("/b", "/a/1", "/a/-1", "/a/00", "/a/\u0660", "/a/0/0", "/a/-", "/a/" + "9" * 5000):
+            with self.subTest(place[:9]), self.assertRaises(LookupError):
+                text.value(place)
+
+    def test_no_characters(self):
+        with self.assertRaises(NotJson) as raised:
+            Text(b'["\xc3"]').value("")
+        self.assertEqual(raised.exception.offset, 2)
+
+    def test_no_pointer(self):
+        text = Text(b'{"age": 1, "~2": 2, "": 3}')
+        for place in ("age", "~2", "/~2", "/age~", "/~", "#/age", " "):
+            for call in (text.value, text.name, text.path):
+                with self.subTest(place), self.assertRaisesRegex(ValueError, "isn't a JSON Pointer"):
+                    call(place)
+        self.assertEqual((text.value("/").offset, text.value("/~02").offset), (24, 17))
+
+    def test_strings(self):
+        """Strings with escapes and brackets, beside and around what is asked for."""
+        odd = json.dumps(['"', "\\", '\\"', "[", "}", "]{", 'a"[', "\\\\", "\n", ""])
+        data = ('{"a]": %s, "b\\"[": {"c": %s, "\\\\": [%s, 7]}, "d": 8}' % (odd, odd, odd)).encode()
+        for text in (Text(data), Text(data, is_json=True)):
+            self.assertEqual(text.value("/d").offset, data.index(b"8"))
+            self.assertEqual(text.value('/b"[/\\/1').offset, data.index(b"7"))
+            self.assertEqual(text.name('/b"[/\\').offset, data.index(b'"\\\\": ['))
+
+
+class WithoutAPass(unittest.TestCase):
+    """The positions that the engine's answer is enough for: the text isn't scanned again."""
+
+    def setUp(self):
+        patched = mock.patch.object(positions, "scan", side_effect=AssertionError("a pass over the whole text"))
+        patched.start()
+        self.addCleanup(patched.stop)
+
+    def test_errors(self):
+        data = b'[[{}, [1, "]"], {"a": [0]}],\n"A", ' + b", ".join([b'{"b": "[}\\""}'] * 1000) + b"]"
+        with jschema.Schemas({"a:b": {"items": {"type": ["array", "object"]}}}) as schemas:
+            [error] = schemas.errors("a:b", data)
+            self.assertEqual((error.position, error.path), ((29, 2, 1), [1]))
+
+    def test_many_errors(self):
+        """Each position is found where the one before ended: not from the beginning again."""
+        data = json.dumps([{"a": number} for number in range(30_000)]).encode()
+        with jschema.Schemas({"a:b": {"items": {"properties": {"a": {"type": "string"}}}}}) as schemas:
+            errors = schemas.errors("a:b", data)
+            found = [error.position.offset for error in errors]
+        self.assertEqual(found, [it.start() for it in re.finditer(rb"\d+", data)])
+
+    def test_refusals(self):
+        for data, entry, expected in ((b'[1,\n {"a": [1.5]}]', "a:b", (12, 2, 9)), (b"\n1", "a:b", (0, 1, 1)),
+                                      (b" " * 2**24 + b"1", "a:b", (0, 1, 1)), (b"\n1", "a:c", (0, 1, 1))):
+            with jschema.Schemas({"a:b": {"$ref": "#"}}) as schemas, self.assertRaises(jschema.Refused) as raised:
+                schemas.is_valid(entry, data)
+            self.assertEqual(refusal_position(data, raised.exception), expected)
+
+    def test_document(self):
+        data = b'{"allOf": [true,\n {"type": 1}]}'
+        with self.assertRaises(jschema.Refused) as raised:
+            jschema.Schemas({"a:b": data})
+        self.assertEqual(refusal_position(data, raised.exception)[1:], (2, 11))

@@ -1,0 +1,13 @@
+pub mod Again
+pub mod Agreeing
+pub mod Alternatives
+pub mod Each
+pub mod EachOnce
+pub mod Gathered
+pub mod InOrder
+pub mod Loops
+pub mod Outcome
+pub mod PlainChanges
+pub mod Prefixes
+pub mod Staying
+pub mod Examples

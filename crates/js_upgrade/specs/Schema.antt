@@ -1,0 +1,182 @@
+-- What a keyword of a schema becomes in 2020-12: a line for each change. Its argument comes with the schemas that it
+-- holds upgraded already; its siblings come as they were.
+use Rattle.std.specs.Prelude.{List, [], ◌∷◌, ◌++◌, Bool, true, false, not, ◌&&◌, Option, Some, None}
+use Rattle.std.specs.Prelude.{codes, map, bytes_eq, if◌then◌else◌}
+use Rattle.std.specs.List.{list_any}
+use Rattle.js_doc.specs.Value.{Value, truth, text, list, object, no_items}
+use Rattle.js_doc.specs.Value.{item, Text, Values, Named, items, members}
+use Rattle.js_doc.specs.Members.{get, put, has_name}
+use Rattle.js_doc.specs.Parts.{item_list, member_list, members_of}
+use Rattle.js_upgrade.specs.Dialect.{is_before}
+use Rattle.js_upgrade.specs.Keyword.{change_in}
+use Rattle.js_upgrade.specs.declared.dialect.Dialect.{Dialect}
+use Rattle.js_upgrade.specs.declared.dialect.Dialect.TheVariants.{Draft2019}
+use Rattle.js_upgrade.specs.declared.keyword.Change.{Change}
+use Rattle.js_upgrade.specs.declared.keyword.Change.TheVariants.{Stays, Refers}
+use Rattle.js_upgrade.specs.declared.keyword.Change.TheVariants.{Goes, Identifier, Definitions, Items as ItemsChange}
+use Rattle.js_upgrade.specs.declared.keyword.Change.TheVariants.{AdditionalItems, Dependencies, Minimum}
+use Rattle.js_upgrade.specs.declared.keyword.Change.TheVariants.{Maximum, Divisor}
+use Rattle.js_upgrade.specs.declared.keyword.Change.TheVariants.{Types, Disallowed, Extended, Properties}
+
+-- ---- beside a reference
+
+-- before 2019-09 a reference hides its siblings (draft-03, 5.28; JSON Reference, 3; draft-06 Core, 8; draft-07 Core,
+-- 8.3)
+abbrev pub hides : Dialect → Named → Bool
+hides d siblings = is_before d Draft2019 && has_name (codes "$ref") siblings
+
+-- what stands in `definitions` can be referred to, and what doesn't act may stay
+abbrev pub beside_reference : Change → Change
+beside_reference Refers = Refers
+beside_reference Definitions = Definitions
+beside_reference Stays = Stays
+beside_reference _ = Goes
+
+abbrev pub change_of : Dialect → Named → Text → Change
+change_of d siblings name =
+    if hides d siblings then beside_reference (change_in d name) else change_in d name
+
+-- ---- words of the table
+
+abbrev pub one : Text → Value → Named
+one name v = (name, v) ∷ []
+
+-- these members among those
+abbrev pub put_all : Named → Named → Named
+put_all [] among = among
+put_all (m ∷ ms) among = put_all ms (put m.0 m.1 among)
+
+-- what becomes of each member, among those
+abbrev pub gathered : (Text → Value → Named) → Named → Named → Named
+gathered becomes [] among = among
+gathered becomes (m ∷ ms) among = gathered becomes ms (put_all (becomes m.0 m.1) among)
+
+-- the members under the name, if there are some
+abbrev pub some_members : Text → Named → Named
+some_members name [] = []
+some_members name ms = one name (object (members ms))
+
+-- the items under the name, if there are some
+abbrev pub some_items : Text → Values → Named
+some_items name [] = []
+some_items name vs = one name (list (items vs))
+
+abbrev pub is_true : Option Value → Bool
+is_true (Some (truth b)) = b
+is_true _ = false
+
+abbrev pub is_list : Option Value → Bool
+is_list (Some (list vs)) = true
+is_list _ = false
+
+-- ---- each text once, where it comes first
+
+abbrev pub is_new : List Text → Value → Bool
+is_new seen (text s) = not (list_any (bytes_eq s) seen)
+is_new seen _ = true
+
+abbrev pub seen_with : List Text → Value → List Text
+seen_with seen (text s) = s ∷ seen
+seen_with seen _ = seen
+
+abbrev pub once : List Text → Values → Values
+once seen [] = []
+once seen (v ∷ vs) = if is_new seen v then v ∷ once (seen_with seen v) vs else once (seen_with seen v) vs
+
+-- ---- items (draft-03, 5.5; draft-04, 5.3.1; draft-06, 6.9; draft-07, 6.4.1; 2019-09, 9.3.1.1)
+
+abbrev pub list_or_schema_upgraded : Value → Named
+list_or_schema_upgraded (list vs) = some_items (codes "prefixItems") (item_list vs)
+list_or_schema_upgraded v = one (codes "items") v
+
+-- ---- dependencies (draft-03, 5.8; draft-04, 5.4.5; draft-06, 6.21; draft-07, 6.5.7)
+
+-- a member that lists names, or is one
+abbrev pub dependent_names : Text → Value → Named
+dependent_names name (list vs) = one name (list (items (once [] (item_list vs))))
+dependent_names name (text s) = one name (list (item (text s) no_items))
+dependent_names name v = []
+
+-- a member that is a schema
+abbrev pub dependent_schema : Text → Value → Named
+dependent_schema name (list vs) = []
+dependent_schema name (text s) = []
+dependent_schema name v = one name v
+
+abbrev pub dependencies_upgraded : Value → Named
+dependencies_upgraded (object ms) =
+    some_members (codes "dependentRequired") (gathered dependent_names (member_list ms) [])
+    ++ some_members (codes "dependentSchemas") (gathered dependent_schema (member_list ms) [])
+dependencies_upgraded _ = []
+
+-- ---- type and disallow of draft-03 (5.1, 5.25)
+
+abbrev pub simple_types : List Text
+simple_types = codes "string" ∷ codes "number" ∷ codes "integer" ∷ codes "boolean" ∷ codes "object" ∷ codes "array"
+    ∷ codes "null" ∷ []
+
+unfoldable pub is_simple_type : Text → Bool
+is_simple_type name = list_any (bytes_eq name) simple_types
+
+-- `any`, or a name that isn't known: it stands for any type
+abbrev pub is_any : Value → Bool
+is_any (text s) = not (is_simple_type s)
+is_any (object ms) = false
+is_any _ = true
+
+-- a name of a type, or a schema
+abbrev pub alternative : Value → Value
+alternative (text s) = object (members (one (codes "type") (text s)))
+alternative v = v
+
+-- one of them has to hold
+abbrev pub alternatives_upgraded : Values → Named
+alternatives_upgraded [] = one (codes "anyOf") (list (item (truth false) no_items))
+alternatives_upgraded vs =
+    if list_any is_any vs then [] else one (codes "anyOf") (list (items (map alternative vs)))
+
+-- the keywords that say it
+abbrev pub types_upgraded : Value → Named
+types_upgraded (text s) = if is_simple_type s then one (codes "type") (text s) else []
+types_upgraded (list vs) = alternatives_upgraded (item_list vs)
+types_upgraded v = alternatives_upgraded (v ∷ [])
+
+-- ---- extends (draft-03, 5.26)
+
+abbrev pub extends_upgraded : Value → Named
+extends_upgraded (list vs) = some_items (codes "allOf") (item_list vs)
+extends_upgraded v = one (codes "allOf") (list (item v no_items))
+
+-- ---- required of draft-03 stands in the members that it speaks of (5.7)
+
+abbrev pub required_names : Named → Values
+required_names [] = []
+required_names (m ∷ ms) =
+    if is_true (get (codes "required") (members_of m.1)) then text m.0 ∷ required_names ms else required_names ms
+
+abbrev pub members_found : Option Value → Named
+members_found None = []
+members_found (Some v) = members_of v
+
+-- ---- the table
+
+module _ (siblings : Named) (name : Text) (v : Value) where
+  abbrev pub upgraded_by : Change → Named
+  upgraded_by Goes = []
+  upgraded_by Identifier = one (codes "$id") v
+  upgraded_by Definitions = one (codes "$defs") v
+  upgraded_by ItemsChange = list_or_schema_upgraded v
+  upgraded_by AdditionalItems = if is_list (get (codes "items") siblings) then one (codes "items") v else []
+  upgraded_by Dependencies = dependencies_upgraded v
+  upgraded_by Minimum =
+      one (if is_true (get (codes "exclusiveMinimum") siblings) then codes "exclusiveMinimum" else codes "minimum") v
+  upgraded_by Maximum =
+      one (if is_true (get (codes "exclusiveMaximum") siblings) then codes "exclusiveMaximum" else codes "maximum") v
+  upgraded_by Divisor = one (codes "multipleOf") v
+  upgraded_by Types = types_upgraded v
+  upgraded_by Disallowed = one (codes "not") (object (members (put_all (types_upgraded v) [])))
+  upgraded_by Extended = extends_upgraded v
+  upgraded_by Properties =
+      one (codes "properties") v
+      ++ some_items (codes "required") (required_names (members_found (get (codes "properties") siblings)))
+  upgraded_by _ = one name v

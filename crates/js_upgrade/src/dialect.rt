@@ -1,0 +1,83 @@
+//! The dialects, and the URIs that name them.
+ghost use Rattle.std.specs.Prelude.{◌≡◌, option_map};
+ghost use Rattle.js_upgrade.specs.Dialect.{after, dialect_named, is_before, rank, version_named};
+
+/// A draft of JSON Schema.
+#[derive(Clone, Copy, Debug, PartialEq, Eq)]
+pub enum Dialect {
+    /// draft-03
+    Draft03,
+    /// draft-04
+    Draft04,
+    /// draft-06
+    Draft06,
+    /// draft-07
+    Draft07,
+    /// 2019-09
+    Draft2019,
+    /// 2020-12
+    Draft2020,
+}
+
+impl Dialect {
+    /// The dialect that a URI names, as `$schema` names it, or None where it names none of the six.
+    pub fn named(uri: &str) -> Option<Dialect>
+        ensures { result ≡ dialect_named uri.now }
+    {
+        match after("https://json-schema.org/draft", uri) {
+            Some(version) => version_named(version),
+            None => version_named(after("http://json-schema.org/draft", uri)?),
+        }
+    }
+
+    /// Whether this draft is older than the other.
+    pub fn is_before(self, other: Dialect) -> bool
+        ensures { result ≡ is_before self other }
+    {
+        self.rank() < other.rank()
+    }
+
+    fn rank(self) -> u8
+        ensures { result ≡ rank self }
+    {
+        match self {
+            Dialect::Draft03 => 0,
+            Dialect::Draft04 => 1,
+            Dialect::Draft06 => 2,
+            Dialect::Draft07 => 3,
+            Dialect::Draft2019 => 4,
+            Dialect::Draft2020 => 5,
+        }
+    }
+}
+
+// What stands behind the prefix.
+fn after<'t>(prefix: &str, text: &'t str) -> Option<&'t str>
+    ensures { option_map (λ t. t.now) result ≡ after prefix.now text.now }
+{
+    text.strip_prefix(prefix)
+}
+
+#[tactic(auto, unfolding(crate::specs::Dialect::version_named))]
+fn version_named(path: &str) -> Option<Dialect>
+    ensures { result ≡ version_named path.now }
+{
+    match path {
+        "-03/schema" | "-03/schema#" | "-03/hyper-schema" | "-03/hyper-schema#" => {
+            Some(Dialect::Draft03)
+        }
+        "-04/schema" | "-04/schema#" | "-04/hyper-schema" | "-04/hyper-schema#" => {
+            Some(Dialect::Draft04)
+        }
+        "-06/schema" | "-06/schema#" | "-06/hyper-schema" | "-06/hyper-schema#" => {
+            Some(Dialect::Draft06)
+        }
+        "-07/schema" | "-07/schema#" | "-07/hyper-schema" | "-07/hyper-schema#" => {
+            Some(Dialect::Draft07)
+        }
+        "/2019-09/schema" | "/2019-09/schema#" => Some(Dialect::Draft2019),
+        "/2019-09/hyper-schema" | "/2019-09/hyper-schema#" => Some(Dialect::Draft2019),
+        "/2020-12/schema" | "/2020-12/schema#" => Some(Dialect::Draft2020),
+        _ => None,
+    }
+}

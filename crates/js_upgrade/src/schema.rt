@@ -1,0 +1,106 @@
+//! The keywords of a schema, beside one another.
+ghost use Rattle.std.specs.Prelude.{◌≡◌, option_map};
+ghost use Rattle.js_doc.specs.Seen.{value_of};
+ghost use Rattle.js_upgrade.specs.Schema.{beside_reference, change_of, hides};
+ghost use Rattle.js_upgrade.specs.Upgrade.{declared, dialect_in, identifier, identifies};
+ghost use Rattle.js_upgrade.specs.Upgrade.{is_identifier, is_uri, own_dialect};
+
+use crate::dialect::Dialect;
+use crate::keyword::{Change, change_in};
+use js_doc::{Doc, Members};
+
+/// What becomes of a keyword among its siblings.
+pub fn change_of(dialect: Dialect, siblings: &Members, name: &str) -> Change
+    ensures { result ≡ change_of dialect siblings.now name.now }
+{
+    let change = change_in(dialect, name);
+    if hides(dialect, siblings) {
+        beside_reference(change)
+    } else {
+        change
+    }
+}
+
+// Whether a reference hides its siblings.
+fn hides(dialect: Dialect, siblings: &Members) -> bool
+    ensures { result ≡ hides dialect siblings.now }
+{
+    dialect.is_before(Dialect::Draft2019) && siblings.get("$ref").is_some()
+}
+
+fn beside_reference(change: Change) -> Change
+    ensures { result ≡ beside_reference change }
+{
+    match change {
+        Change::Refers => Change::Refers,
+        Change::Definitions => Change::Definitions,
+        Change::Stays => Change::Stays,
+        _ => Change::Goes,
+    }
+}
+
+/// The dialect of a schema that stands in one of the dialect given.
+pub fn own_dialect(dialect: Dialect, siblings: &Members) -> Dialect
+    ensures { result ≡ own_dialect dialect siblings.now }
+{
+    match declared(siblings) {
+        Some(own) => {
+            if identifies(own, siblings) {
+                own
+            } else {
+                dialect
+            }
+        }
+        None => dialect,
+    }
+}
+
+fn declared(siblings: &Members) -> Option<Dialect>
+    ensures { result ≡ declared siblings.now }
+{
+    match siblings.get("$schema") {
+        Some(uri) => dialect_in(uri),
+        None => None,
+    }
+}
+
+pub(crate) fn dialect_in(uri: &Doc) -> Option<Dialect>
+    ensures { result ≡ dialect_in (value_of uri.now) }
+{
+    match uri {
+        Doc::Text(text) => Dialect::named(text.as_str()),
+        _ => None,
+    }
+}
+
+fn identifies(dialect: Dialect, siblings: &Members) -> bool
+    ensures { result ≡ identifies dialect siblings.now }
+{
+    is_identifier(siblings.get(identifier(dialect))) && !hides(dialect, siblings)
+}
+
+fn identifier(dialect: Dialect) -> &'static str
+    ensures { result.now ≡ identifier dialect }
+{
+    if dialect.is_before(Dialect::Draft06) {
+        "id"
+    } else {
+        "$id"
+    }
+}
+
+fn is_identifier(found: Option<&Doc>) -> bool
+    ensures { result ≡ is_identifier (option_map (λ d. value_of d.now) found.entry) }
+{
+    match found {
+        Some(Doc::Text(uri)) => is_uri(uri.as_str()),
+        _ => false,
+    }
+}
+
+fn is_uri(uri: &str) -> bool
+    ensures { result ≡ is_uri uri.now }
+{
+    let bytes = uri.as_bytes();
+    !bytes.is_empty() && bytes[0] != b'#'
+}

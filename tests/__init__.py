@@ -1,0 +1,1 @@
+"""The tests, and the package that scripts share (`tests.support`)."""

@@ -1,0 +1,95 @@
+"""Tests of the scripts that test and time the library for C and the Python package: over fakes."""
+import os
+import shutil
+import subprocess
+from dataclasses import dataclass
+
+from benchmarks.turns import Noisy, in_turns
+from script_checks import FAKES, Check
+from tests.support.programs import HOME, skip
+
+# How a fake library for C is compiled (bindings/c/tests/fake.c), and what its tests must say of it.
+FAKE_LIBRARIES = {
+    "crashes": (["-DACT=abort()"], "-6"),
+    "hangs": (["-DACT=sleep(100)"], "no end after 1 s"),
+    "answers nothing": ([], "FAILED"),
+    "answers another row's text": ([r'-DANSWER="{\"valid\":false}\n"'], "FAILED"),
+    "refuses everything": (["-DSTATUS=3", r'-DANSWER="refused: document 0 at \"\": NotJson"'], "FAILED"),
+    "is valid in the right shape": (["-DRIGHT_SHAPE"], "FAILED"),
+}
+
+
+@dataclass
+class Turns:
+    """benchmarks/calls takes turns until no call is faster than the one inside it, and fails where it stays so."""
+
+    name: str
+    words: tuple = ("benchmarks/calls",)
+
+    def fault(self):
+        outer, inner = iter([(4, 5), (3, 3), (6, 6), (4, 4)]), iter([(9, 9), (8, 8), (7, 8), (2, 3)])
+        found = in_turns({"outer": lambda: next(outer), "inner": lambda: next(inner), "absent": lambda: None},
+                         [("outer", "inner")])
+        if found != {"outer": (3, 3), "inner": (2, 3), "absent": None} or next(outer, None):
+            return f"it took {found}"
+        try:
+            in_turns({"outer": lambda: (1, 1), "inner": lambda: (2, 2)}, [("outer", "inner")])
+        except Noisy as fault:
+            return None if str(fault) == "after 30 turns outer is faster than inner inside it" else str(fault)
+        return "a call that stays faster than the one inside it is taken"
+
+
+def of_callers(room):
+    """What tests the library for C and the Python package, and what times their calls: over fakes."""
+    missing, right = os.path.join(room.folder, "none"), os.path.join(HOME, "tests/reference/jschema.py")
+    # (A copy has no library.)
+    home = room.copy("callers")
+    python = ["bindings/python/test", "--seconds", "1", "test_usage", "--program"]
+    yield Check("bindings/python/test, no program", [*python, missing], f"no program at {missing}", home)
+    for fake, (body, says) in FAKES.items():
+        yield Check(f"bindings/python/test, a program that {fake}", [*python, room.executable(f"fakes/{fake}", body)],
+                    says if fake == "hangs" else "errors=1|failures=1", home)
+    yield Check("bindings/python/test, a program that is right",
+                ["bindings/python/test", "test_usage", "--program", right], home=home,
+                prints="^skipped: the engine of the library(.|\n)* 1 skipped$")
+    yield Check("bindings/python/test, no library where it is named", [*python, right, "--library", missing],
+                f"no library at {missing}", home)
+    yield Check("bindings/python/test, no such module", ["bindings/python/test", "none", "--program", right],
+                "No module named", home)
+    compiles = shutil.which("cc") is not None
+    for script in ("bindings/c/test", "benchmarks/calls"):
+        if script == "benchmarks/calls" or compiles:
+            yield Check(f"{script}, no program", [script, "--program", missing], f"no program at {missing}", home)
+            yield Check(f"{script}, no library", [script, "--program", right], "no library|needs the library", home,
+                        has_count=False)
+    test = ["bindings/c/test", "--program", right]
+    for name in ("CC", "CXX"):
+        yield Check(f"bindings/c/test, no compiler where {name} names one", test,
+                    f"no compiler none, which {name} names", home, {name: "none"})
+    yield Check("bindings/c/test, no such part", [*test, "none"], "no part none", home, has_count=False)
+    yield Check("bindings/c/test, no compiler", test, home=home, prints=" 1 skipped$",
+                env={"PATH": room.path_without_kit()})
+    yield Turns("benchmarks/calls, in turns")
+    if compiles:
+        yield from over_libraries(room, right)
+    else:
+        skip("bindings/c/test over libraries that are wrong: no compiler")
+
+
+def over_libraries(room, program):
+    """What tests the library for C, over fake ones."""
+    for fake, (flags, says) in FAKE_LIBRARIES.items():
+        home = room.copy(f"library that {fake}")
+        library, include = os.path.join(home, "out", "lib"), os.path.join(home, "out", "include")
+        os.makedirs(library)
+        os.makedirs(include)
+        shutil.copy(os.path.join(HOME, "bindings/c/jschema.h"), include)
+        compiler = ["cc", "-fPIC", *flags, "-I", include, os.path.join(HOME, "bindings/c/tests/fake.c"), "-o"]
+        subprocess.run([*compiler, os.path.join(library, "libjschema.so"), "-shared"], check=True)
+        subprocess.run([*compiler, os.path.join(library, "libjschema.a"), "-c"], check=True)
+        for part in ("rows", "calls", "memory", "threads", "refused"):
+            yield Check(f"bindings/c/test {part}, a library that {fake}",
+                        ["bindings/c/test", "--seconds", "1", "--program", program, part], says, home, env={"CC": "cc"})
+    hanging = room.executable("fakes/hangs", FAKES["hangs"][0])
+    yield Check("bindings/c/test rows, a program that hangs",
+                ["bindings/c/test", "--seconds", "1", "--program", hanging, "rows"], "no end after 1 s", home)

@@ -1,0 +1,51 @@
+"""Tests of the scripts that compare the pages with the sources: over pages and sources with a fault each."""
+import os
+import shutil
+from pathlib import Path
+
+from script_checks import Check
+from tests.support.programs import HOME
+
+# What each script compares, the file with the fault, what stands there, what in its place, and what must be said.
+FAULTS = [
+    ("tools/rooms --check", "docs/ARCHITECTURE.md", "| `searching/`, `finished_world` |", "| `finished_world` |",
+     r"lacks: \| `js_eval` \| `cursors/` \|"),
+    ("tools/rooms --check", "docs/ARCHITECTURE.md", "`cursors/` and `searching/` call each other", "all is well",
+     "lacks: Five crates have rooms"),
+    ("tools/rooms --check", "docs/ARCHITECTURE.md", "| | `writing/` |", "| | `reading/` |",
+     "aren't those of the crates"),
+    ("tools/rooms --check", "crates/js_tree/src/forms.rt", "use crate::reducing::merging::merge_condense;\n",
+     "use crate::{reducing::merging::merge_condense, writing::node_text};\n", r"`writing/` \| .*`forms`, `parts`"),
+    ("tools/error-docs js_doc", "crates/js_doc/src/lib.rt", "",
+     "\npub fn one(a: [u8; 2]) -> Result<(), Memory>\n{\n}\n",
+     "one returns a Result"),
+    ("tools/error-docs none", "crates/js_doc/src/lib.rt", "", "", "no crate none"),
+    ("tools/page-facts --check", "crates.txt", "js_doc: serde_json", "js_doc: other serde_json",
+     "the trusted libraries are `other`, `serde_json`"),
+    ("tools/page-facts --check", "CONTRIBUTING.md", "`crates/js_assert/src/keyword.rt`",
+     "`crates/js_assert/src/lib.rt`",
+     "A new assertion lacks crates/js_assert/src/keyword.rt"),
+    ("tools/page-facts --check", "CONTRIBUTING.md", "`crates/js_assert/src/keyword.rt`",
+     "`crates/js_assert/src/none.rt`",
+     "there is no crates/js_assert/src/none.rt"),
+    # (Not in one word here, which would be a source that has it.)
+    ("tools/page-facts --check", "README.md", "## Licence", "`walk_" "nowhere` and [one](docs/DECISIONS.md#none)\n\n##",
+     r"no source has `walk_\w+`\n(.|\n)*there is no docs/DECISIONS.md#none"),
+]
+
+
+def of_facts(room):
+    """Each fault in a copy of the pages and of the sources of the crates."""
+    base = Path(room.copy("facts"))
+    for name in ("README.md", "CONTRIBUTING.md", "test", "jschema"):
+        shutil.copy(Path(HOME, name), base)
+    for part in ("docs", "crates"):
+        shutil.copytree(Path(HOME, part), base / part, ignore=shutil.ignore_patterns("out", "must-fail"))
+    for number, (command, file, old, new, says) in enumerate(FAULTS):
+        home = room.copied(base, f"fact {number}")
+        path = Path(home, file)
+        text = path.read_text(encoding="utf-8")
+        path.write_text(text.replace(old, new, 1) if old else text + new, encoding="utf-8")
+        yield Check(f"{command}, a fault in {os.path.basename(file)}: {says}", command.split(), says, str(home),
+                    has_count="none" not in command)
+    yield Check("tools/rooms --check", ["tools/rooms", "--check"], home=str(base))

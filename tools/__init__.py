@@ -1,0 +1,1 @@
+"""Scripts for the pages, the gate and the build."""

@@ -1,0 +1,90 @@
+"""What tools/interface compares with interface.toml: the constants of the crates."""
+import re
+from pathlib import Path
+
+CRATES = Path(__file__).resolve().parent.parent / "crates"
+
+
+def found(path, pattern, part=None):
+    """All that a pattern finds in a file of a crate; with `part`, in what a pattern finds there first."""
+    text = (CRATES / path).read_text(encoding="utf-8")
+    if part:
+        text = (re.search(part, text, re.S) or [""])[0]
+    return re.findall(pattern, text)
+
+
+def formats(interface):
+    """Where the crates have the formats: by name, and by number."""
+    names = {it["name"]: it["name"].capitalize() for it in interface["format"]}
+    numbers = {it["number"]: it["name"].capitalize() for it in interface["format"]}
+    yield ("js_tree/src/forms.rt", "Format", set(names.values()),
+           set(found("js_tree/src/forms.rt", r"\n    (\w+),", r"pub enum Format \{.*?\n\}")))
+    yield ("js_command/src/words.rt", "format_of", names,
+           dict(found("js_command/src/words.rt", r'"(\w+)" => Some\(Format::(\w+)\)')))
+    yield ("js_command/specs/Words.antt", "format_of", names,
+           dict(found("js_command/specs/Words.antt", r'codes "(\w+)"\) then Some (\w+)')))
+    yield ("jschema_c/src/status.rt", "format_numbered", numbers,
+           {int(number): name for number, name in found("jschema_c/src/status.rt", r"(\d+) => Some\(Format::(\w+)\)")})
+    yield ("jschema_c/specs/Status.antt", "format_number", numbers,
+           {int(number): name for name, number in found("jschema_c/specs/Status.antt", r"format_number (\w+) = (\d+)")})
+    yield ("jschema_c/specs/Status.antt", "last_format", [str(max(numbers))],
+           found("jschema_c/specs/Status.antt", r"last_format = (\d+)"))
+
+
+def statuses(interface):
+    """Where the crates have the exit statuses, and what a call of the C library answers."""
+    of_c = {it["c_name"].capitalize(): it["number"] for it in interface["status"]}
+    for path, pattern in (("jschema_c/src/status.rt", r"Status::(\w+) => (\d+)"),
+                          ("jschema_c/specs/Status.antt", r"code status\.(\w+) = (\d+)")):
+        yield path, "code", of_c, {name: int(number) for name, number in found(path, pattern)}
+    path = "js_command/src/status.rt"
+    yield (path, "the statuses", {it["name"]: it["number"] for it in interface["status"]},
+           {name: int(number) for name, number in found(path, r"pub const (\w+): u8 = (\d+);")})
+
+
+def usages(interface, usage):
+    """Where the crates have the usage texts."""
+    texts = {usage, f"usage: {interface['pairs_usage']}"}
+    yield ("js_command/src/words.rt", "the usage texts", texts,
+           set(found("js_command/src/words.rt", r'b"(usage: .*)\\n"')))
+    yield ("js_command/specs/Words.antt", "the usage texts", texts,
+           set(found("js_command/specs/Words.antt", r'codes "(usage: .*)"')))
+
+
+def refusals(interface):
+    """Where the crates have the names of what is refused."""
+    names = [it["name"] for it in sorted(interface["refusal"], key=lambda it: it["number"])]
+    kinds = found("js_bundle/src/refusal.rt", r"\n    (\w+),", r"pub enum RefusalKind \{.*?\n\}")[1:]
+    yield "interface.toml", "the numbers", list(range(1, len(names) + 1)), [
+        it["number"] for it in interface["refusal"]]
+    yield "js_bundle/src/refusal.rt", "RefusalKind", names[:len(kinds)], kinds
+    own = {name: name for name in kinds}
+    failures = {it["text"].split()[-1] for it in interface["line"] if it["text"].startswith("failed: ")}
+    for path, pattern in (("js_output/src/fault_line.rt", r'RefusalKind::(\w+) => "(\w+)"'),
+                          ("js_output/specs/Line.antt", r'kind_name kind\.(\w+) = codes "(\w+)"')):
+        yield path, "the names", {"Memory": "Memory", **own}, dict(found(path, pattern))
+        ends = set(found(path, r': (\w+)"')) - failures
+        yield path, "all names", set(names), set(kinds) | ends
+    entries = found("js_bundle/src/refusal.rt", r"\n    (\w+),", r"pub enum EntryFault \{.*?\n\}")[1:]
+    yield "js_bundle/src/refusal.rt", "EntryFault", {it["name"] for it in interface["checks"]["entry"]}, set(entries)
+    given = {it["name"] for kind in ("document", "schema", "keyword", "reference") for it in interface["checks"][kind]}
+    yield "interface.toml", "the checks of documents", set(kinds), given
+
+
+def limits(interface):
+    """Where the crates have the limits: as a constant, a definition, a field, or what a function returns."""
+    for limit in interface["limit"]:
+        for place in limit["in"]:
+            path, name = place.split(": ")
+            forms = (f"const {name}: usize =", rf"(?:\n|^){name} =", rf"\n +{name}:(?= \d)",
+                     rf"fn {name}\(\)[^{{]*{{[^}}]*}}\s*{{")
+            values = found(path, rf"(?:{'|'.join(forms)})\s*([\d_]+)")
+            yield path, name, [limit["value"]], [int(it.replace("_", "")) for it in values]
+
+
+def faults(interface, usage):
+    """How many comparisons there are, and of each that fails what it finds."""
+    compared = [*formats(interface), *statuses(interface), *usages(interface, usage), *refusals(interface),
+                *limits(interface)]
+    return len(compared), [f"{path}: {name}: {there}, and interface.toml has {wanted}"
+                           for path, name, wanted, there in compared if wanted != there]

@@ -1,0 +1,207 @@
+"""What tools/interface writes: a text for each mark of each file, made of interface.toml."""
+import json
+import re
+import textwrap
+
+# The widest line of the help.
+WIDTH = 79
+
+
+def wrapped(name, text, indent):
+    """An entry of the help: a name, and beside it a text in lines of its own."""
+    return textwrap.fill(text, WIDTH, initial_indent=f"  {name}".ljust(indent), subsequent_indent=" " * indent,
+                         break_on_hyphens=False) + "\n"
+
+
+def arguments(interface, command):
+    """The arguments of a command."""
+    return " ".join(filter(None, (command["name"], command["arguments"], interface["pairs"])))
+
+
+def usage(interface):
+    """The usage text, which the program writes too."""
+    commands = " | ".join(f"{it['name']} {it['arguments']}".rstrip() for it in interface["command"])
+    return f"usage: jschema ({commands}) {interface['pairs']}"
+
+
+def launcher_usages(interface):
+    return f"usage='{usage(interface)}'\npairs_usage='usage: {interface['pairs_usage']}'\n"
+
+
+def launcher_help(interface):
+    """The functions of ./jschema that print the help."""
+    alone = interface["no_command"]
+    lines = [f"  jschema {arguments(interface, it)}\n" for it in interface["command"]]
+    commands = [(it["name"], it["help"]) for it in interface["command"]]
+    commands.append(("(none)", alone["launcher"]))
+    formats = [(it["name"], it["help"]) for it in interface["format"]]
+    statuses = [(str(it["number"]), it.get("launcher", it["help"])) for it in interface["status"]]
+    beginning = (f"{interface['summary']}\n\nUsage:\n{''.join(lines)}  jschema {alone['arguments']}\n\n"
+                 "Each FILE holds a schema document. References find it by the URI before it;\nnothing is fetched.\n\n")
+    return "\n".join((
+        function("print_commands", beginning + section("Commands", commands, 12) + section("Formats", formats, 12)),
+        function("print_statuses", section("Exit status", statuses, 5))))
+
+
+def launcher_options(interface):
+    return function("print_option_list", "".join(wrapped(it["name"], it["help"], 13) for it in interface["option"]))
+
+
+def section(title, entries, indent):
+    return f"{title}:\n" + "".join(wrapped(name, text, indent) for name, text in entries) + "\n"
+
+
+def function(name, text):
+    """A function of the shell that prints a text."""
+    return f"{name}() {{\n    cat <<'HELP'\n{text}HELP\n}}\n"
+
+
+def roff(text):
+    """A text for the manual page, in its lines: `code` is bold, arguments are italic."""
+    text = text.strip().replace("\\", "\\e").replace("-", "\\-")
+    text = re.sub(r"`(.*?)`", r"\\fB\1\\fR", text)
+    text = re.sub(r"\b(FORMAT|INSTANCE|ENTRY|SUITE|URI|FILE|PAIR)\b", r"\\fI\1\\fR", text)
+    text = text.replace("absolute \\fIURI\\fR", "absolute URI")
+    return "\n".join(textwrap.wrap(text, 80, break_long_words=False, break_on_hyphens=False)) + "\n"
+
+
+def sentence(text):
+    return text[0].upper() + text[1:] + "."
+
+
+def manual_synopsis(interface):
+    calls = [f"\\fBjschema {it['name']}\\fR " + roff(f"{it['arguments']} {interface['pairs']}").rstrip()
+             for it in interface["command"]]
+    return "\n.br\n".join([*calls, "\\fBjschema\\fR"]) + "\n"
+
+
+def manual_commands(interface):
+    parts = [f".TP\n\\fB{it['name']}\\fR " + roff(f"{it['arguments']} {interface['pairs']}") + roff(it["manual"])
+             for it in interface["command"]]
+    return "".join(parts) + ".TP\n.RB \"no arguments\"\n" + roff(interface["no_command"]["manual"])
+
+
+def manual_formats(interface):
+    return "".join(f".TP\n.B {it['name']}\n" + roff(it["manual"]) for it in interface["format"])
+
+
+def manual_statuses(interface):
+    return "".join(f".TP\n.B {it['number']}\n" + roff(sentence(it["help"])) for it in interface["status"])
+
+
+def manual_limits(interface):
+    rows = "".join(f"{it['what']}\t{it['value']:,}\n" for it in interface["limit"])
+    return f".TS\nl r.\n{rows}.TE\n"
+
+
+def bash_words(interface):
+    return "".join(f"_jschema_{kind}s='{' '.join(it['name'] for it in interface[kind])}'\n"
+                   for kind in ("command", "format"))
+
+
+def zsh_words(interface):
+    lists = (f"local -a {kind}s=(\n" + "".join(f"    '{it['name']}:{it['short']}'\n" for it in interface[kind]) + ")\n"
+             for kind in ("command", "format"))
+    return "".join(lists)
+
+
+def c_enum(entries):
+    """An enumeration of C: names, numbers, and what is said of each."""
+    lines = [(f"JSCHEMA_{name} = {number}", comment) for name, number, comment in entries]
+    lines = [(value + "," * (value is not lines[-1][0]), comment) for value, comment in lines]
+    wide = max((len(value) for value, comment in lines if comment), default=0)
+    return "enum {\n" + "".join(f"    {value.ljust(wide)} /* {comment} */\n" if comment else f"    {value}\n"
+                                for value, comment in lines) + "};\n"
+
+
+def c_statuses(interface):
+    return c_enum([(it["c_name"], it["number"], it["c"]) for it in interface["status"]])
+
+
+def by_number(entries):
+    return sorted(entries, key=lambda it: it["number"])
+
+
+def c_formats(interface):
+    return c_enum([(it["name"].upper(), it["number"], it.get("c")) for it in by_number(interface["format"])])
+
+
+def python_tables(interface):
+    """The tables of the Python package."""
+    formats = ", ".join(f'"{it["name"]}": {it["number"]}' for it in by_number(interface["format"]))
+    statuses = by_number(interface["status"])
+    names = ", ".join(f'"{it["c_name"]}"' for it in statuses)
+    limits = "".join(f'    "{it["name"]}": {it["value"]:_},\n' for it in interface["limit"])
+    meanings = "".join(f'    "{it["name"]}": {json.dumps(it["meaning"])},\n'
+                       for it in sorted(interface["refusal"], key=lambda it: it["name"]))
+    return (f"#: Each format, and its number in the library.\nFORMATS = {{{formats}}}\n\n"
+            f"#: What a call of the library answers, and the program's exit statuses, by their numbers from 0.\n"
+            f"STATUSES = ({names})\n\n"
+            f"#: The limits of the validator.\nLIMITS = {{\n{limits}}}\n\n"
+            f"#: What each kind of refusal means.\nMEANINGS = {{\n{meanings}}}\n")
+
+
+def table(head, rows):
+    """A table of Markdown. A heading that begins with `-` is of numbers."""
+    rule = "|".join("---:" if it.startswith("-") else "---" for it in head)
+    lines = ["| " + " | ".join(it.lstrip("-") for it in head) + " |", f"|{rule}|"]
+    return "\n".join([*lines, *("| " + " | ".join(row) + " |" for row in rows)]) + "\n"
+
+
+def page_commands(interface):
+    rows = [(f"`{arguments(interface, it)}`", it["help"]) for it in interface["command"]]
+    alone = interface["no_command"]
+    return table(("arguments", "effect"), [*rows, (f"`{alone['arguments']}`", alone["help"])])
+
+
+def page_statuses(interface):
+    return table(("exit status", "meaning"),
+                 [(str(it["number"]), it.get("launcher", it["help"])) for it in interface["status"]])
+
+
+def page_limits(interface):
+    rows = [(it["what"], f"{it['value']:,}") for it in interface["limit"]]
+    return table(("what", "-at most"), [*rows, ("numbers", interface["numbers"])])
+
+
+def page_lines(interface):
+    return table(("line", "status", "meaning", "what to do"),
+                 [(f"`{it['text']}`", str(it["status"]), it["meaning"].strip(), it["remedy"])
+                  for it in interface["line"]])
+
+
+def page_checks(kind):
+    """Writes the table of what is refused by a kind of check."""
+    def write(interface):
+        checks = interface["checks"][kind]
+        head = ("name", "meaning", "at") if "at" in checks[0] else ("name", "meaning")
+        return table(head, [(f"`{it['name']}`", it["when"].strip(), *([it["at"]] if "at" in it else ()))
+                            for it in checks])
+    return write
+
+
+def page_examples(*kinds):
+    """Writes the examples of what is refused by kinds of checks."""
+    def write(interface):
+        shown = [it for kind in kinds for it in interface["checks"][kind] if "example" in it]
+        return "```console\n" + "".join(
+            f"$ printf '%s\\n' '{it['example']}' 0 | ./jschema\n"
+            f"refused: document 0 at \"{it['example_at']}\": {it['name']}\n" for it in shown) + "```\n"
+    return write
+
+
+# For each file its marks, and what writes the text between each and the next `interface: end`.
+TEXTS = {
+    "jschema": {"usage": launcher_usages, "help": launcher_help, "options": launcher_options},
+    "tools/installed/jschema.1": {"synopsis": manual_synopsis, "commands": manual_commands, "formats": manual_formats,
+                                  "statuses": manual_statuses, "limits": manual_limits},
+    "tools/installed/jschema.bash": {"words": bash_words},
+    "tools/installed/jschema.zsh": {"words": zsh_words},
+    "bindings/c/jschema.h": {"statuses": c_statuses, "formats": c_formats},
+    "bindings/python/jschema/interface.py": {"tables": python_tables},
+    "README.md": {"commands": page_commands, "statuses": page_statuses, "limits": page_limits},
+    "docs/REFUSALS.md": {"lines": page_lines, **{kind: page_checks(kind) for kind in
+                                                 ("document", "schema", "keyword", "reference", "entry")},
+                         "examples of documents": page_examples("document"),
+                         "examples of checks": page_examples("schema", "keyword", "reference")},
+}
