@@ -183,6 +183,9 @@ fn scan_document<'a>(
 }
 
 /// The places of the documents, in order: as many as a bundle may have, and one more.
+///
+/// # Errors
+/// `Memory`.
 pub fn scan_all(alloc: Global, documents: &[Document]) -> Result<Vec<Site<'_>>, Memory>
     ensures { IfOk result (λ v. map site_of v.items ≡ scanned (map document_of documents.now)) }
 {

@@ -19,6 +19,9 @@ pub fn printed(url: &Url) -> &str
 }
 
 /// The URL without its fragment.
+///
+/// # Errors
+/// `Memory`.
 #[tactic(auto, unfolding(crate::specs::Url::without_fragment))]
 pub fn without_fragment(mut url: Url) -> Result<Url, Memory>
     ensures { IfOk result (λ u. u ≡ without_fragment url) }
@@ -37,6 +40,9 @@ pub fn has_no_fragment(url: &Url) -> bool
 }
 
 /// The URL's fragment, decoded. It is empty where there is none.
+///
+/// # Errors
+/// `Memory`.
 pub fn decoded_fragment(alloc: Global, url: &Url) -> Result<Vec<u8>, Memory>
     ensures { IfOk result (λ v. v.items ≡ decoded_fragment url.now) }
 {

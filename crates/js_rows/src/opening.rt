@@ -52,6 +52,9 @@ impl Opening {
 
     /// Writes what is kept: with the comma before it if the node isn't the first in its list, and with the slash if
     /// there is one.
+    ///
+    /// # Errors
+    /// `Stopped`, where `out` stops.
     pub fn put_kept<O: Out>(&self, later: bool, slash: bool, out: &mut O) -> Result<(), Stopped>
         ensures { Puts (O.progress out.old) (O.progress out.new)
             (opening_front later (schema_kept self.now.text.items) slash) result }

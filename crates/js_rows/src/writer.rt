@@ -20,6 +20,9 @@ pub(crate) struct Writer {
 impl Writer {
     /// Gathers what stands before the children of a node, or all of a node without any. If there is no room for it, it
     /// is written behind what was gathered.
+    ///
+    /// # Errors
+    /// `Stopped`, where `out` stops.
     #[inline(never)]
     pub fn add_start<O: Out>(
         &mut self,

@@ -36,6 +36,9 @@ impl Drop for Edges {
 }
 
 /// Those of each place of the documents, in scan order.
+///
+/// # Errors
+/// `Memory`.
 pub fn edges_in(alloc: Global, documents: &[Document]) -> Result<Vec<Edges>, Memory>
     ensures { IfOk result (λ v. map edges_of v.items ≡ edges_from 0 (map document_of documents.now)) }
 {

@@ -21,6 +21,9 @@ pub(crate) fn place_key(alloc: Global, document: usize, pointer: &Pointer) -> Re
 }
 
 /// The key of a name in the resource that has its root at the pointer.
+///
+/// # Errors
+/// `Memory`.
 pub fn name_key(
     alloc: Global,
     document: usize,

@@ -35,6 +35,9 @@ fn push_names(names: &mut Vec<KeywordName>, site: &Site<'_>) -> Result<(), Memor
 
 impl KeywordTable {
     /// The table of no places, with room for this many.
+    ///
+    /// # Errors
+    /// `Memory`.
     pub fn with_capacity(alloc: Global, places: usize) -> Result<KeywordTable, Memory>
         ensures names { IfOk result (λ t. t.names.items ≡ []) }
         ensures ends { IfOk result (λ t. t.ends.items ≡ []) }
@@ -46,6 +49,9 @@ impl KeywordTable {
     }
 
     /// Adds the next place.
+    ///
+    /// # Errors
+    /// `Memory`.
     pub fn add_names(&mut self, site: &Site<'_>) -> Result<(), Memory>
         ensures names { OnOk result (self.new.names.items
             ≡ self.old.names.items ++ member_keywords (site_of site.now)) }

@@ -17,6 +17,9 @@ use js_doc::{Memory, Notation, Pointer, Text, Token, push_fragment_token};
 use std::alloc::Global;
 
 /// The absolute location of what stands at the pointer in a resource, or of a keyword there.
+///
+/// # Errors
+/// `Memory`.
 pub fn absolute_location(
     alloc: Global,
     scope: &BaseScope,

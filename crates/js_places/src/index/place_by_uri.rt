@@ -170,6 +170,9 @@ fn number_under_root(
 }
 
 /// The number of the place that a fragment, decoded, names in a resource, if there is one.
+///
+/// # Errors
+/// `NotRead`, if the fragment isn't UTF-8, or begins with `/` and is no pointer; `Memory` at any point.
 pub fn number_by_fragment(
     alloc: Global,
     index: &Index,
@@ -187,6 +190,9 @@ pub fn number_by_fragment(
 }
 
 /// The number of the place that a URI names, if it names one.
+///
+/// # Errors
+/// `NotRead`, as of `number_by_fragment`; `Memory` at any point.
 pub fn number_named(
     alloc: Global,
     index: &Index,

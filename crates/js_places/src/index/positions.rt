@@ -49,6 +49,9 @@ impl TextPrefixes {
 
 impl Positions {
     /// The same for no places, with room for this many.
+    ///
+    /// # Errors
+    /// `Memory`.
     pub fn with_capacity(alloc: Global, places: usize) -> Result<Positions, Memory>
         ensures { IfOk result (λ l. ArePositionsOf l []) }
     {
@@ -60,6 +63,9 @@ impl Positions {
     }
 
     /// Adds a place. Its texts are made from the prefixes of those of the place before it.
+    ///
+    /// # Errors
+    /// `Memory`.
     pub fn add_position(
         &mut self,
         alloc: Global,

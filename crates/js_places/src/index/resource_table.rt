@@ -240,6 +240,9 @@ fn name_all(
 }
 
 /// The table of the resources of all places.
+///
+/// # Errors
+/// `Memory`.
 pub fn resources_of(
     alloc: Global,
     positions: &Positions,

@@ -7,6 +7,9 @@ use js_doc::Memory;
 
 /// Adds the entry of the place with this number, after those of the places before it. A list ends with the last place
 /// that has an entry.
+///
+/// # Errors
+/// `Memory`.
 pub fn add_entry(
     entries: &mut Vec<Option<usize>>,
     number: usize,

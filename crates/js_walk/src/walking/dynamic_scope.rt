@@ -39,6 +39,9 @@ impl DynamicScope {
     }
 
     /// Enters a place of the resource with this number.
+    ///
+    /// # Errors
+    /// `Memory`.
     pub fn push(&mut self, resource: usize) -> Result<(), Memory>
         ensures { OnOk result (HasGrown self.old resource self.new) }
     {
