@@ -1,8 +1,10 @@
-"""What tools/interface compares with interface.toml: the constants of the crates."""
+"""What tools/interface compares with interface.toml: the constants of the crates and of the reference."""
+import ast
 import re
 from pathlib import Path
 
-CRATES = Path(__file__).resolve().parent.parent / "crates"
+HOME = Path(__file__).resolve().parent.parent
+CRATES = HOME / "crates"
 
 
 def found(path, pattern, part=None):
@@ -82,9 +84,29 @@ def limits(interface):
             yield path, name, [limit["value"]], [int(it.replace("_", "")) for it in values]
 
 
+def constants(path):
+    """The numbers to which a Python module gives a name: `NAME = 1`, or `ONE, TWO = 1, 2`."""
+    values = {}
+    for line in ast.parse(path.read_text(encoding="utf-8")).body:
+        if isinstance(line, ast.Assign):
+            [target] = line.targets
+            pairs = zip(target.elts, line.value.elts) if isinstance(target, ast.Tuple) else [(target, line.value)]
+            values.update({name.id: it.value for name, it in pairs if isinstance(it, ast.Constant)})
+    return values
+
+
+def reference_limits(interface):
+    """Where the reference has the limits: they are its own, since it shares nothing with the program."""
+    for limit in interface["limit"]:
+        if "reference" in limit:
+            path, name = limit["reference"].split(": ")
+            yield (f"tests/reference/{path}", name, limit["value"],
+                   constants(HOME / "tests" / "reference" / path).get(name))
+
+
 def faults(interface, usage):
     """How many comparisons there are, and of each that fails what it finds."""
     compared = [*formats(interface), *statuses(interface), *usages(interface, usage), *refusals(interface),
-                *limits(interface)]
+                *limits(interface), *reference_limits(interface)]
     return len(compared), [f"{path}: {name}: {there}, and interface.toml has {wanted}"
                            for path, name, wanted, there in compared if wanted != there]
