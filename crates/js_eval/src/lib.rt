@@ -11,6 +11,7 @@ mod cursors;
 mod finished_world;
 mod judging;
 pub mod laws;
+mod marks;
 mod public_walks;
 mod reporters;
 mod schema;

@@ -1,12 +1,14 @@
 //! Questions about a schema as a whole.
-ghost use Rattle.std.specs.Prelude.{◌≡◌, option_map};
+ghost use Rattle.std.specs.Prelude.{◌≡◌, [], codes, option_map};
+ghost use Rattle.std.specs.Option.{option_map_or};
 ghost use Rattle.js_assert.specs.Argument.{entries};
-ghost use Rattle.js_doc.specs.Members.{get};
+ghost use Rattle.js_doc.specs.Members.{IsAscending, get};
 ghost use Rattle.js_doc.specs.Seen.{value_of};
+ghost use Rattle.js_eval.specs.code.Patterns.{named_in};
 ghost use Rattle.js_walk.specs.Verdict.{accepts};
 
-use js_doc::Doc;
-use js_walk::object_in;
+use js_doc::{Doc, Members};
+use js_walk::{names_ascend, object_in};
 
 /// The argument of the keyword with this name, if the schema has it.
 pub(crate) fn argument_in<'a>(schema: &'a Doc, name: &str) -> Option<&'a Doc>
@@ -14,6 +16,31 @@ pub(crate) fn argument_in<'a>(schema: &'a Doc, name: &str) -> Option<&'a Doc>
 {
     match object_in(schema) {
         Some(members) => members.get(name),
+        None => None,
+    }
+}
+
+/// The argument of the keyword with this name, if it is an object.
+pub(crate) fn object_at<'a>(schema: &'a Doc, keyword: &str) -> Option<&'a Members>
+    ensures { named_in result ≡ option_map_or entries (get keyword.now (entries (value_of schema.now))) [] }
+{
+    match argument_in(schema, keyword) {
+        Some(argument) => object_in(argument),
+        None => None,
+    }
+}
+
+/// The patterns of the schema's `patternProperties`, if that is an object.
+pub(crate) fn patterns_in<'a>(schema: &'a Doc) -> Option<&'a Members>
+    ensures is { named_in result
+        ≡ option_map_or entries (get (codes "patternProperties") (entries (value_of schema.now))) [] }
+    ensures ascend { IsAscending (named_in result) }
+{
+    match object_at(schema, "patternProperties") {
+        Some(patterns) => {
+            names_ascend(patterns);
+            Some(patterns)
+        }
         None => None,
     }
 }

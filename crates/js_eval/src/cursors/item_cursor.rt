@@ -3,10 +3,11 @@
 ghost use Rattle.std.specs.Prelude.{◌≡◌, ◌∷◌, [], MatchOption};
 ghost use Rattle.js_eval.specs.code.Applied.{IsHeld};
 ghost use Rattle.js_eval.specs.code.Asked.{IsApplied, IsNext};
-ghost use Rattle.js_eval.specs.code.Cursors.{is_marked, items_asked, items_left};
+ghost use Rattle.js_eval.specs.code.Cursors.{items_asked, items_left};
 ghost use Rattle.js_walk.specs.code.Terms.{value_of};
 
 use crate::cursors::application::{AppliedTo, Subschemas, apply_to_part};
+use crate::marks::is_marked;
 use js_bundle::{Schemas, Step};
 use js_doc::Doc;
 use js_walk::Applied;
@@ -53,14 +54,4 @@ fn next_item<'a>(
         }
     }
     None
-}
-
-/// Whether there is a mark at the index, and it is set.
-pub(crate) fn is_marked(marks: &[bool], index: usize) -> bool
-    ensures { result ≡ is_marked marks.now index }
-{
-    match marks.get(index) {
-        Some(mark) => *mark,
-        None => false,
-    }
 }

@@ -1,25 +1,22 @@
 //! Applications member by member (Core, sections 10.2.2.4, 10.3.2 and 11.3): a schema on each member that the keyword
 //! chooses by name, or on the value itself for each of the keyword's names that a member has.
-ghost use Rattle.std.specs.Prelude.{◌≡◌, ◌∷◌, [], IfOk, MatchOption, codes, true};
+ghost use Rattle.std.specs.Prelude.{◌≡◌, ◌∷◌, [], IfOk, MatchOption, true};
 ghost use Rattle.std.specs.List.{list_any};
-ghost use Rattle.std.specs.Option.{option_map_or};
 ghost use Rattle.js_assert.specs.Pattern.{matches};
 ghost use Rattle.js_bundle.specs.Schemas.{is_place};
-ghost use Rattle.js_doc.specs.Members.{IsAscending, get};
 ghost use Rattle.js_eval.specs.code.Applied.{IsHeld};
 ghost use Rattle.js_eval.specs.code.Asked.{IsApplied, IsNext};
-ghost use Rattle.js_eval.specs.code.Cursors.{is_chosen, is_named, members_asked, chosen_members, named_in};
-ghost use Rattle.js_eval.specs.code.Patterns.{ArePatternsAt, IsPatternAt};
-ghost use Rattle.js_walk.specs.code.Terms.{entries, value_of};
+ghost use Rattle.js_eval.specs.code.Cursors.{is_chosen, is_named, members_asked, chosen_members};
+ghost use Rattle.js_eval.specs.code.Patterns.{ArePatternsAt};
+ghost use Rattle.js_walk.specs.code.Terms.{value_of};
 
 use crate::cursors::adjacent::Adjacent;
 use crate::cursors::application::{AppliedTo, Subschemas, apply_to_part};
-use crate::schema::argument_in;
 use crate::searching::name_set::is_in;
-use crate::searching::searchers::{NamedPattern, PatternSearch};
+use crate::searching::searchers::{PatternSearch, pattern_of};
 use js_bundle::{Place, Schemas, Step};
 use js_doc::{Doc, Members, Memory, Pairs};
-use js_walk::{Applied, names_ascend, object_in};
+use js_walk::Applied;
 use std::collections::BTreeSet;
 
 /// Which members a keyword chooses, by their names.
@@ -41,31 +38,6 @@ pub(crate) struct MemberCursor<'a> {
     pub to: AppliedTo<'a>,
     pub members: Pairs<'a>,
     pub choice: Choice<'a>,
-}
-
-/// The argument of the keyword with this name, if it is an object.
-pub(crate) fn object_at<'a>(schema: &'a Doc, keyword: &str) -> Option<&'a Members>
-    ensures { named_in result ≡ option_map_or entries (get keyword.now (entries (value_of schema.now))) [] }
-{
-    match argument_in(schema, keyword) {
-        Some(argument) => object_in(argument),
-        None => None,
-    }
-}
-
-/// The patterns of the schema's `patternProperties`, if that is an object.
-pub(crate) fn patterns_in<'a>(schema: &'a Doc) -> Option<&'a Members>
-    ensures is { named_in result
-        ≡ option_map_or entries (get (codes "patternProperties") (entries (value_of schema.now))) [] }
-    ensures ascend { IsAscending (named_in result) }
-{
-    match object_at(schema, "patternProperties") {
-        Some(patterns) => {
-            names_ascend(patterns);
-            Some(patterns)
-        }
-        None => None,
-    }
 }
 
 impl<'a> MemberCursor<'a> {
@@ -168,16 +140,4 @@ fn matches_any<'a>(
         }
     }
     Ok(false)
-}
-
-/// The pattern with this text in the `patternProperties` of the place.
-pub(crate) fn pattern_of<'a>(schemas: &'a Schemas, place: Place, text: &'a str) -> NamedPattern<'a>
-    requires place { is_place schemas.now place ≡ true }
-    requires pattern { IsPatternAt schemas.now place text.now }
-    ensures { result.text.now ≡ text.now }
-{
-    NamedPattern {
-        pattern: schemas.pattern(place, text).unwrap(),
-        text,
-    }
 }

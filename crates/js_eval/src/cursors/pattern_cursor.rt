@@ -10,9 +10,8 @@ ghost use Rattle.js_walk.specs.SchemaSet as spec;
 ghost use Rattle.js_walk.specs.code.Starting.{IsAtPlace, by_keyword};
 ghost use Rattle.js_walk.specs.code.Terms.{Documents, IsSchemaAt, pair_of, value_of};
 
-use crate::cursors::member_cursor::pattern_of;
 use crate::schema::argument_in;
-use crate::searching::searchers::{NamedPattern, PatternSearch};
+use crate::searching::searchers::{NamedPattern, PatternSearch, pattern_of};
 use js_bundle::{Place, Step};
 use js_doc::{Doc, Members, Memory, Pairs};
 use js_walk::{Applied, Instance, KeywordAt, subschema_at};

@@ -20,10 +20,11 @@ ghost use Rattle.js_walk.specs.declared.keywords.kind.Kind.TheVariants.{PatternP
 use crate::cursors::adjacent::Adjacent;
 use crate::cursors::application::{AppliedTo, Subschemas};
 use crate::cursors::asking::{Asking, in_box};
-use crate::cursors::member_cursor::{Choice, MemberCursor, object_at, patterns_in};
+use crate::cursors::member_cursor::{Choice, MemberCursor};
 use crate::cursors::name_cursor::{Among, NameCursor};
 use crate::cursors::pattern_cursor::PatternCursor;
 use crate::cursors::start::CursorStart;
+use crate::schema::{object_at, patterns_in};
 use crate::searching::name_set::set_of;
 use js_doc::{Members, Memory};
 use js_walk::{KeywordAt, held_below, names_ascend};

@@ -6,9 +6,9 @@ ghost use Rattle.js_assert.specs.Pattern.{matches};
 ghost use Rattle.js_doc.specs.Seen.{pair_of, value_of};
 ghost use Rattle.js_walk.specs.code.Standing.{IsSchemaAt};
 
-use crate::cursors::item_cursor::is_marked;
-use crate::cursors::member_cursor::{pattern_of, patterns_in};
-use crate::searching::searchers::{NamedPattern, Searchers};
+use crate::marks::is_marked;
+use crate::schema::patterns_in;
+use crate::searching::searchers::{NamedPattern, Searchers, pattern_of};
 use js_bundle::{Place, Schemas};
 use js_doc::{Doc, Members, Memory, Pairs};
 use js_walk::Instance;

@@ -1,11 +1,13 @@
 //! Searches with patterns during a walk, with what is kept between them.
-ghost use Rattle.std.specs.Prelude.{◌≡◌, IfOk, MatchOption};
+ghost use Rattle.std.specs.Prelude.{◌≡◌, IfOk, MatchOption, true};
 ghost use Rattle.std.specs.List.{list_any};
 ghost use Rattle.js_assert.specs.Pattern.{matches};
+ghost use Rattle.js_bundle.specs.Schemas.{is_place};
+ghost use Rattle.js_eval.specs.code.Patterns.{IsPatternAt};
 
 use crate::searching::pattern_answers::AllAnswers;
 use js_assert::{Pattern, Searcher};
-use js_bundle::Schemas;
+use js_bundle::{Place, Schemas};
 use js_doc::{Members, Memory};
 use std::alloc::Global;
 use std::cell::RefCell;
@@ -23,6 +25,18 @@ pub(crate) struct NamedPattern<'p> {
     pub pattern: &'p Pattern,
     pub text: &'p str,
     ghost named: { pattern.now ≡ text.now },
+}
+
+/// The pattern with this text in the `patternProperties` of the place.
+pub(crate) fn pattern_of<'a>(schemas: &'a Schemas, place: Place, text: &'a str) -> NamedPattern<'a>
+    requires place { is_place schemas.now place ≡ true }
+    requires pattern { IsPatternAt schemas.now place text.now }
+    ensures { result.text.now ≡ text.now }
+{
+    NamedPattern {
+        pattern: schemas.pattern(place, text).unwrap(),
+        text,
+    }
 }
 
 /// What a search with a pattern of finished schemas takes.
