@@ -104,9 +104,15 @@ def reference_limits(interface):
                    constants(HOME / "tests" / "reference" / path).get(name))
 
 
-def faults(interface, usage):
+def versions(number):
+    """Where the crates have the version: as a clause, and in the code."""
+    yield ("jschema_c/src/lib.rt", "jschema_version", [str(number)] * 2,
+           found("jschema_c/src/lib.rt", r"(?:≡ |\n    )(\d+)", r"fn jschema_version\(\).*?\n\}"))
+
+
+def faults(interface, usage, version):
     """How many comparisons there are, and of each that fails what it finds."""
-    compared = [*formats(interface), *statuses(interface), *usages(interface, usage), *refusals(interface),
-                *limits(interface), *reference_limits(interface)]
+    compared = [*versions(version), *formats(interface), *statuses(interface), *usages(interface, usage),
+                *refusals(interface), *limits(interface), *reference_limits(interface)]
     return len(compared), [f"{path}: {name}: {there}, and interface.toml has {wanted}"
                            for path, name, wanted, there in compared if wanted != there]

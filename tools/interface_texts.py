@@ -24,6 +24,16 @@ def usage(interface):
     return f"usage: jschema ({commands}) {interface['pairs']}"
 
 
+def version_number(interface):
+    """The version as the C library says it: 10,000 for each major version, 100 for each minor one, and the patch."""
+    major, minor, patch = map(int, interface["version"].split("."))
+    return 10_000 * major + 100 * minor + patch
+
+
+def launcher_version(interface):
+    return f"version='{interface['version']}'\n"
+
+
 def launcher_usages(interface):
     return f"usage='{usage(interface)}'\npairs_usage='usage: {interface['pairs_usage']}'\n"
 
@@ -67,6 +77,10 @@ def roff(text):
 
 def sentence(text):
     return text[0].upper() + text[1:] + "."
+
+
+def manual_title(interface):
+    return f'.TH JSCHEMA 1 {interface["date"]} "jschema {interface["version"]}" "User Commands"\n'
 
 
 def manual_synopsis(interface):
@@ -114,6 +128,21 @@ def c_enum(entries):
                                 for value, comment in lines) + "};\n"
 
 
+def c_version(interface):
+    return (f'#define JSCHEMA_VERSION {version_number(interface)}\n'
+            f'#define JSCHEMA_VERSION_TEXT "{interface["version"]}"\n')
+
+
+def package_version(interface):
+    """The version, as pkg-config's file has it."""
+    return f"Version: {interface['version']}\n"
+
+
+def project_version(interface):
+    """The version, as pyproject.toml has it."""
+    return f'version = "{interface["version"]}"\n'
+
+
 def c_statuses(interface):
     return c_enum([(it["c_name"], it["number"], it["c"]) for it in interface["status"]])
 
@@ -134,7 +163,8 @@ def python_tables(interface):
     limits = "".join(f'    "{it["name"]}": {it["value"]:_},\n' for it in interface["limit"])
     meanings = "".join(f'    "{it["name"]}": {json.dumps(it["meaning"])},\n'
                        for it in sorted(interface["refusal"], key=lambda it: it["name"]))
-    return (f"#: Each format, and its number in the library.\nFORMATS = {{{formats}}}\n\n"
+    return (f'#: The version of the package, and of the library that belongs to it.\nVERSION = "{interface["version"]}"\n\n'
+            f"#: Each format, and its number in the library.\nFORMATS = {{{formats}}}\n\n"
             f"#: What a call of the library answers, and the program's exit statuses, by their numbers from 0.\n"
             f"STATUSES = ({names})\n\n"
             f"#: The limits of the validator.\nLIMITS = {{\n{limits}}}\n\n"
@@ -192,16 +222,23 @@ def page_examples(*kinds):
 
 # For each file its marks, and what writes the text between each and the next `interface: end`.
 TEXTS = {
-    "jschema": {"usage": launcher_usages, "help": launcher_help, "options": launcher_options},
-    "tools/installed/jschema.1": {"synopsis": manual_synopsis, "commands": manual_commands, "formats": manual_formats,
+    "jschema": {"version": launcher_version, "usage": launcher_usages, "help": launcher_help, "options": launcher_options},
+    "tools/installed/jschema.1": {"title": manual_title, "synopsis": manual_synopsis, "commands": manual_commands, "formats": manual_formats,
                                   "statuses": manual_statuses, "limits": manual_limits},
     "tools/installed/jschema.bash": {"words": bash_words},
     "tools/installed/jschema.zsh": {"words": zsh_words},
-    "bindings/c/jschema.h": {"statuses": c_statuses, "formats": c_formats},
+    "bindings/c/jschema.pc": {"version": package_version},
+    "bindings/c/jschema.h": {"version": c_version, "statuses": c_statuses, "formats": c_formats},
+    "bindings/python/pyproject.toml": {"version": project_version},
     "bindings/python/jschema/interface.py": {"tables": python_tables},
     "README.md": {"commands": page_commands, "statuses": page_statuses, "limits": page_limits},
     "docs/REFUSALS.md": {"lines": page_lines, **{kind: page_checks(kind) for kind in
                                                  ("document", "schema", "keyword", "reference", "entry")},
                          "examples of documents": page_examples("document"),
                          "examples of checks": page_examples("schema", "keyword", "reference")},
+}
+
+# Of files that can have no marks: what is found, and what stands there.
+FOUND = {
+    "bindings/javascript/package.json": {r'(?<=^  "version": ")[^"]*': lambda interface: interface["version"]},
 }

@@ -39,6 +39,11 @@
 extern "C" {
 #endif
 
+/* The version of this header. jschema_version says that of the library. interface: version */
+#define JSCHEMA_VERSION 200
+#define JSCHEMA_VERSION_TEXT "0.2.0"
+/* interface: end */
+
 /* A handle. Initialize it with JSCHEMA_EMPTY, or all bytes zero: then it is empty, and every call may be made on it.
    Don't read or write its fields. Don't copy it: only one of two copies may be used or freed. */
 typedef struct {
@@ -127,7 +132,8 @@ size_t jschema_text(jschema *handle, uint8_t *out, size_t out_length);
 /* Frees all that the handle holds. It is then empty, and can be freed again or used for jschema_new. */
 void jschema_free(jschema *handle);
 
-/* The version of the library: 10,000 for each major version, 100 for each minor one, and the patch. 100 is 0.1.0. */
+/* The version of the library, as JSCHEMA_VERSION is that of the header: 10,000 for each major version, 100 for each
+   minor one, and the patch. */
 uint32_t jschema_version(void);
 
 #ifdef __cplusplus

@@ -288,7 +288,7 @@ int main(void) {
     test_null_texts();
     test_longest_document();
     test_text();
-    expect_that("the version", jschema_version() == 100);
+    expect_that("the version", jschema_version() == JSCHEMA_VERSION);
     printf("%d passed, %d failed\n", passed, failed);
     return failed != 0;
 }

@@ -34,7 +34,7 @@ test("a handle of zeros can be given to each call", () => {
   assert.equal(calls.jschema_check(handle, 0, handle, 0, 0), 2);
   assert.equal(calls.jschema_text(handle, handle, 0), 0);
   calls.jschema_free(handle);
-  assert.equal(calls.jschema_version(), 100);
+  assert.equal(calls.jschema_version(), Number(header.match(/^#define JSCHEMA_VERSION (\d+)$/m)[1]));
 });
 
 test("jschema_share makes a second handle on the same schemas", () => {

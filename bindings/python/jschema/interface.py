@@ -1,6 +1,9 @@
 """The tables of the interface, which `tools/interface` writes from `interface.toml`."""
 
 # interface: tables
+#: The version of the package, and of the library that belongs to it.
+VERSION = "0.2.0"
+
 #: Each format, and its number in the library.
 FORMATS = {"flag": 0, "basic": 1, "detailed": 2, "verbose": 3, "merged": 4}
 

@@ -12,7 +12,7 @@ from typing import Any, Callable, Optional, TypeVar
 
 from .engine import Answer
 from .errors import EngineError, EngineNotFound
-from .interface import FORMATS, STATUSES
+from .interface import FORMATS, STATUSES, VERSION
 from .lines import fault_of
 from .stacks import on_large_stack
 
@@ -22,7 +22,9 @@ _DONE, _INVALID, _MISUSED, _REFUSED, _FAILED = range(len(STATUSES))
 # (As ctypes' own numbers: of an int each call would make one.)
 _FORMATS = {name: c_uint32(number) for name, number in FORMATS.items()}
 _FLAG = _FORMATS["flag"]
-_VERSIONS = range(100, 200)
+# The libraries that this package can call: from 0.1 up to its own minor version.
+_MAJOR, _MINOR, _ = map(int, VERSION.split("."))
+_VERSIONS = range(100, 10_000 * _MAJOR + 100 * (_MINOR + 1))
 _FILE = "libjschema.so.0"
 
 # How much of an output is copied without asking for its length first.
@@ -90,7 +92,8 @@ def _load(path: str) -> ctypes.CDLL:
     except (OSError, AttributeError) as error:
         raise EngineError(f"{path} is no library of jschema: {error}") from error
     if library.jschema_version() not in _VERSIONS:
-        raise EngineError(f"{path} has version {library.jschema_version()}, and this package needs 100 to 199 (0.1)")
+        raise EngineError(f"{path} has version {library.jschema_version()}, and this package needs {_VERSIONS[0]} to "
+                          f"{_VERSIONS[-1]} (0.1 to {_MAJOR}.{_MINOR})")
     return library
 
 

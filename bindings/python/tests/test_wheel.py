@@ -11,6 +11,7 @@ import zipfile
 from pathlib import Path
 
 import backend
+from jschema.interface import VERSION
 
 PACKAGE = Path(__file__).resolve().parent.parent
 PROGRAM = """import jschema
@@ -44,7 +45,7 @@ class Wheel(unittest.TestCase):
             printed = run(python, "-c", PROGRAM, cwd=folder, env=environment)
             self.assertRegex(printed, rf"\A{folder}/venv/lib/.*/site-packages/jschema/__init__.py False {found}\n\Z")
             about = "from importlib.metadata import metadata as it; print(it('jschema')['Version'])"
-            self.assertEqual(run(python, "-c", about, env=environment), "0.1.0\n")
+            self.assertEqual(run(python, "-c", about, env=environment), f"{VERSION}\n")
             self.assertIn("usage: python -m jschema validate", run(python, "-m", "jschema", "-h", env=environment))
 
     @unittest.skipUnless(importlib.util.find_spec("pip"), "needs pip")
@@ -65,10 +66,10 @@ class Wheel(unittest.TestCase):
             with zipfile.ZipFile(Path(folder, backend.build_wheel(folder))) as wheel:
                 names = set(wheel.namelist())
             expected = {path.relative_to(PACKAGE).as_posix() for path in (PACKAGE / "jschema").rglob("*.py")}
-            about = {f"jschema-0.1.0.dist-info/{name}" for name in ("METADATA", "WHEEL", "RECORD")}
+            about = {f"jschema-{VERSION}.dist-info/{name}" for name in ("METADATA", "WHEEL", "RECORD")}
             library = {f"jschema/{backend.LIBRARY.name}"} if backend.LIBRARY.is_file() else set()
             self.assertEqual(names, expected | about | library | {"jschema/py.typed"})
-            self.assertEqual(backend.build_sdist(folder), "jschema-0.1.0.tar.gz")
+            self.assertEqual(backend.build_sdist(folder), f"jschema-{VERSION}.tar.gz")
 
     def test_code_for_old_versions(self):
         """Every module is in the grammar of the oldest version that pyproject.toml names."""

@@ -191,9 +191,9 @@ pub extern "C" fn jschema_free(alloc: Global, handle: &mut Handle)
 /// The library's version: 10,000 for each major one, 100 for each minor one, and the patch.
 #[unsafe(no_mangle)]
 pub extern "C" fn jschema_version() -> u32
-    ensures { result ≡ 100 }
+    ensures { result ≡ 200 }
 {
-    100
+    200
 }
 
 // Puts a session into a handle, in place of what that held.
