@@ -22,12 +22,16 @@ LIBRARY = HOME.parents[1] / "out" / "lib" / "libjschema.so.0"
 
 
 def build_wheel(wheel_directory, config_settings=None, metadata_directory=None):
-    """Writes the wheel, and returns its name."""
+    """Writes the wheel, and returns its name. The settings may name the `library` and its `platform`, and have `pages`
+    that stand beside the metadata, by their names."""
+    settings = config_settings or {}
+    library = Path(settings.get("library", LIBRARY))
     files = {path.relative_to(HOME).as_posix(): path.read_bytes() for path in package()}
     platform = "any"
-    if LIBRARY.is_file():
-        files[f"jschema/{LIBRARY.name}"] = LIBRARY.read_bytes()
-        platform = re.sub(r"[-.]", "_", sysconfig.get_platform())
+    if library.is_file():
+        files[f"jschema/{LIBRARY.name}"] = library.read_bytes()
+        platform = settings.get("platform", re.sub(r"[-.]", "_", sysconfig.get_platform()))
+    files.update((f"{STEM}.dist-info/licenses/{name}", data) for name, data in settings.get("pages", {}).items())
     return write_wheel(wheel_directory, files, platform)
 
 

@@ -1,0 +1,1 @@
+"""What tools/release makes: the files of an installation, and the packages of them."""
