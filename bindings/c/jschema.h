@@ -59,7 +59,7 @@ enum {
     JSCHEMA_DONE = 0,    /* done; of a check: the instance is valid */
     JSCHEMA_INVALID = 1, /* of a check: the instance is invalid */
     JSCHEMA_MISUSED = 2, /* the handle isn't ready for this call, or an argument has no meaning; see each call */
-    JSCHEMA_REFUSED = 3, /* an input is refused, and the text is a line that says which, where and why */
+    JSCHEMA_REFUSED = 3, /* an input is refused; the text is a line with the reason, and the place where it has one */
     JSCHEMA_FAILED = 4   /* out of memory */
 };
 /* interface: end */

@@ -98,7 +98,7 @@ export class ValidationError implements Position {
   toString(): string;
 }
 
-/** An input that has no verdict: it isn't JSON, has a number that isn't whole, or is a malformed schema. */
+/** An input that has no verdict: it isn't JSON, has a number that isn't taken, or is a malformed schema. */
 export class Refused extends Error {
   private constructor();
   readonly subject: "document" | "entry" | "instance" | "walk" | "input";

@@ -65,7 +65,7 @@ export const MEANINGS = Object.freeze({
   InputTooLarge: "more than 16,777,216 bytes",
   NotASchema: "a schema is an object or a boolean",
   NotJson: "not a JSON text, or nested deeper than 127",
-  NotWhole: "a number that isn't whole, or isn't within -2^63 to 2^64 - 1",
+  NotWhole: "a number with a fraction, an exponent or a minus before zero, or beyond 64 bits",
   PatternTooLarge: "the regular expression takes too much memory",
   TooLarge: "more than 512 nested schema applications, or more than 1,000,000 nodes of the result",
   TooManyDocuments: "more than 1,000 schema documents",
@@ -77,7 +77,7 @@ export const MEANINGS = Object.freeze({
 
 const START = Object.freeze({ offset: 0, line: 1, column: 1 });
 
-/** An input that has no verdict: it isn't JSON, has a number that isn't whole, or is a malformed schema. */
+/** An input that has no verdict: it isn't JSON, has a number that isn't taken, or is a malformed schema. */
 export class Refused extends Error {
   #text;
   #document;

@@ -56,7 +56,7 @@ def best_first(errors: list[ValidationError]) -> list[ValidationError]:
 
 
 class Refused(ValueError):
-    """An input that has no verdict: it isn't JSON, has a number that isn't whole, or is a malformed schema.
+    """An input that has no verdict: it isn't JSON, has a number that isn't taken, or is a malformed schema.
 
     `docs/REFUSALS.md` lists every kind.
     """

@@ -85,8 +85,8 @@ class Lines(Case):
 class Refusals(Case):
     def test_instances(self):
         self.judge(["half.json", "torn.json", "data/ada.json"], "",
-                   "half.json:2:9: refused: a number that isn't whole, or isn't within -2^63 to 2^64 - 1 "
-                   "(/age; NotWhole)\n"
+                   "half.json:2:9: refused: a number with a fraction, an exponent or a minus before zero, or beyond 64 "
+                   "bits (/age; NotWhole)\n"
                    "torn.json:3:5: refused: not a JSON text, or nested deeper than 127 (root; NotJson)\n"
                    "1 valid, 0 invalid, 2 refused\n", 3)
 
@@ -182,13 +182,13 @@ class Formats(Case):
                  "keywordLocation": "/properties/name/type", "absoluteKeywordLocation": NAME}]},
             {"file": "half.json", "line": 1, "valid": None,
              "refused": {"line": 2, "column": 9, "subject": "instance", "kind": "NotWhole", "place": "/age",
-                         "message": "a number that isn't whole, or isn't within -2^63 to 2^64 - 1"}},
+                         "message": "a number with a fraction, an exponent or a minus before zero, or beyond 64 bits"}},
             {"file": "none.json", "line": 1, "valid": None, "failed": "No such file or directory"}])
         self.assertEqual(self.run_command("validate", "--schema", "schema.json", "--format", "json", "--lines", "-"),
                          ("[]\n", "", 0))
 
     def test_github(self):
-        half = "a number that isn't whole, or isn't within -2^63 to 2^64 - 1"
+        half = "a number with a fraction, an exponent or a minus before zero, or beyond 64 bits"
         self.judge(["--format", "github", "data/sub/bob.json", "half.json"],
                    f"::error file=data/sub/bob.json,line=2,col=2::type is integer (/name; {NAME})\n"
                    f"::error file=half.json,line=2,col=9::instance at /age: NotWhole: {half}\n",

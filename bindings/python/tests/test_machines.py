@@ -6,7 +6,7 @@ import sys
 
 from commands import NAME, SOME, Case
 
-HALF = "a number that isn't whole, or isn't within -2^63 to 2^64 - 1"
+HALF = "a number with a fraction, an exponent or a minus before zero, or beyond 64 bits"
 
 
 class Lines(Case):
