@@ -231,8 +231,8 @@ TEXTS = {
     "bindings/c/jschema.h": {"version": c_version, "statuses": c_statuses, "formats": c_formats},
     "bindings/python/pyproject.toml": {"version": project_version},
     "bindings/python/jschema/interface.py": {"tables": python_tables},
-    "README.md": {"commands": page_commands, "statuses": page_statuses, "limits": page_limits},
-    "docs/REFUSALS.md": {"lines": page_lines, **{kind: page_checks(kind) for kind in
+    "README.md": {"commands": page_commands, "statuses": page_statuses},
+    "docs/REFUSALS.md": {"limits": page_limits, "lines": page_lines, **{kind: page_checks(kind) for kind in
                                                  ("document", "schema", "keyword", "reference", "entry")},
                          "examples of documents": page_examples("document"),
                          "examples of checks": page_examples("schema", "keyword", "reference")},
