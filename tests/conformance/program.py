@@ -113,6 +113,10 @@ class Program:
         """The arguments that judge one instance by one schema, whose files stay in the folder."""
         return ["check", format_, self.file(instance), uri, *words_of(documents), uri, self.file(schema)]
 
+    def places_words(self, schema, documents, uri="https://suite.example/0"):
+        """The arguments that list the places of a schema, and of documents that it refers to."""
+        return ["places", *words_of(documents), uri, self.file(schema)]
+
 
 def refusal(line, documents):
     """No verdict, by the line on standard error: the documents that are referred to come before the schema."""
