@@ -119,7 +119,9 @@ export const EXAMPLES = [
     name: "Strict trees: $dynamicRef",
     documents: [{ uri: "https://example.com/strict-tree", text: STRICT_TREE },
       { uri: "https://example.com/tree", text: TREE }],
-    entry: "https://example.com/strict-tree", instance: '{\n  "children": [\n    {"daat": 1}\n  ]\n}\n', panel: "errors",
+    entry: "https://example.com/strict-tree",
+    instance: '{\n  "children": [\n    {"daat": 1}\n  ]\n}\n',
+    panel: "errors",
   },
   own("An address: unevaluatedProperties", ADDRESS, `{
   "street": "Main Street 1",

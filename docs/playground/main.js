@@ -6,7 +6,7 @@ import { Editor } from "./editor.js";
 import { element } from "./elements.js";
 import { ErrorList } from "./error_list.js";
 import { EXAMPLES, stateOfExample } from "./examples.js";
-import { forbidConnections, loadModule } from "./loading.js";
+import { forbidConnections, loadModule, startWorker } from "./loading.js";
 import { OutputPanel } from "./output_panel.js";
 import { SchemaTexts, Values, isOfName } from "./places.js";
 import { ResultPanel } from "./result_panel.js";
@@ -31,7 +31,7 @@ class Playground {
   #isMerging = false;
   #quiet;
 
-  constructor(module) {
+  constructor() {
     this.documents = new DocumentTabs({
       changed: () => this.#changed(), moved: (document, offset) => this.#caretAt("inSchema", offset, document),
     });
@@ -42,7 +42,8 @@ class Playground {
     const chosen = (node) => this.#revealNode(node);
     this.panels = {
       errors: new ErrorList({
-        places: (error) => this.#positions(error), chosen: (error, where) => this.#reveal(error, where),
+        places: (error) => this.#positions(error),
+        chosen: (error, where) => this.#reveal(error, where),
       }),
       tree: new ResultPanel({ chosen }),
       condensing: new CondensingPanel({ chosen, changed: (isMerging) => this.#choose({ isMerging }) }),
@@ -54,7 +55,12 @@ class Playground {
     at("entry").addEventListener("input", () => this.#changed());
     at("share").addEventListener("click", () => this.#share());
     this.#offerExamples();
-    this.#checker = new Checker(module, (answer) => this.#answered(answer));
+  }
+
+  /** Begins to check, by this module. */
+  connect(module) {
+    this.#checker = new Checker({ start: startWorker, module, tell: (answer) => this.#answered(answer) });
+    this.#check();
   }
 
   get state() {
@@ -104,7 +110,7 @@ class Playground {
       errors: [], tree: ["verbose"], output: [this.#format],
       condensing: ["verbose", this.#isMerging ? "merged" : "detailed"],
     }[this.#panel];
-    this.#checker.ask({ documents, entry, instance, wanted });
+    this.#checker?.ask({ documents, entry, instance, wanted });
   }
 
   #answered(answer) {
@@ -116,6 +122,7 @@ class Playground {
     this.documents.marks = marks("inSchema");
     this.instance.marks = marks("inInstance");
     this.#say(answer);
+    performance.mark("verdict");
     if (answer.places !== undefined) offerEntries(answer.places);
     this.#showPanel();
   }
@@ -147,7 +154,8 @@ class Playground {
   #positions({ inInstance, inSchema }) {
     const position = inInstance && this.instance.positionOf(inInstance.begin);
     return {
-      instance: position && `${position.line}:${position.column}`, schema: inSchema && this.documents.position(inSchema),
+      instance: position && `${position.line}:${position.column}`,
+      schema: inSchema && this.documents.position(inSchema),
     };
   }
 
@@ -224,10 +232,12 @@ async function begin() {
   at("theme").addEventListener("change", ({ target }) => {
     document.documentElement.dataset.theme = target.value;
   });
-  const module = await loadModule();
-  forbidConnections();
-  const playground = new Playground(module);
+  const loading = loadModule();
+  const playground = new Playground();
   playground.show(await firstState());
+  const module = await loading;
+  forbidConnections();
+  playground.connect(module);
   window.addEventListener("hashchange", async () => playground.show(await firstState()));
 }
 
