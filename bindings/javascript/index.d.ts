@@ -25,6 +25,14 @@ export type Documents =
 export type Module = Source | PromiseLike<Source>;
 type Source = WebAssembly.Module | BufferSource | Response;
 
+/** Limits on a result. What needs more is refused (`TooLarge`). */
+export interface Limits {
+  /** How many schema applications may be nested, the entry's included: 1 to 512. Fewer take less stack. */
+  readonly applications?: number;
+  /** How many nodes a result may have: 0 to 1,000,000. Fewer take less memory and time. */
+  readonly nodes?: number;
+}
+
 /** A place in a text: an index into the string; lines, and characters within the line, from 1. */
 export interface Position {
   readonly offset: number;
@@ -58,7 +66,8 @@ export interface Answer {
  */
 export class Schemas {
   private constructor();
-  static create(documents: Documents, options?: { module?: Module }): Promise<Schemas>;
+  /** Reads and checks documents. Throws `RangeError` for limits that there can't be. */
+  static create(documents: Documents, options?: { module?: Module } & Limits): Promise<Schemas>;
   /** The absolute location of every schema: what can be an entry, or be referred to. */
   places(): string[];
   /** Whether an instance is valid. This is the quickest call. */

@@ -28,11 +28,17 @@ class Step:
 # What tools/build-library makes.
 LIBRARY = os.path.join(HOME, "out", "lib", "libjschema.a")
 
+# What tools/build-wasm makes.
+MODULE = os.path.join(HOME, "out", "wasm", "jschema.wasm")
+
 # For each command of a block ```sh, what runs it. A command may need what those before it on its page made.
 RUN_BY = {
     "benchmarks/cases /tmp/cases": Small("benchmarks/cases {folder}/measured --items 2"),
     "benchmarks/instructions /tmp/cases --write":
         Small("benchmarks/instructions {folder}/measured --only events --program {program}", ("valgrind", "time")),
+    "benchmarks/calls --write":
+        Small("benchmarks/calls --only '11 bytes' --each 0.01 --program {program}", (LIBRARY, "cc")),
+    "benchmarks/page": Small("benchmarks/page --rounds 1", (MODULE, "chromium", "chromedriver")),
     "benchmarks/compare/cases /tmp/cases": Small("benchmarks/compare/cases {folder}/compared"),
     "benchmarks/compare/run /tmp/cases --write":
         Small("benchmarks/compare/run {folder}/compared --only records --rounds 1 --seconds 1 --program {program}"),

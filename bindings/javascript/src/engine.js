@@ -79,6 +79,11 @@ export class Instance {
     this.#call("release", handle);
   }
 
+  /** Sets the limits on the result of each check. */
+  limit(handle, { applications, nodes }) {
+    this.#expectDone(handle, this.#call("jschema_limit", handle, applications, nodes));
+  }
+
   /** @param {number} handle @param {string} uri @param {Uint8Array} document */
   add(handle, uri, document) {
     const name = encoded(uri);

@@ -1,8 +1,10 @@
 /** JSON Pointers (RFC 6901), and what the steps of a keyword location are. */
 
-// The keywords of draft 2020-12 whose value is a list of schemas, and those whose value is an object of schemas.
-const LISTS = new Set(["allOf", "anyOf", "oneOf", "prefixItems"]);
-const OBJECTS = new Set(["$defs", "definitions", "dependentSchemas", "patternProperties", "properties"]);
+/** The keywords of draft 2020-12 whose value is a list of schemas. */
+export const LISTS = new Set(["allOf", "anyOf", "oneOf", "prefixItems"]);
+
+/** Those whose value is an object of schemas. */
+export const OBJECTS = new Set(["$defs", "definitions", "dependentSchemas", "patternProperties", "properties"]);
 
 /** The tokens of a JSON Pointer, unescaped. */
 export function steps(pointer) {

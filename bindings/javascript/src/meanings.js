@@ -1,4 +1,5 @@
-/** What a refusal means, where the refused text tells more than the kind. */
+/** What a refusal means, where the refused text or the limits tell more than the kind. */
+import { beyond } from "./limits.js";
 import { steps } from "./locations.js";
 
 const MARK = "a byte order mark; a JSON text is UTF-8 without one";
@@ -10,10 +11,13 @@ const SCHEME = /^[A-Za-z][A-Za-z0-9+.-]*:/;
  * @param {import("./errors.js").Refused} refused
  * @param {string | Uint8Array} text that of the document or the instance
  * @param {string} uri the document's, or the entry
+ * @param {{ applications: number, nodes: number }} [limits] those of a check
  */
-export function explain(refused, text, uri) {
+export function explain(refused, text, uri, limits = undefined) {
   if (refused.kind === "NotJson") {
     refused.meaning = encodingFault(text) ?? refused.meaning;
+  } else if (refused.kind === "TooLarge" && limits !== undefined) {
+    refused.meaning = beyond(limits);
   } else if (refused.kind === "Unresolved") {
     const wanted = refused.place === undefined ? uri : referenceAt(text, refused.place, uri);
     if (wanted !== undefined) refused.meaning = `no schema has the URI ${wanted}; give its document too`;

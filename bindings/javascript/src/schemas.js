@@ -1,7 +1,7 @@
 /** Schema documents, and what can be asked of them. */
 import { FORMATS, encoded, load, sharedEngine } from "./engine.js";
 import { Refused, ValidationError } from "./errors.js";
-import { LARGEST_TEXT } from "./limits.js";
+import { LARGEST_TEXT, STANDARD_LIMITS, limitsOf } from "./limits.js";
 import { explain } from "./meanings.js";
 import { parse } from "./outputs.js";
 import { Text } from "./positions.js";
@@ -25,14 +25,16 @@ const forgotten = new FinalizationRegistry(({ instance, handle }) => {
 export class Schemas {
   #engine;
   #documents;
+  #limits;
   #instance;
   #handle;
   #entries;
 
   /** Use `Schemas.create`. */
-  constructor(engine, documents) {
+  constructor(engine, documents, limits = STANDARD_LIMITS) {
     this.#engine = engine;
     this.#documents = documents;
+    this.#limits = limits;
     this.#begin();
   }
 
@@ -41,11 +43,13 @@ export class Schemas {
    *
    * @param {Record<string, string | Uint8Array> | Iterable<[string, string | Uint8Array]>} documents the text of each,
    *     by its absolute URI
-   * @param {{ module?: unknown }} [options] the WebAssembly module, where it isn't the package's own file
+   * @param {{ module?: unknown, applications?: number, nodes?: number }} [options] the WebAssembly module, where it
+   *     isn't the package's own file; how many schema applications may be nested, and how many nodes a result may have
    */
   static async create(documents, options = {}) {
+    const limits = limitsOf(options);
     const engine = await (options.module === undefined ? sharedEngine() : load(options.module));
-    return new Schemas(engine, pairsOf(documents));
+    return new Schemas(engine, pairsOf(documents), limits);
   }
 
   /** The absolute location of every schema: what can be an entry, or be referred to. */
@@ -105,6 +109,7 @@ export class Schemas {
     this.#entries = new Map();
     forgotten.register(this, { instance, handle }, this);
     try {
+      instance.limit(handle, this.#limits);
       for (const { uri, bytes } of this.#documents) instance.add(handle, uri, bytes);
       instance.finish(handle);
     } catch (error) {
@@ -132,7 +137,7 @@ export class Schemas {
       return ask(handle);
     } catch (error) {
       if (!(error instanceof Refused)) throw error;
-      throw explain(error.subject === "entry" ? error : error.of(text), text, entry);
+      throw explain(error.subject === "entry" ? error : error.of(text), text, entry, this.#limits);
     }
   }
 

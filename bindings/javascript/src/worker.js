@@ -1,6 +1,7 @@
 /** Checks off the main thread, with a time limit. */
 import { sharedEngine, load } from "./engine.js";
 import { OutOfMemory, Refused, Stopped, ValidationError } from "./errors.js";
+import { limitsOf } from "./limits.js";
 import { explain } from "./meanings.js";
 import { parse } from "./outputs.js";
 import { Text } from "./positions.js";
@@ -13,21 +14,24 @@ const SECONDS = 10;
 export class WorkerSchemas {
   #pairs;
   #module;
+  #limits;
   #milliseconds;
   #worker;
   #last = Promise.resolve();
 
   /** Use `WorkerSchemas.create`. */
-  constructor(pairs, module, seconds) {
+  constructor(pairs, module, limits, seconds) {
     this.#pairs = pairs;
     this.#module = module;
+    this.#limits = limits;
     this.#milliseconds = seconds * 1000;
   }
 
   /** As `Schemas.create`. `seconds` limits each later call. */
-  static async create(documents, { seconds = SECONDS, module } = {}) {
+  static async create(documents, { seconds = SECONDS, module, ...options } = {}) {
+    const limits = limitsOf(options);
     const engine = await (module === undefined ? sharedEngine() : load(module));
-    const made = new WorkerSchemas(pairsOf(documents), engine.module, seconds);
+    const made = new WorkerSchemas(pairsOf(documents), engine.module, limits, seconds);
     await made.#inTurn(() => made.#begin());
     return made;
   }
@@ -68,7 +72,7 @@ export class WorkerSchemas {
       return await this.#ask({ call: "check", entry, text, format });
     } catch (error) {
       if (!(error instanceof Refused)) throw error;
-      throw explain(error.subject === "entry" ? error : error.of(text), text, entry);
+      throw explain(error.subject === "entry" ? error : error.of(text), text, entry, this.#limits);
     }
   }
 
@@ -91,7 +95,7 @@ export class WorkerSchemas {
   async #begin() {
     const worker = this.#worker = await Conversation.begin();
     try {
-      await worker.ask({ call: "create", module: this.#module, pairs: this.#pairs });
+      await worker.ask({ call: "create", module: this.#module, pairs: this.#pairs, limits: this.#limits });
     } catch (error) {
       worker.end();
       this.#worker = undefined;

@@ -7,8 +7,8 @@ import { Schemas } from "./schemas.js";
 let schemas;
 
 const CALLS = {
-  create({ module, pairs }) {
-    schemas = new Schemas(new Engine(module), pairs);
+  create({ module, pairs, limits }) {
+    schemas = new Schemas(new Engine(module), pairs, limits);
   },
   places() {
     return schemas.places();

@@ -84,6 +84,34 @@ test("what has no meaning is thrown as such", async () => {
   assert.throws(() => disposed.places(), /closed/);
 });
 
+test("a caller's limits hold for each check", async () => {
+  const documents = { [URI]: '{"items": {"$ref": "#"}}', "urn:flat": '{"items": {"type": "null"}}' };
+  const limits = async (options) => {
+    const schemas = await Schemas.create(documents, options);
+    const answer = (entry, instance) => {
+      try {
+        return schemas.isValid(entry, instance);
+      } catch (error) {
+        assert.ok(error instanceof Refused && error.subject === "walk" && error.kind === "TooLarge", error);
+        return error.meaning;
+      }
+    };
+    return [answer(URI, "[[]]"), answer(URI, "[[[]]]"), answer("urn:flat", "[null]"), answer("urn:flat", "[0, 0]")];
+  };
+  const beyond = (applications, nodes) =>
+    `more than ${applications} nested schema applications, or more than ${nodes} nodes of the result`;
+  assert.deepEqual(await limits({}), [true, true, true, false]);
+  // Of an array in an array the entry, an item's schema and its reference are applied: two more for each array.
+  assert.deepEqual(await limits({ applications: 3 }), [true, beyond(3, "1,000,000"), true, false]);
+  // The root, `items`, and for each item its schema and `type`: 4 nodes of the first, 6 of the second.
+  assert.deepEqual((await limits({ nodes: 4 })).slice(2), [true, beyond(512, 4)]);
+  assert.deepEqual((await limits({ nodes: 6 })).slice(2), [true, false]);
+  for (const bad of [{ applications: 0 }, { applications: 513 }, { applications: 1.5 }, { nodes: -1 },
+    { nodes: 1_000_001 }, { nodes: "9" }, { applications: null }]) {
+    await assert.rejects(Schemas.create(documents, bad), RangeError);
+  }
+});
+
 /** Runs an action while new instances of a module are of another class. */
 function withInstances(Other, action) {
   const own = WebAssembly.Instance;

@@ -29,6 +29,15 @@ test("at the time limit a call is Stopped, and the next one has a new worker", a
   schemas.close();
 });
 
+test("a caller's limits hold in a worker", async () => {
+  const schemas = await WorkerSchemas.create({ [URI]: SCHEMA }, { applications: 1 });
+  assert.equal(await schemas.isValid(URI, "[]"), true);
+  await assert.rejects(schemas.isValid(URI, "[1]"), (it) => it instanceof Refused && it.kind === "TooLarge"
+    && it.meaning.startsWith("more than 1 nested schema applications"));
+  schemas.close();
+  await assert.rejects(WorkerSchemas.create({ [URI]: SCHEMA }, { nodes: Infinity }), RangeError);
+});
+
 test("a refused document", async () => {
   await assert.rejects(WorkerSchemas.create({ [URI]: '{"type": 1}' }),
     (it) => it instanceof Refused && it.document === URI && it.column === 10);

@@ -5,7 +5,8 @@ import { WorkerSchemas } from "jschema/worker";
 
 export async function use(bytes: Uint8Array): Promise<void> {
   const schemas: Schemas = await Schemas.create({ "https://example.com/config": "{}" });
-  const others: Schemas = await Schemas.create(new Map([["urn:x", bytes]]), { module: fetch("jschema.wasm") });
+  const module = fetch("jschema.wasm");
+  const others: Schemas = await Schemas.create(new Map([["urn:x", bytes]]), { module, nodes: 1000 });
   const valid: boolean = schemas.isValid("urn:x", { a: [1, 2n, null, { b: true }] });
   const errors: ValidationError[] = others.errors("urn:x", bytes);
   const places: [number, number, string, string][] =
@@ -18,7 +19,7 @@ export async function use(bytes: Uint8Array): Promise<void> {
   others.close();
   const validate = await compile({ type: "object" });
   const found: AjvError[] | null = validate({}) ? null : validate.errors;
-  const worker = await WorkerSchemas.create({ "urn:x": "true" }, { seconds: 1 });
+  const worker = await WorkerSchemas.create({ "urn:x": "true" }, { seconds: 1, applications: 8 });
   const inWorker: Promise<boolean> = worker.isValid("urn:x", "1");
   console.log(valid, places, output, text, format, position, found, inWorker, textOf(1n));
 
@@ -30,6 +31,8 @@ export async function use(bytes: Uint8Array): Promise<void> {
   schemas.isValid("urn:x", { at: new Date() });
   // @ts-expect-error: documents are texts
   await Schemas.create({ "urn:x": {} });
+  // @ts-expect-error: a limit is a number
+  await Schemas.create({}, { nodes: "1000" });
   // @ts-expect-error: `create` makes schemas
   new Schemas();
   // @ts-expect-error: a string in a list is a value, the entry is missing

@@ -1,0 +1,450 @@
+"""The playground in headless Chromium, as a reader uses it; and the rows through the module, in each browser.
+
+    browser_test.py MODULE CASES [SCREENSHOTS]
+
+CASES are those that cases.py writes. Of the states of the page pictures go into the folder SCREENSHOTS. It needs
+Chromium, its driver and Python's selenium; Firefox takes part with the rows alone.
+"""
+import json
+import os
+import shutil
+import subprocess
+import sys
+import tempfile
+import time
+import unittest
+from pathlib import Path
+
+sys.dont_write_bytecode = True
+from browsers import (CHROMIUM, HERE, HOME, KEY_PRESS, MANY, MANY_SCHEMA, PASTE, SECONDS, address,  # noqa: E402
+                      chromium, ended, served, wait_for_verdict)
+
+from selenium.webdriver.common.by import By  # noqa: E402
+from selenium.webdriver.common.keys import Keys  # noqa: E402
+from selenium.webdriver.support.ui import Select, WebDriverWait  # noqa: E402
+
+GIVEN = {}
+
+
+class Page(unittest.TestCase):
+    """What a reader sees and does."""
+
+    @classmethod
+    def setUpClass(cls):
+        cls.server = served(GIVEN["module"])
+        cls.driver = chromium()
+
+    @classmethod
+    def tearDownClass(cls):
+        cls.driver.quit()
+        ended(cls.server)
+
+    def setUp(self):
+        self.open(address(self.server))
+
+    # ---- words for what is done
+
+    def open(self, url):
+        self.driver.get("about:blank")
+        self.driver.get(url)
+        wait_for_verdict(self.driver)
+
+    def until(self, is_so, what=None):
+        WebDriverWait(self.driver, SECONDS, 0.05).until(lambda _: is_so(), what or "")
+
+    def find(self, selector):
+        return self.driver.find_element(By.CSS_SELECTOR, selector)
+
+    def all(self, selector):
+        return self.driver.find_elements(By.CSS_SELECTOR, selector)
+
+    def texts(self, selector):
+        return self.driver.execute_script(
+            "return Array.from(document.querySelectorAll(arguments[0]), it => it.textContent)", selector)
+
+    def verdict(self):
+        return self.find("#verdict").text
+
+    def expect_verdict(self, begin):
+        self.until(lambda: self.verdict().startswith(begin), f"not {begin}: {self.verdict()}")
+
+    def write(self, selector, text):
+        """Types a text in place of another."""
+        area = self.find(selector)
+        area.send_keys(Keys.CONTROL, "a")
+        area.send_keys(text)
+
+    def choose_example(self, name):
+        Select(self.find("#examples")).select_by_visible_text(name)
+
+    def open_panel(self, name):
+        self.find(f"#panel-{name}").click()
+        self.until(lambda: self.find(f"#panel-{name}").get_attribute("aria-selected") == "true")
+
+    def button(self, text, within="#panel"):
+        return next(it for it in self.all(f"{within} button") if it.text == text)
+
+    def picture(self, name):
+        if GIVEN.get("pictures"):
+            self.driver.save_screenshot(os.path.join(GIVEN["pictures"], f"{name}.png"))
+
+    def faults(self):
+        """What the browser's console reports."""
+        return [it["message"] for it in self.driver.get_log("browser") if it["level"] == "SEVERE"]
+
+    # ---- what is seen and done
+
+    def test_first_screen(self):
+        self.expect_verdict("✗ Invalid: 1 error")
+        self.assertEqual(self.texts("#instance-editor .underlined"), ["-1"])
+        self.assertEqual("".join(self.texts("#schema-editor .underlined")), '"minimum": 0')
+        self.assertEqual(self.texts(".drawing .message"), ["less than 0", "less than 0"])
+        self.assertEqual(self.texts(".errors .message"), ["less than 0"])
+        self.assertEqual(self.faults(), [])
+        self.picture("first")
+
+    def test_typing(self):
+        self.write("#instance-text", '{"name": "Ada", "age": 36}')
+        self.expect_verdict("✓ Valid")
+        self.assertEqual(self.texts(".underlined"), [])
+        self.write("#instance-text", '{"name": 1,\n"age": -3}')
+        self.expect_verdict("✗ Invalid: 2 errors")
+        self.assertEqual(self.texts("#instance-editor .underlined"), ["1", "-3"])
+        self.picture("typed")
+        self.write("#instance-text", '{"name": 0.5}')
+        self.expect_verdict("Refused: instance at /name: NotWhole")
+        self.assertEqual(self.texts("#instance-editor .underlined"), ["0.5"])
+        self.picture("refused")
+        self.write("#instance-text", "{}")
+        self.write("#schema-text", '{"type": "nul"}')
+        self.expect_verdict("Refused: document https://example.com/person at /type: BadKeyword")
+        self.assertEqual("".join(self.texts("#schema-editor .underlined")), '"type": "nul"')
+        self.write("#schema-text", '{"type": "null"}')
+        self.expect_verdict("✗ Invalid: 1 error")
+
+    def test_underlines_move_with_the_text(self):
+        area = self.find("#instance-text")
+        area.send_keys(Keys.CONTROL, Keys.HOME)
+        area.send_keys("\n\n ")
+        self.expect_verdict("✗ Invalid: 1 error")
+        self.assertEqual(self.texts("#instance-editor .underlined"), ["-1"])
+        self.until(lambda: "3:25" in self.find(".errors .where").text)
+
+    def test_errors_lead_to_their_places(self):
+        self.choose_example("Strict trees: $dynamicRef")
+        self.expect_verdict("✗ Invalid: 1 error")
+        places = self.all(".errors .where button")
+        self.find(".errors .message").click()
+        self.assertEqual(self.texts("#instance-editor .selected"), ["1"])
+        self.assertEqual("".join(self.texts("#schema-editor .selected")), '"unevaluatedProperties": false')
+        self.picture("places")
+        places[0].click()
+        self.assertEqual(self.driver.switch_to.active_element.get_attribute("id"), "instance-text")
+        self.assertIn("Line 3, column 14", self.find("#instance-text-caret").text)
+        self.all(".errors .where button")[1].click()
+        self.assertEqual(self.driver.switch_to.active_element.get_attribute("id"), "schema-text")
+        self.assertEqual(len(self.all(".errors .current")), 1)
+
+    def test_an_error_in_another_document_opens_its_tab(self):
+        self.choose_example("Strict trees: $dynamicRef")
+        self.write("#instance-text", '{"children": 1}')
+        self.until(lambda: self.texts(".errors .message") == ["type is integer"])
+        self.assertEqual([it.text for it in self.all("#documents [role=tab].marked")], ["tree"])
+        self.find(".errors .message").click()
+        self.assertEqual(self.find("#documents [aria-selected=true]").text, "tree")
+        self.assertEqual("".join(self.texts("#schema-editor .selected")), '"type": "array"')
+
+    def test_documents(self):
+        self.find("#add-document").click()
+        self.write("#uri", "https://example.com/zip")
+        self.write("#schema-text", '{"pattern": "^[0-9]{5}$"}')
+        self.find("#document-0").click()
+        self.write("#schema-text", '{"properties": {"zip": {"$ref": "zip"}}}')
+        self.write("#instance-text", '{"zip": "1234"}')
+        self.expect_verdict("✗ Invalid: 1 error")
+        self.assertIn("https://example.com/zip#/pattern", self.find(".errors").get_attribute("innerHTML"))
+        self.assertIn("https://example.com/zip", [it.get_attribute("value") for it in self.all("#entries option")])
+        self.write("#entry", "https://example.com/zip")
+        self.expect_verdict("✓ Valid")
+        self.find("#document-1").click()
+        self.find("#remove-document").click()
+        self.expect_verdict("Refused: document https://example.com/person at /properties/zip/$ref: Unresolved")
+
+    def test_tree(self):
+        self.choose_example("Folders in folders: a recursive schema")
+        self.open_panel("tree")
+        self.until(lambda: self.all("[role=treeitem]"))
+        root = self.find("[role=treeitem]")
+        rows = len(self.all("[role=treeitem]"))
+        self.assertEqual(root.get_attribute("aria-expanded"), "true")
+        self.assertTrue(self.all(".row.valid") and self.all(".row.invalid"))
+        self.picture("tree")
+        root.send_keys(Keys.ARROW_LEFT)
+        self.assertEqual(len(self.all("[role=treeitem]")), 1)
+        self.driver.switch_to.active_element.send_keys(Keys.ARROW_RIGHT)
+        self.assertEqual(len(self.all("[role=treeitem]")), rows)
+        self.driver.switch_to.active_element.send_keys(Keys.ARROW_RIGHT)
+        self.assertEqual(self.driver.switch_to.active_element.get_attribute("aria-level"), "2")
+        self.button("Unfold all").click()
+        self.assertGreater(len(self.all("[role=treeitem]")), rows)
+        self.button("Fold all").click()
+        self.assertEqual(len(self.all("[role=treeitem]")), 1 + len(self.all("[aria-level='2']")))
+        self.find(".twistie").click()
+        self.assertEqual(len(self.all("[role=treeitem]")), 1)
+
+    def test_condensing(self):
+        self.choose_example("One of two: anyOf, condensed")
+        self.until(lambda: self.all(".history"))
+        self.until(lambda: "0 steps taken" in self.find(".said").text)
+        before = self.texts("[role=treeitem]")
+        self.picture("condensing")
+        self.button("Step").click()
+        self.assertIn("1 step taken", self.find(".said").text)
+        self.assertEqual(len(self.texts("[role=treeitem]")), len(before) - 1)
+        self.find(".row .action").click()
+        self.assertIn("2 steps taken", self.find(".said").text)
+        self.button("Random step").click()
+        self.button("Back").click()
+        self.button("End").click()
+        self.assertIn("byte for byte the output detailed", self.find(".said").text)
+        self.assertFalse(self.all(".row .action"))
+        end = self.texts("[role=treeitem]")
+        self.picture("condensed")
+        self.button("Start").click()
+        self.assertEqual(len(self.texts("[role=treeitem]")), len(before))
+        while (random := self.button("Random step")).is_enabled():
+            random.click()
+        self.assertEqual(self.texts("[role=treeitem]"), end)
+
+    def test_merging(self):
+        self.choose_example("One problem in several ways: merged")
+        self.until(lambda: self.all("#panel input[type=checkbox]"))
+        self.find("#panel input[type=checkbox]").click()
+        self.until(lambda: self.all(".can-merge") or "0 steps" in self.find(".said").text)
+        self.button("End").click()
+        self.until(lambda: "byte for byte the output merged" in self.find(".said").text)
+        self.assertTrue(any("equal to" in it for it in self.texts(".history li")))
+        self.picture("merged")
+
+    def test_output(self):
+        self.open_panel("output")
+        self.until(lambda: self.all("pre"))
+        Select(self.find("#panel select")).select_by_visible_text("flag")
+        self.until(lambda: json.loads(self.find("pre").text) == {"valid": False})
+        self.picture("output")
+
+    def test_examples(self):
+        for name in [it.text for it in Select(self.find("#examples")).options][1:]:
+            with self.subTest(name):
+                self.choose_example(name)
+                self.expect_verdict("Refused: walk: TooLarge" if "TooLarge" in name else "✗ Invalid")
+        self.choose_example("A hostile pattern")
+        self.expect_verdict("✗ Invalid: 1 error (in less than 1 ms)")
+
+    def test_link(self):
+        self.choose_example("One of two: anyOf, condensed")
+        self.write("#instance-text", '{"mail": 7, "other": "é😀"}')
+        self.open_panel("output")
+        self.find("#share").click()
+        self.until(lambda: "link" in self.find("#notice").text)
+        link = self.driver.current_url
+        self.assertIn("#1.", link)
+        shown = self.find("#schema-text").get_property("value"), self.find("#instance-text").get_property("value")
+        asked = len(self.server.asked)
+        self.open(link)
+        again = self.find("#schema-text").get_property("value"), self.find("#instance-text").get_property("value")
+        self.assertEqual(again, shown)
+        self.assertEqual(self.find("#panel-output").get_attribute("aria-selected"), "true")
+        self.assertFalse([it for it in self.server.asked[asked:] if "1." in it])
+        self.open(address(self.server) + "#1.broken")
+        self.assertIn("The link can't be read", self.find("#notice").text)
+        self.expect_verdict("✗ Invalid: 1 error")
+
+    def test_address_follows(self):
+        self.write("#instance-text", '{"name": "Grace"}')
+        self.until(lambda: "#1." in self.driver.current_url)
+        self.driver.refresh()
+        self.until(lambda: self.find("#instance-text").get_property("value") == '{"name": "Grace"}')
+
+    def test_nothing_is_sent(self):
+        self.expect_verdict("✗ Invalid")
+        asked = len(self.server.asked)
+        for example in ("A person", "Strict trees: $dynamicRef"):
+            self.choose_example(example)
+            self.write("#instance-text", "[1]")
+            self.expect_verdict("✗ Invalid")
+        self.find("#share").click()
+        for panel in ("tree", "condensing", "output"):
+            self.open_panel(panel)
+        self.assertEqual(self.server.asked[asked:], [])
+        for attempt in ("fetch('/')", "fetch('https://example.com/')",
+                        "new Promise((done, refused) => { const it = new Image(); it.onload = done;"
+                        " it.onerror = refused; it.src = '/x.png'; })"):
+            said = self.driver.execute_async_script(
+                f"const end = arguments[0]; ({attempt}).then(() => end('sent'), () => end('refused'))")
+            self.assertEqual(said, "refused", attempt)
+        self.driver.execute_script("try { navigator.sendBeacon('/x'); } catch { }")
+        self.assertEqual(self.server.asked[asked:], [])
+
+    # ---- for everyone
+
+    def test_names_and_keyboard(self):
+        for panel in ("errors", "tree", "condensing", "output"):
+            self.open_panel(panel)
+            time.sleep(0.1)
+            for it in self.all("button, input, select, textarea, [role=tree], [role=treeitem], [role=tablist], pre"):
+                if it.is_displayed():
+                    self.assertTrue(it.accessible_name, it.get_attribute("outerHTML"))
+        self.find("#panel-output").send_keys(Keys.ARROW_RIGHT)
+        self.until(lambda: self.find("#panel-errors").get_attribute("aria-selected") == "true")
+        self.assertEqual(self.driver.switch_to.active_element.get_attribute("id"), "panel-errors")
+        reached = set()
+        self.find("#examples").send_keys("")
+        for _ in range(30):
+            self.driver.switch_to.active_element.send_keys(Keys.TAB)
+            reached.add(self.driver.switch_to.active_element.get_attribute("id"))
+        self.assertLessEqual({"share", "theme", "add-document", "uri", "schema-text", "entry", "instance-text",
+                              "panel-errors"}, reached)
+
+    def test_contrast(self):
+        for theme in ("light", "dark"):
+            Select(self.find("#theme")).select_by_value(theme)
+            for example, panel in (("Folders in folders: a recursive schema", "errors"),
+                                   ("One problem in several ways: merged", "condensing"),
+                                   ("Folders in folders: a recursive schema", "tree"),
+                                   ("A reference without end: TooLarge", "errors"), ("A person", "output")):
+                self.choose_example(example)
+                self.open_panel(panel)
+                time.sleep(0.2)
+                if theme == "dark":
+                    self.picture(f"dark-{panel}")
+                self.assertEqual(self.driver.execute_script(CONTRAST), [], (theme, example))
+
+    def test_narrow(self):
+        self.driver.set_window_size(500, 900)
+        try:
+            self.driver.execute_cdp_cmd("Emulation.setDeviceMetricsOverride", {
+                "width": 340, "height": 800, "deviceScaleFactor": 1, "mobile": False})
+            for panel in ("errors", "tree", "condensing", "output"):
+                self.open_panel(panel)
+                width = self.driver.execute_script("return document.scrollingElement.scrollWidth - innerWidth")
+                self.assertLessEqual(width, 0, panel)
+                self.picture(f"narrow-{panel}")
+        finally:
+            self.driver.execute_cdp_cmd("Emulation.clearDeviceMetricsOverride", {})
+            self.driver.set_window_size(1200, 1000)
+
+    def test_a_large_instance(self):
+        self.driver.execute_script(PASTE, "#schema-text", MANY_SCHEMA)
+        self.driver.execute_script(PASTE, "#instance-text", MANY)
+        self.expect_verdict("✓ Valid")
+        took = self.driver.execute_async_script(KEY_PRESS)
+        self.assertLess(took, 2000)
+        print(f"a key press in {len(MANY):,} characters: {took:.0f} ms until the verdict is shown")
+
+    def test_one_file(self):
+        if shutil.which("esbuild") is None:
+            self.skipTest("the playground in one file: esbuild isn't installed")
+        with tempfile.TemporaryDirectory() as folder:
+            file = Path(folder, "playground.html")
+            subprocess.run([HOME / "tools" / "build-playground", "--module", GIVEN["module"], "--out", file], check=True)
+            self.open(file.as_uri())
+            self.expect_verdict("✗ Invalid: 1 error")
+            self.write("#instance-text", '{"name": "Ada"}')
+            self.expect_verdict("✓ Valid")
+            said = self.driver.execute_async_script(
+                f"const end = arguments[0]; fetch('{self.server.url}/').then(() => end('sent'), () => end('refused'))")
+            self.assertEqual(said, "refused")
+            self.find("#share").click()
+            self.until(lambda: "link" in self.find("#notice").text)
+            link = self.driver.current_url
+            self.open(link)
+            self.assertEqual(self.find("#instance-text").get_property("value"), '{"name": "Ada"}')
+
+
+# The texts whose contrast with what is behind them is less than WCAG AA asks: each as text, colours and ratio.
+CONTRAST = """
+const channel = (it) => it <= 0.04045 ? it / 12.92 : ((it + 0.055) / 1.055) ** 2.4;
+const canvas = document.createElement("canvas").getContext("2d", { willReadFrequently: true });
+const colour = (text) => {
+  canvas.clearRect(0, 0, 1, 1);
+  canvas.fillStyle = text;
+  canvas.fillRect(0, 0, 1, 1);
+  return Array.from(canvas.getImageData(0, 0, 1, 1).data);
+};
+const luminance = ([r, g, b]) => 0.2126 * channel(r / 255) + 0.7152 * channel(g / 255) + 0.0722 * channel(b / 255);
+const behind = (it) => {
+  for (; it !== null; it = it.parentElement) {
+    const found = colour(getComputedStyle(it).backgroundColor);
+    if (found[3] === 255) return found;
+  }
+  return [255, 255, 255, 255];
+};
+const faults = [];
+const walker = document.createTreeWalker(document.body, NodeFilter.SHOW_TEXT);
+while (walker.nextNode()) {
+  const holder = walker.currentNode.parentElement;
+  const text = walker.currentNode.textContent.trim();
+  if (text === "" || !holder.checkVisibility() || holder.closest("noscript, option, datalist, button:disabled")) continue;
+  const [front, back] = [colour(getComputedStyle(holder).color), behind(holder)];
+  if (holder.tagName === "TEXTAREA") continue;
+  const [dark, light] = [luminance(front), luminance(back)].sort((a, b) => a - b);
+  const ratio = (light + 0.05) / (dark + 0.05);
+  if (ratio < 4.5) faults.push([text.slice(0, 40), String(front), String(back), ratio]);
+}
+return faults;
+"""
+
+class Rows(unittest.TestCase):
+    """Every row that is a check, in every format, byte for byte."""
+
+    def result(self, words):
+        """What the page of the rows posts, opened by a browser that these words start."""
+        others = {"/rows.html": HERE / "rows_page.html", "/rows_page.js": HERE / "rows_page.js",
+                  "/cases.json": Path(GIVEN["cases"])}
+        server = served(GIVEN["module"], others)
+        job = subprocess.Popen([*words, server.url + "/rows.html"], stdout=subprocess.DEVNULL,
+                               stderr=subprocess.DEVNULL, start_new_session=True)
+        try:
+            end = time.monotonic() + 3 * SECONDS
+            while not server.posted and job.poll() is None and time.monotonic() < end:
+                time.sleep(0.05)
+            self.assertTrue(server.posted, "the page posted nothing")
+            return server.posted[0]
+        finally:
+            job.terminate()
+            job.wait()
+            ended(server)
+
+    def judge(self, words):
+        result = self.result(words)
+        self.assertEqual(result["failed"], [])
+        self.assertGreater(result["passed"], 1000)
+
+    def test_chromium(self):
+        with tempfile.TemporaryDirectory() as folder:
+            self.judge(["chromium", *CHROMIUM, f"--user-data-dir={folder}"])
+
+    def test_firefox(self):
+        if shutil.which("firefox-esr") is None:
+            self.skipTest("the rows in Firefox: firefox-esr isn't installed")
+        with tempfile.TemporaryDirectory() as folder:
+            self.judge(["firefox-esr", "--headless", "--no-remote", "--profile", folder])
+
+
+def main():
+    GIVEN.update(zip(("module", "cases", "pictures"), sys.argv[1:]))
+    only = [it for it in sys.argv[4:]]
+    loader = unittest.defaultTestLoader
+    tests = loader.loadTestsFromNames(only, sys.modules[__name__]) if only else loader.loadTestsFromModule(
+        sys.modules[__name__])
+    result = unittest.TextTestRunner(stream=sys.stdout, verbosity=0).run(tests)
+    for _, reason in result.skipped:
+        print(f"skipped: {reason}")
+    failed = len(result.failures) + len(result.errors)
+    print(f"{result.testsRun - failed - len(result.skipped)} passed, {failed} failed")
+    return 1 if failed else 0
+
+
+if __name__ == "__main__":
+    sys.exit(main())

@@ -1,0 +1,110 @@
+"""Headless browsers with the playground: what its tests and its benchmark share. The driver needs Python's selenium."""
+import json
+import shutil
+import subprocess
+import sys
+import threading
+from pathlib import Path
+
+HERE = Path(__file__).resolve().parent
+HOME = HERE.parents[2]
+sys.path[:0] = [str(HOME), str(HOME / "tools")]
+from serving import PAGE, Handler, Server  # noqa: E402
+
+SECONDS = 60
+
+# For the root user, and for a machine without a screen.
+CHROMIUM = ["--headless=new", "--no-sandbox", "--disable-gpu", "--disable-dev-shm-usage", "--no-first-run",
+            "--disable-background-networking"]
+
+# An instance of a list of persons, as a text of 100 KB, and a schema for it.
+MANY = "[\n" + ",\n".join(json.dumps({"name": f"n{number}", "age": number}) for number in range(3600)) + "\n]"
+MANY_SCHEMA = '{"items": {"properties": {"age": {"minimum": 0}, "name": {"maxLength": 9}}}}'
+
+# Puts a text into one of the two text areas, as a paste does.
+PASTE = """
+const area = document.querySelector(arguments[0]);
+area.value = arguments[1];
+area.dispatchEvent(new Event("input"));
+"""
+
+# Milliseconds from a change of the instance until the frame that shows its verdict.
+KEY_PRESS = """
+const end = arguments[0];
+const area = document.querySelector("#instance-text"), verdict = document.querySelector("#verdict");
+const begin = performance.now();
+new MutationObserver((_, observer) => {
+  observer.disconnect();
+  requestAnimationFrame(() => setTimeout(() => end(performance.now() - begin)));
+}).observe(verdict, { childList: true });
+area.setRangeText(" ", 1, 1);
+area.dispatchEvent(new Event("input"));
+"""
+
+# Milliseconds from the beginning of the page until the first verdict.
+FIRST_VERDICT = "return performance.getEntriesByName('verdict')[0]?.startTime"
+
+
+def python():
+    """A Python that has selenium: this one, or Debian's. None where neither has."""
+    for path in (sys.executable, "/usr/bin/python3"):
+        if subprocess.run([path, "-c", "import selenium"], stderr=subprocess.DEVNULL).returncode == 0:
+            return path
+    return None
+
+
+def missing():
+    """What the driver needs that isn't installed."""
+    found = [it for it in ("chromium", "chromedriver") if shutil.which(it) is None]
+    return found if python() else [*found, "python3-selenium"]
+
+
+class Listening(Handler):
+    """Takes note of each request, and takes what a page posts."""
+
+    def do_POST(self):  # noqa: N802
+        self.server.posted.append(json.loads(self.rfile.read(int(self.headers["Content-Length"]))))
+        self.reply(204, b"", {}, False)
+
+    def answer(self, has_body):
+        self.server.asked.append(self.path)
+        super().answer(has_body)
+
+
+def served(module, others=()):
+    """A server in a thread, with other files by the paths under which they are served."""
+    server = Server(0, module, others, Listening)
+    server.asked, server.posted = [], []
+    threading.Thread(target=server.serve_forever, daemon=True).start()
+    return server
+
+
+def ended(server):
+    server.shutdown()
+    server.server_close()
+
+
+def chromium():
+    """A driver of Chromium."""
+    from selenium import webdriver
+    options = webdriver.ChromeOptions()
+    for word in [*CHROMIUM, "--window-size=1200,1000"]:
+        options.add_argument(word)
+    options.set_capability("goog:loggingPrefs", {"browser": "ALL"})
+    driver = webdriver.Chrome(options=options)
+    driver.set_script_timeout(SECONDS)
+    return driver
+
+
+def wait_for_verdict(driver, begin=""):
+    """Waits until a verdict is shown, or one that begins so."""
+    from selenium.webdriver.support.ui import WebDriverWait
+    shown = "return document.querySelector('#verdict')?.textContent ?? 'Loading'"
+    WebDriverWait(driver, SECONDS, 0.02).until(
+        lambda _: (text := driver.execute_script(shown)).startswith(begin) and "Loading" not in text)
+    return driver.execute_script(shown)
+
+
+def address(server):
+    """Where the playground is."""
+    return server.url + PAGE

@@ -1,0 +1,230 @@
+/**
+ * A text that can be edited, with stretches underlined.
+ *
+ * The text area has the text, its caret and its selection; its letters can't be seen. What is seen is drawn over it:
+ * of the lines that fit, coloured tokens, underlines, and behind each line the message of its first underline.
+ */
+import { element } from "./elements.js";
+
+// As in style.css.
+const LINE_HEIGHT = 20;
+
+// Lines that are longer aren't coloured, and their messages stand at the beginning.
+const LONGEST_COLOURED = 2000;
+
+const TOKEN = /("(?:[^"\\]|\\.)*"?)(\s*:)?|(-?[0-9][0-9.eE+-]*)|(true|false|null)/g;
+
+export class Editor {
+  #area;
+  #drawing;
+  #gutter;
+  #caret;
+  #before = "";
+  #starts = [0];
+  #marks = [];
+  #selected;
+
+  /**
+   * `changed` is called for each change, `moved` with the offset of the caret when it has moved.
+   *
+   * @param {{ holder: Element, label: string, id: string, changed: Function, moved: (offset: number) => void }} how
+   */
+  constructor({ holder, label, id, changed, moved }) {
+    this.#gutter = element("div", { class: "gutter", "aria-hidden": "true" });
+    this.#drawing = element("div", { class: "drawing", "aria-hidden": "true" });
+    this.#area = element("textarea", {
+      id, "aria-label": label, "aria-describedby": `${id}-caret`, spellcheck: "false", autocapitalize: "off",
+      autocomplete: "off", wrap: "off",
+    });
+    this.#caret = element("p", { class: "caret", id: `${id}-caret` });
+    const text = element("div", { class: "text" }, this.#area, this.#drawing);
+    holder.append(element("div", { class: "editor" }, this.#gutter, text), this.#caret);
+    this.#area.addEventListener("input", () => {
+      this.#marks = movedMarks(this.#marks, this.#before, this.#area.value);
+      this.#selected = undefined;
+      this.#measure();
+      this.draw();
+      changed();
+    });
+    this.#area.addEventListener("scroll", () => this.draw());
+    document.addEventListener("selectionchange", () => {
+      if (document.activeElement !== this.#area) return;
+      this.#describeCaret();
+      moved(this.#area.selectionStart);
+    });
+    new ResizeObserver(() => this.draw()).observe(this.#area);
+  }
+
+  get text() {
+    return this.#area.value;
+  }
+
+  set text(text) {
+    if (text !== this.#area.value) {
+      this.#area.value = text;
+      this.#area.scrollTo(0, 0);
+    }
+    this.#measure();
+    this.marks = [];
+  }
+
+  /** What is underlined: stretches with a message and an `error`. */
+  set marks(marks) {
+    this.#marks = [...marks].sort((one, other) => one.begin - other.begin);
+    this.#area.setAttribute("aria-invalid", String(marks.length > 0));
+    this.#selected = undefined;
+    this.draw();
+    this.#describeCaret();
+  }
+
+  /** The mark at an offset, or undefined: the shortest one. */
+  markAt(offset) {
+    return this.#marks.filter((it) => it.begin <= offset && offset <= it.end)
+      .sort((one, other) => one.end - one.begin - (other.end - other.begin))[0];
+  }
+
+  /** Shows a stretch, and emphasizes it. With `focus` the caret goes there. */
+  reveal({ begin, end }, focus = false) {
+    const line = this.#lineOf(begin);
+    const column = begin - this.#starts[line];
+    this.#selected = { begin, end };
+    this.#area.setSelectionRange(begin, focus ? end : begin);
+    if (focus) this.#area.focus({ preventScroll: true });
+    this.#area.scrollTop = Math.max(0, line * LINE_HEIGHT - this.#area.clientHeight / 3);
+    this.#area.scrollLeft = Math.max(0, (column - 20) * this.#columnWidth());
+    if (focus) this.#area.scrollIntoView({ block: "nearest" });
+    this.draw();
+    this.#describeCaret();
+  }
+
+  /** The line and column of an offset, from 1. */
+  positionOf(offset) {
+    const line = this.#lineOf(offset);
+    const before = this.#area.value.slice(this.#starts[line], offset);
+    return { line: line + 1, column: [...before].length + 1 };
+  }
+
+  /** Draws the lines that can be seen. */
+  draw() {
+    const { scrollTop, scrollLeft, clientHeight } = this.#area;
+    const first = Math.floor(scrollTop / LINE_HEIGHT);
+    const last = Math.min(this.#starts.length, Math.ceil((scrollTop + clientHeight) / LINE_HEIGHT) + 1);
+    const lines = [], numbers = [];
+    for (let line = first; line < last; line++) {
+      lines.push(element("div", { class: "line" }, ...this.#lineParts(line)));
+      const isMarked = this.#marksIn(line).length > 0;
+      numbers.push(element("div", isMarked ? { class: "marked" } : {}, String(line + 1)));
+    }
+    const down = first * LINE_HEIGHT - scrollTop;
+    this.#drawing.replaceChildren(element("div", {}, ...lines));
+    this.#drawing.firstChild.style.transform = `translate(${-scrollLeft}px, ${down}px)`;
+    this.#gutter.replaceChildren(element("div", {}, ...numbers));
+    this.#gutter.firstChild.style.transform = `translateY(${down}px)`;
+  }
+
+  #measure() {
+    const text = this.#before = this.#area.value;
+    this.#starts = [0];
+    for (let at = text.indexOf("\n"); at >= 0; at = text.indexOf("\n", at + 1)) this.#starts.push(at + 1);
+  }
+
+  #lineOf(offset) {
+    let low = 0, high = this.#starts.length;
+    while (high - low > 1) {
+      const middle = (low + high) >> 1;
+      if (this.#starts[middle] <= offset) low = middle;
+      else high = middle;
+    }
+    return low;
+  }
+
+  #lineText(line) {
+    const end = this.#starts[line + 1] ?? this.#area.value.length + 1;
+    return this.#area.value.slice(this.#starts[line], end - 1);
+  }
+
+  #marksIn(line) {
+    const begin = this.#starts[line], end = this.#starts[line + 1] ?? Infinity;
+    return this.#marks.filter((it) => it.begin < end && it.end > begin);
+  }
+
+  /** The parts of a line: coloured and underlined pieces, then the message. */
+  #lineParts(line) {
+    const text = this.#lineText(line), begin = this.#starts[line];
+    const marks = this.#marksIn(line);
+    const own = [...marks, ...this.#selected ? [{ ...this.#selected, isSelected: true }] : []];
+    const parts = piecesOf(text, begin, own).map(({ piece, classes }) =>
+      classes === "" ? document.createTextNode(piece) : element("span", { class: classes }, piece));
+    const messages = marks.filter((it) => it.begin >= begin).map((it) => it.message);
+    if (messages.length > 0) parts.push(this.#message(messages, text.length));
+    return parts;
+  }
+
+  /** The message behind a line. Behind one that ends out of sight it is shown where the line begins to be seen. */
+  #message(messages, length) {
+    const more = messages.length > 1 ? ` (and ${messages.length - 1} more)` : "";
+    const shown = element("span", { class: "message" }, messages[0] + more);
+    const seen = this.#area.clientWidth + this.#area.scrollLeft;
+    if (length * this.#columnWidth() + 80 > seen) {
+      shown.classList.add("above");
+      shown.style.right = `${-this.#area.scrollLeft}px`;
+    }
+    return shown;
+  }
+
+  #columnWidth() {
+    this.columnWidth ??= widthOfColumn(this.#area);
+    return this.columnWidth;
+  }
+
+  #describeCaret() {
+    const offset = this.#area.selectionStart;
+    const { line, column } = this.positionOf(offset);
+    const mark = this.markAt(offset);
+    const said = mark === undefined ? "" : `: ${mark.message}`;
+    this.#caret.textContent = `Line ${line}, column ${column}${said}`;
+    this.#caret.classList.toggle("fault", mark !== undefined);
+  }
+}
+
+/** Marks after a change of the text: those behind it move along, until there are new ones. */
+function movedMarks(marks, before, after) {
+  let same = 0, sameEnd = 0;
+  const shorter = Math.min(before.length, after.length);
+  while (same < shorter && before[same] === after[same]) same++;
+  while (sameEnd < shorter - same && before.at(-1 - sameEnd) === after.at(-1 - sameEnd)) sameEnd++;
+  const changedTo = before.length - sameEnd, longer = after.length - before.length;
+  const moved = (offset) => offset <= same ? offset : Math.max(same, offset >= changedTo ? offset + longer : same);
+  return marks.map((it) => ({ ...it, begin: moved(it.begin), end: moved(it.end) })).filter((it) => it.begin < it.end);
+}
+
+/** The pieces of a line, each with its classes. */
+function piecesOf(text, begin, marks) {
+  const cuts = new Set([0, text.length]);
+  const within = (offset) => Math.min(Math.max(offset - begin, 0), text.length);
+  for (const it of marks) cuts.add(within(it.begin)).add(within(it.end));
+  const tokens = text.length > LONGEST_COLOURED ? [] : tokensOf(text);
+  for (const it of tokens) cuts.add(it.begin).add(it.end);
+  const ends = [...cuts].sort((one, other) => one - other);
+  return ends.slice(0, -1).map((from, index) => {
+    const classes = tokens.filter((it) => it.begin <= from && from < it.end).map((it) => it.kind);
+    for (const it of marks) {
+      if (it.begin - begin <= from && from < it.end - begin) classes.push(it.isSelected ? "selected" : "underlined");
+    }
+    return { piece: text.slice(from, ends[index + 1]), classes: [...new Set(classes)].join(" ") };
+  });
+}
+
+function tokensOf(text) {
+  return [...text.matchAll(TOKEN)].map((found) => {
+    const [, string, colon, number] = found;
+    const kind = string === undefined ? number === undefined ? "word" : "number" : colon ? "name" : "string";
+    return { begin: found.index, end: found.index + (string ?? found[0]).length, kind };
+  });
+}
+
+function widthOfColumn(area) {
+  const context = document.createElement("canvas").getContext("2d");
+  context.font = getComputedStyle(area).font;
+  return context.measureText("0").width;
+}

@@ -1,0 +1,45 @@
+/**
+ * Where the module and the worker come from: from files beside this one, or from the page itself, if it is the one file
+ * that tools/build-playground makes.
+ */
+
+const MODULE = "../../out/wasm/jschema.wasm";
+
+/** The compiled module. */
+export async function loadModule() {
+  const embedded = document.getElementById("embedded-module");
+  if (embedded !== null) return WebAssembly.compile(await unpacked(embedded.textContent.trim()));
+  const response = await fetch(new URL(MODULE, import.meta.url));
+  if (!response.ok) throw new Error(`${response.url}: ${response.status}: tools/build-wasm makes the module`);
+  return WebAssembly.compile(await response.arrayBuffer());
+}
+
+/** The bytes of a gzipped text in base64. */
+async function unpacked(text) {
+  const bytes = Uint8Array.from(atob(text), (it) => it.charCodeAt(0));
+  const stream = new Blob([bytes]).stream().pipeThrough(new DecompressionStream("gzip"));
+  return new Response(stream).arrayBuffer();
+}
+
+/** Forbids every connection from now on, to this page's own server too: what is typed can't be sent anywhere. */
+export function forbidConnections() {
+  const policy = document.createElement("meta");
+  policy.httpEquiv = "Content-Security-Policy";
+  policy.content = "connect-src 'none'";
+  document.head.append(policy);
+}
+
+// (A worker of a blob has the policy of the page.)
+let workerUrl;
+
+/** A new worker. */
+export function startWorker() {
+  workerUrl ??= URL.createObjectURL(new Blob([workerText()], { type: "text/javascript" }));
+  return new Worker(workerUrl, { type: "module" });
+}
+
+function workerText() {
+  const embedded = document.getElementById("embedded-worker");
+  return embedded === null ? `import ${JSON.stringify(new URL("worker.js", import.meta.url).href)};`
+    : embedded.textContent;
+}

@@ -1,0 +1,247 @@
+/** The playground: what was typed goes to the worker, and its answers to the panels. */
+import { Checker } from "./checker.js";
+import { CondensingPanel } from "./condensing_panel.js";
+import { DocumentTabs } from "./document_tabs.js";
+import { Editor } from "./editor.js";
+import { element } from "./elements.js";
+import { ErrorList } from "./error_list.js";
+import { EXAMPLES, stateOfExample } from "./examples.js";
+import { forbidConnections, loadModule, startWorker } from "./loading.js";
+import { OutputPanel } from "./output_panel.js";
+import { SchemaTexts, Values, isOfName } from "./places.js";
+import { ResultPanel } from "./result_panel.js";
+import { fragmentOf, stateOf } from "./sharing.js";
+import { Tabs } from "./tabs.js";
+
+const PANELS = { errors: "Errors", tree: "Result tree", condensing: "Condensing", output: "Output" };
+
+/** The most schemas that are offered to check against. */
+const MOST_ENTRIES = 500;
+
+// How long after the last change the address gets the state.
+const QUIET_MILLISECONDS = 600;
+
+const at = (id) => document.getElementById(id);
+
+class Playground {
+  #checker;
+  #answer = { verdict: "none" };
+  #panel = "errors";
+  #format = "detailed";
+  #isMerging = false;
+  #quiet;
+
+  constructor() {
+    this.documents = new DocumentTabs({
+      changed: () => this.#changed(), moved: (document, offset) => this.#caretAt("inSchema", offset, document),
+    });
+    this.instance = new Editor({
+      holder: at("instance-editor"), label: "Instance", id: "instance-text",
+      changed: () => this.#changed(), moved: (offset) => this.#caretAt("inInstance", offset),
+    });
+    const chosen = (node) => this.#revealNode(node);
+    this.panels = {
+      errors: new ErrorList({
+        places: (error) => this.#positions(error),
+        chosen: (error, where) => this.#reveal(error, where),
+      }),
+      tree: new ResultPanel({ chosen }),
+      condensing: new CondensingPanel({ chosen, changed: (isMerging) => this.#choose({ isMerging }) }),
+      output: new OutputPanel({ changed: (format) => this.#choose({ format }) }),
+    };
+    this.tabs = new Tabs({
+      holder: at("panels"), label: "Result", panel: "panel", chosen: (panel) => this.#choose({ panel }),
+    });
+    at("entry").addEventListener("input", () => this.#changed());
+    at("share").addEventListener("click", () => this.#share());
+    this.#offerExamples();
+  }
+
+  /** Begins to check, by this module. */
+  connect(module) {
+    this.#checker = new Checker({ start: startWorker, module, tell: (answer) => this.#answered(answer) });
+    this.#check();
+  }
+
+  get state() {
+    return {
+      documents: this.documents.documents, selected: this.documents.selected, entry: at("entry").value,
+      instance: this.instance.text, panel: this.#panel, format: this.#format, isMerging: this.#isMerging,
+    };
+  }
+
+  show({ documents, selected, entry, instance, panel, format, isMerging }) {
+    this.#panel = panel in PANELS ? panel : "errors";
+    this.#format = format;
+    this.#isMerging = isMerging;
+    this.documents.show(documents, selected);
+    at("entry").value = entry;
+    this.instance.text = instance;
+    this.#check();
+  }
+
+  #offerExamples() {
+    const select = at("examples");
+    select.append(element("option", { value: "" }, "choose …"),
+      ...EXAMPLES.map(({ name }, index) => element("option", { value: index }, name)));
+    select.addEventListener("change", () => {
+      if (select.value === "") return;
+      this.show(stateOfExample(EXAMPLES[select.value]));
+      select.value = "";
+      this.#later();
+    });
+  }
+
+  #changed() {
+    this.#check();
+    this.#later();
+  }
+
+  #choose({ panel = this.#panel, format = this.#format, isMerging = this.#isMerging }) {
+    this.#panel = panel;
+    this.#format = format;
+    this.#isMerging = isMerging;
+    this.#changed();
+  }
+
+  #check() {
+    const { documents, entry, instance } = this.state;
+    const wanted = {
+      errors: [], tree: ["verbose"], output: [this.#format],
+      condensing: ["verbose", this.#isMerging ? "merged" : "detailed"],
+    }[this.#panel];
+    this.#checker?.ask({ documents, entry, instance, wanted });
+  }
+
+  #answered(answer) {
+    this.#answer = answer;
+    const { fault, errors = [] } = answer;
+    const faults = fault === undefined ? errors : [fault];
+    const marks = (where) => faults.filter((it) => it[where] !== undefined)
+      .map((it) => ({ ...it[where], message: it.message }));
+    this.documents.marks = marks("inSchema");
+    this.instance.marks = marks("inInstance");
+    this.#say(answer);
+    performance.mark("verdict");
+    if (answer.places !== undefined) offerEntries(answer.places);
+    this.#showPanel();
+  }
+
+  #say({ verdict, count, milliseconds, fault }) {
+    const said = at("verdict");
+    said.className = verdict;
+    if (verdict === "none") {
+      said.textContent = `${fault.name === "Refused" ? "Refused" : fault.name}: ${fault.message}`;
+    } else {
+      const time = milliseconds < 1 ? "in less than 1 ms" : `in ${Math.round(milliseconds)} ms`;
+      const errors = `${count.toLocaleString("en")} ${count === 1 ? "error" : "errors"}`;
+      said.textContent = verdict === "valid" ? `✓ Valid (${time})` : `✗ Invalid: ${errors} (${time})`;
+    }
+  }
+
+  #showPanel() {
+    const panel = this.panels[this.#panel];
+    const { outputs = {} } = this.#answer;
+    this.tabs.show(Object.entries(PANELS).map(([key, label]) => ({ key, label })), this.#panel);
+    if (at("panel").firstChild !== panel.element) at("panel").replaceChildren(panel.element);
+    if (this.#panel === "errors") panel.show(this.#answer);
+    else if (this.#panel === "tree") panel.show(outputs.verbose);
+    else if (this.#panel === "condensing") panel.show(outputs, this.#isMerging);
+    else panel.show(outputs, this.#format);
+  }
+
+  /** Where an error is, in words. */
+  #positions({ inInstance, inSchema }) {
+    const position = inInstance && this.instance.positionOf(inInstance.begin);
+    return {
+      instance: position && `${position.line}:${position.column}`,
+      schema: inSchema && this.documents.position(inSchema),
+    };
+  }
+
+  /** Shows an error's places: both, or one of them with the caret. */
+  #reveal({ inInstance, inSchema }, where) {
+    if (inSchema !== undefined && where !== "instance") this.documents.reveal(inSchema, where === "schema");
+    if (inInstance !== undefined && where !== "schema") this.instance.reveal(inInstance, where === "instance");
+  }
+
+  /** Shows the places of a node of the result. */
+  #revealNode({ instance, keyword, absolute }) {
+    const inInstance = new Values(this.instance.text).ofValue(instance, isOfName(keyword));
+    this.#reveal({ inInstance, inSchema: new SchemaTexts(this.documents.documents).find(absolute) }, "both");
+  }
+
+  /** Emphasizes the errors at the caret. */
+  #caretAt(where, offset, document = undefined) {
+    const { errors = [] } = this.#answer;
+    this.panels.errors.emphasize(errors, ({ [where]: it }) =>
+      it !== undefined && it.document === document && it.begin <= offset && offset <= it.end);
+  }
+
+  /** Puts the state into the address, once nothing has changed for a while. */
+  #later() {
+    clearTimeout(this.#quiet);
+    this.#quiet = setTimeout(() => this.#keep(), QUIET_MILLISECONDS);
+  }
+
+  async #keep() {
+    const fragment = await fragmentOf(this.state);
+    history.replaceState(null, "", fragment);
+    return new URL(fragment, location.href).href;
+  }
+
+  async #share() {
+    clearTimeout(this.#quiet);
+    const link = await this.#keep();
+    const length = link.length.toLocaleString("en");
+    try {
+      await navigator.clipboard.writeText(link);
+      notify(`The link was copied: ${length} characters that hold everything. What follows # is sent to nobody.`);
+    } catch {
+      notify(`The address of this page is the link now: ${length} characters that hold everything.`);
+    }
+  }
+}
+
+let offered;
+
+/** Offers these schemas to check against. */
+function offerEntries(places) {
+  const entries = places.slice(0, MOST_ENTRIES).map((it) => it.replace(/#$/, ""));
+  if (offered === entries.join("\n")) return;
+  offered = entries.join("\n");
+  at("entries").replaceChildren(...entries.map((it) => element("option", { value: it })));
+}
+
+function notify(text) {
+  at("notice").textContent = text;
+}
+
+/** The state of the link, or the first example. */
+async function firstState() {
+  try {
+    const state = await stateOf(location.hash);
+    if (state !== undefined) return state;
+  } catch (error) {
+    notify(`The link can't be read (${error.message}); this is an example.`);
+  }
+  return stateOfExample(EXAMPLES[0]);
+}
+
+async function begin() {
+  at("theme").addEventListener("change", ({ target }) => {
+    document.documentElement.dataset.theme = target.value;
+  });
+  const loading = loadModule();
+  const playground = new Playground();
+  playground.show(await firstState());
+  const module = await loading;
+  forbidConnections();
+  playground.connect(module);
+  window.addEventListener("hashchange", async () => playground.show(await firstState()));
+}
+
+begin().catch((error) => {
+  at("verdict").className = "none";
+  at("verdict").textContent = `The validator can't be loaded: ${error.message}`;
+});

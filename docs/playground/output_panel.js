@@ -1,0 +1,56 @@
+/** The panel with the output as it is written, in any format. */
+import { FORMATS } from "../../bindings/javascript/src/index.js";
+import { element } from "./elements.js";
+
+/** The most characters of an output that are shown. */
+const MOST_CHARACTERS = 200_000;
+
+export class OutputPanel {
+  #holder = element("div", {});
+  #format;
+  #text = element("pre", { tabindex: "0", "aria-label": "Output" });
+  #hint = element("p", { class: "hint" });
+
+  /** @param {{ changed: (format: string) => void }} how */
+  constructor({ changed }) {
+    this.#format = element("select", { onchange: () => changed(this.#format.value) },
+      ...FORMATS.map((it) => element("option", { value: it }, it)));
+    this.#holder.append(element("div", { class: "controls" }, element("label", {}, "Format ", this.#format)),
+      this.#hint, this.#text);
+  }
+
+  get element() {
+    return this.#holder;
+  }
+
+  show(outputs, format) {
+    this.#format.value = format;
+    const text = outputs[format];
+    this.#text.hidden = text === undefined;
+    this.#text.textContent = text === undefined ? "" : indented(text.slice(0, MOST_CHARACTERS));
+    this.#hint.textContent = text === undefined ? "There is no output that could be shown." : hintFor(text);
+  }
+}
+
+function hintFor({ length }) {
+  return `${length.toLocaleString("en")} characters; indented here${length > MOST_CHARACTERS ? " and cut" : ""}.`;
+}
+
+/** A JSON text (or the beginning of one) with a line for each member and item. Only space between tokens is added. */
+export function indented(text) {
+  let depth = 0;
+  const tokens = text.matchAll(/"(?:[^"\\]|\\.)*"?|[[\]{},:]|[^\s"[\]{},:]+/g);
+  const pieces = [];
+  const feed = () => pieces.push("\n", "  ".repeat(depth));
+  let before = "";
+  for (const [token] of tokens) {
+    const closes = token === "]" || token === "}";
+    if (closes) depth -= 1;
+    const isEmpty = closes && (before === "[" || before === "{");
+    if (!isEmpty && (closes || before === "[" || before === "{" || before === ",")) feed();
+    pieces.push(token === ":" ? ": " : token);
+    if (token === "[" || token === "{") depth += 1;
+    before = token;
+  }
+  return pieces.join("");
+}

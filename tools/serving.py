@@ -1,0 +1,77 @@
+"""Serves the playground and what it is made of: the files that its page may ask for, and no others."""
+import posixpath
+from http.server import BaseHTTPRequestHandler, ThreadingHTTPServer
+from pathlib import Path
+from urllib.parse import unquote, urlsplit
+
+HOME = Path(__file__).resolve().parents[1]
+PAGE = "/docs/playground/"
+MODULE = "/out/wasm/jschema.wasm"
+PACKAGE = "/bindings/javascript/src/"
+
+TYPES = {
+    ".html": "text/html; charset=utf-8",
+    ".js": "text/javascript; charset=utf-8",
+    ".css": "text/css; charset=utf-8",
+    ".json": "application/json",
+    ".wasm": "application/wasm",
+}
+
+
+class Handler(BaseHTTPRequestHandler):
+    """Answers to GET and HEAD. The page has a policy of its own; what the server adds, a page can't say."""
+
+    server_version = "jschema"
+    protocol_version = "HTTP/1.1"
+
+    def do_GET(self):  # noqa: N802
+        self.answer(True)
+
+    def do_HEAD(self):  # noqa: N802
+        self.answer(False)
+
+    def answer(self, has_body):
+        path = unquote(urlsplit(self.path).path)
+        if path in ("/", PAGE.rstrip("/")):
+            return self.reply(302, b"", {"Location": PAGE}, has_body)
+        file = self.server.file_of(path)
+        if file is None:
+            return self.reply(404, b"not found\n", {"Content-Type": "text/plain"}, has_body)
+        return self.reply(200, file.read_bytes(), {"Content-Type": TYPES[file.suffix]}, has_body)
+
+    def reply(self, status, body, headers, has_body):
+        fixed = {"Content-Length": str(len(body)), "Cache-Control": "no-cache", "X-Content-Type-Options": "nosniff",
+                 "Referrer-Policy": "no-referrer", "Content-Security-Policy": "frame-ancestors 'none'"}
+        self.send_response(status)
+        for name, value in {**fixed, **headers}.items():
+            self.send_header(name, value)
+        self.end_headers()
+        if has_body:
+            self.wfile.write(body)
+
+    def log_message(self, *words):
+        if self.server.is_logging:
+            super().log_message(*words)
+
+
+class Server(ThreadingHTTPServer):
+    """Files of the repository, for this machine alone. `others` has files by the path under which they are served."""
+
+    daemon_threads = True
+
+    def __init__(self, port, module, others=(), handler=Handler, is_logging=False):
+        super().__init__(("127.0.0.1", port), handler)
+        self.others = {MODULE: Path(module), **dict(others)}
+        self.is_logging = is_logging
+
+    @property
+    def url(self):
+        return f"http://127.0.0.1:{self.server_address[1]}"
+
+    def file_of(self, path):
+        """The file that a path names, or None."""
+        found = self.others.get(path)
+        if found is None and posixpath.normpath(path) == path.rstrip("/") and path.startswith((PAGE, PACKAGE)):
+            found = HOME / path.removeprefix("/")
+            found = found / "index.html" if path == PAGE else found
+        return found if found is not None and found.suffix in TYPES and found.is_file() else None
