@@ -10,16 +10,18 @@ from typing import Any, Optional
 
 from ..documents import Documents, texts_of
 from ..errors import Refused
+from ..limits import LARGEST_TEXT
 from ..locations import pointer
 from ..positions import Position
 from ..scanner import NotJson, scan
 from ..schemas import Schemas
 from ..sources import Range, Source, Unreadable, read
 from . import bounds, keywords, numbers, patterns, references
-from .document import Document, document
+from ..resources import Document, document
 from .finding import ERROR, NOTE, RULES, WARNING, Finding, Found
 
-__all__ = ["ERROR", "NOTE", "RULES", "WARNING", "Finding", "lint", "lint_all"]
+__all__ = ["ERROR", "NOTE", "RULES", "WARNING", "Finding", "broken", "lint", "lint_all", "lint_documents",
+           "second_document", "unreadable"]
 
 
 def lint(text: bytes, uri: str, *, kind: str = "json", others: Documents = ()) -> list[Finding]:
@@ -34,14 +36,52 @@ def lint(text: bytes, uri: str, *, kind: str = "json", others: Documents = ()) -
 def lint_all(texts: Sequence[tuple[str, bytes, str]], others: Documents = ()) -> list[list[Finding]]:
     """The same of each of several documents, which may refer to one another. Of each the URI, text and kind are given."""
     made = [_document(uri, text, kind) for uri, text, kind in texts]
-    whole = [it for it in made if isinstance(it, Document)]
     beside = [it for it in (_document(uri, text, "json") for uri, text in texts_of(others)) if isinstance(it, Document)]
-    documents = [*whole, *beside]
-    refused = judged({it.uri: it.source.json for it in documents}) if whole else None
-    return [_findings(it, documents, refused) if isinstance(it, Document) else [it] for it in made]
+    found = iter(lint_documents([it for it in made if isinstance(it, Document)], beside))
+    return [next(found) if isinstance(it, Document) else [it] for it in made]
 
 
-def judged(documents: Documents) -> Optional[Refused]:
+def lint_documents(given: Sequence[Document], beside: Sequence[Document] = ()) -> list[list[Finding]]:
+    """The same of documents that were read; `beside` are those that they refer to, which aren't looked at."""
+    documents = [*given, *beside]
+    refusals = _refusals(documents) if given else {}
+    return [_findings(it, documents, refusals.get(index)) for index, it in enumerate(given)]
+
+
+def broken(source: Source) -> Optional[Finding]:
+    """That a text isn't JSON, and where; None if it is."""
+    try:
+        if len(source.json) <= LARGEST_TEXT:
+            scan(source.json)
+            return None
+    except NotJson as error:
+        at = source.at(error.offset)
+        return Finding("not-json", ERROR, Refused("document", "NotJson").meaning, "", Range(at, at))
+    start = Position(0, 1, 1)
+    return Finding("refused", ERROR, Refused("input", "InputTooLarge").meaning, "", Range(start, start))
+
+
+def unreadable(refused: Unreadable) -> Finding:
+    """That a text isn't of its kind."""
+    return Finding("not-json", ERROR, refused.meaning, refused.place or "", refused.range)
+
+
+def second_document(source: Source) -> Finding:
+    """That a file has another document of YAML."""
+    at = source.value("")
+    return Finding("not-json", ERROR, "a schema is one document, and here begins another", "", at)
+
+
+def _document(uri: str, text: bytes, kind: str) -> Document | Finding:
+    """The document of a text; or that it is broken, and where."""
+    try:
+        source, *more = read(text, kind)
+    except Unreadable as refused:
+        return unreadable(refused)
+    return (second_document(more[0]) if more else broken(source)) or document(uri, source)
+
+
+def _judged(documents: Sequence[tuple[str, Any]]) -> Optional[Refused]:
     """The refusal of documents, if the validator refuses them."""
     try:
         with Schemas(documents):
@@ -50,38 +90,33 @@ def judged(documents: Documents) -> Optional[Refused]:
         return refused
 
 
-def _document(uri: str, text: bytes, kind: str) -> Document | Finding:
-    """The document of a text; or that it is broken, and where."""
-    try:
-        [source] = _one(read(text, kind))
-        scan(source.json)
-        return document(uri, source)
-    except Unreadable as refused:
-        return Finding("not-json", ERROR, refused.meaning, refused.place or "", refused.range)
-    except NotJson as error:
-        at = source.at(error.offset)
-        return Finding("not-json", ERROR, Refused("document", "NotJson").meaning, "", Range(at, at))
-
-
-def _one(sources: list[Source]) -> list[Source]:
-    """The one source of a schema's text. Raises `Unreadable` where there are more."""
-    if len(sources) > 1:
-        start = Position(0, 1, 1)._replace(line=sources[1].first_line)
-        raise Unreadable("NotYaml", "a schema is one document, and here begins another", Range(start, start))
-    return sources
+def _refusals(documents: Sequence[Document]) -> dict[int, Refused]:
+    """The first refusal of each document that the validator refuses. It names one document, so it is asked again without
+    that."""
+    refusals: dict[int, Refused] = {}
+    while left := [(index, it) for index, it in enumerate(documents) if index not in refusals]:
+        refused = _judged([(it.uri, it.source.json) for _, it in left])
+        if refused is None:
+            break
+        refusals[left[refused.index or 0][0]] = refused
+    return refusals
 
 
 def _findings(given: Document, documents: Sequence[Document], refused: Optional[Refused]) -> list[Finding]:
     """What the rules find, in the order of the text."""
     found = list(_found(given, documents, refused is not None))
-    if refused is not None and refused.document == given.uri and \
-            not any(it.severity == ERROR and pointer([*it.tokens]) == refused.place for it in found):
+    findings = [_finding(given, it) for it in found]
+    if refused is not None and not _is_known(refused, found):
         message = f"{refused.meaning} ({refused.kind})"
-        findings = [Finding("refused", ERROR, message, refused.place or "", given.source.refusal(refused))]
-    else:
-        findings = []
-    findings += [_finding(given, it) for it in found]
+        findings.append(Finding("refused", ERROR, message, refused.place or "", given.source.refusal(refused)))
     return sorted(findings, key=lambda it: it.range.begin)
+
+
+def _is_known(refused: Refused, found: Sequence[Found]) -> bool:
+    """Whether a rule has found what the validator refuses. (References to a document that is itself refused lead
+    somewhere.)"""
+    return refused.kind == "Unresolved" or any(it.severity == ERROR and pointer([*it.tokens]) == refused.place
+                                               for it in found)
 
 
 def _found(given: Document, documents: Sequence[Document], is_refused: bool) -> Iterator[Found]:
@@ -98,7 +133,7 @@ def _found(given: Document, documents: Sequence[Document], is_refused: bool) -> 
 
 
 def _pattern_judge(schema: Any) -> Optional[Refused]:
-    return judged({"https://a.example/patterns": schema})
+    return _judged([("https://a.example/patterns", schema)])
 
 
 def _finding(given: Document, it: Found) -> Finding:

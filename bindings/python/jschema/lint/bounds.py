@@ -5,7 +5,7 @@ import re
 from collections.abc import Iterator
 from typing import Any, Optional
 
-from .document import Document, is_number, is_whole
+from ..resources import Document, is_number, is_whole
 from .finding import WARNING, Found
 
 # The bounds of which the first may not be above the second, and what they are about.

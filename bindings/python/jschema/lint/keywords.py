@@ -4,8 +4,8 @@ from __future__ import annotations
 from collections.abc import Iterator
 from typing import Any, Optional
 
-from .dialects import KEYWORDS, stranger
-from .document import Document
+from ..dialects import KEYWORDS, stranger
+from ..resources import Document
 from .finding import NOTE, WARNING, Found
 
 # Of those with this beginning everybody knows that they are somebody's own.

@@ -5,7 +5,7 @@ from collections.abc import Iterator
 from typing import Any
 
 from ..values import GREATEST, LEAST
-from .document import Document, Tokens
+from ..resources import Document, Tokens
 from .finding import ERROR, Found
 
 

@@ -6,7 +6,7 @@ from collections.abc import Iterator, Sequence
 from typing import Callable, Optional
 
 from ..errors import Refused
-from .document import Document, Tokens
+from ..resources import Document, Tokens
 from .finding import ERROR, Found
 
 #: Whether the validator refuses a schema document; and where.

@@ -6,7 +6,7 @@ where each of its values stands.
     source.value("/age")   # Range(begin=Position(offset=5, line=1, column=6), end=Position(offset=7, line=1, column=8))
 """
 from .kinds import KINDS, SUFFIXES, kind_of, read
-from .source import Range, Source, Unreadable
+from .source import JsonSource, Range, Source, Unreadable
 from .tree import Member, Node
 
-__all__ = ["KINDS", "SUFFIXES", "Member", "Node", "Range", "Source", "Unreadable", "kind_of", "read"]
+__all__ = ["KINDS", "SUFFIXES", "JsonSource", "Member", "Node", "Range", "Source", "Unreadable", "kind_of", "read"]

@@ -24,6 +24,8 @@ class Unreadable(Refused):
         super().__init__("input", kind, place)
         self.meaning = meaning
         self.range = at
+        #: The documents of YAML that stand before it.
+        self.before: list[Source] = []
 
     def __reduce__(self) -> tuple[type[Unreadable], tuple[str, str, Range, Optional[str]]]:
         return Unreadable, (self.kind, self.meaning, self.range, self.place)

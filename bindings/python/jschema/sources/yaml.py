@@ -6,6 +6,7 @@ What YAML 1.1 and 1.2 read differently is a string where 1.2 says so (`yes`, `12
 from __future__ import annotations
 
 import codecs
+from collections.abc import Iterator
 from typing import Any, NamedTuple, Optional
 
 from ..extras import library
@@ -23,20 +24,30 @@ _TAG = "tag:yaml.org,2002:"
 
 
 def read(data: bytes) -> list[Source]:
-    """A source for each document."""
+    """A source for each document. What is refused of one is refused with those before it, which are whole."""
     yaml = library("yaml", "YAML is read")
     lines = _Lines(data)
-    reader = _Reader(yaml, lines)
+    sources: list[Source] = []
     try:
-        roots = reader.documents(yaml.parse(lines.text, getattr(yaml, "CLoader", yaml.Loader)))
+        for root in _roots(yaml, lines):
+            sources.append(MarkedSource("yaml", lines.data, written(root), root, lines.positions))
+        if not sources:
+            raise lines.refused("has no document", 0)
+    except Unreadable as refused:
+        refused.before = sources
+        raise
+    return sources
+
+
+def _roots(yaml: Any, lines: _Lines) -> Iterator[Node]:
+    """The value of each document."""
+    try:
+        yield from _Reader(yaml, lines).documents(yaml.parse(lines.text, getattr(yaml, "CLoader", yaml.Loader)))
     except yaml.MarkedYAMLError as error:
         at = error.problem_mark or error.context_mark
         raise lines.refused(error.problem or error.context or "isn't YAML", at.index if at else 0) from None
     except yaml.reader.ReaderError as error:
-        raise lines.refused(f"{error.reason}", error.position) from None
-    if not roots:
-        raise lines.refused("has no document", 0)
-    return [MarkedSource("yaml", lines.data, written(root), root, lines.positions) for root in roots]
+        raise lines.refused(error.reason, error.position) from None
 
 
 class _Lines:
@@ -105,9 +116,9 @@ class _Reader:
         self._open: list[_Holder] = []
         self._root: Optional[Node] = None
 
-    def documents(self, events: Any) -> list[Node]:
+    def documents(self, events: Any) -> Iterator[Node]:
         """The value of each document."""
-        yaml, roots = self._yaml, []
+        yaml = self._yaml
         for event in events:
             if isinstance(event, yaml.ScalarEvent):
                 self._scalar(event)
@@ -120,9 +131,8 @@ class _Reader:
             elif isinstance(event, yaml.DocumentStartEvent):
                 self._anchors.clear()
             elif isinstance(event, yaml.DocumentEndEvent) and self._root is not None:
-                roots.append(self._root)
+                yield self._root
                 self._root = None
-        return roots
 
     def _scalar(self, event: Any) -> None:
         begin, end = self._span(event)
