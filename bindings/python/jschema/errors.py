@@ -43,8 +43,12 @@ class ValidationError(Exception):
     @property
     def position(self) -> Position:
         """Where the value begins in the text; for errors of `propertyNames`, where the member's name begins."""
-        is_name = any(step.is_keyword and step.token == "propertyNames" for step in schema_steps(self.keyword_location))
-        return self.text.name(self.instance_location) if is_name else self.text.value(self.instance_location)
+        return (self.text.name if self.is_about_name else self.text.value)(self.instance_location)
+
+    @property
+    def is_about_name(self) -> bool:
+        """Whether a member's name is wrong, and not its value: the error is of `propertyNames`."""
+        return any(step.is_keyword and step.token == "propertyNames" for step in schema_steps(self.keyword_location))
 
     def __str__(self) -> str:
         return f"{self.message} (at {self.instance_location or 'the root'}; {self.absolute_keyword_location})"

@@ -46,14 +46,14 @@ class Value:
 
     def _item(self, index: int) -> Optional[Value]:
         text, items = self._text, self._items
-        at = _end(text, items[-1]) if items else self.offset + 1
+        at = end_of_value(text, items[-1]) if items else self.offset + 1
         while index >= len(items):
             at = _end_of(_GAP, text, at)
             if text[at] in _CLOSINGS:
                 return None
             items.append(at)
             if index >= len(items):
-                at = _end(text, at)
+                at = end_of_value(text, at)
         return Value(text, items[index])
 
     def _member(self, name: str) -> Optional[Value]:
@@ -72,18 +72,18 @@ def _members(text: bytes, at: int) -> dict[str, tuple[int, int]]:
     """The members of an object from a byte on. Of those with the same name the last counts."""
     found = {}
     while text[(name := _end_of(_GAP, text, at))] not in _CLOSINGS:
-        end = _end_of_string(text, name)
+        end = end_of_string(text, name)
         at = _end_of(_COLON, text, end)
         token = text[name:end]
         found[json.loads(token) if b"\\" in token else token[1:-1].decode()] = at, name
-        at = _end(text, at)
+        at = end_of_value(text, at)
     return found
 
 
-def _end(text: bytes, at: int) -> int:
+def end_of_value(text: bytes, at: int) -> int:
     """The byte after the value that begins at a byte."""
     if text[at] == _QUOTE:
-        return _end_of_string(text, at)
+        return end_of_string(text, at)
     return _end_of_holder(text, at) if text[at] in _OPENINGS else _end_of(_WORD, text, at)
 
 
@@ -94,7 +94,7 @@ def _end_of_holder(text: bytes, at: int) -> int:
         at = plain(text, at).end()  # type: ignore[union-attr]
         first = text[at]
         if first == _QUOTE:
-            at = _end_of_string(text, at)
+            at = end_of_string(text, at)
             continue
         depth += 1 if first in _OPENINGS else -1
         at += 1
@@ -102,7 +102,8 @@ def _end_of_holder(text: bytes, at: int) -> int:
             return at
 
 
-def _end_of_string(text: bytes, at: int) -> int:
+def end_of_string(text: bytes, at: int) -> int:
+    """The byte after the string that begins at a byte."""
     while True:
         at = text.index(b'"', at + 1)
         before = at

@@ -8,7 +8,7 @@ import threading
 from ctypes import POINTER, byref, c_bool, c_char_p, c_size_t, c_uint32, c_void_p
 from functools import lru_cache
 from pathlib import Path
-from typing import Any, Callable, Optional, TypeVar
+from typing import Any, Callable, Optional, TypeVar, cast
 
 from .engine import Answer
 from .errors import EngineError, EngineNotFound
@@ -201,6 +201,12 @@ class LibraryEngine:
         # Those that no call uses. (The methods of a list are atomic.)
         self._free: list[_Schemas] = []
 
+    @staticmethod
+    def version(library: str) -> str:
+        """The version of a library."""
+        number = _load(library).jschema_version()
+        return f"{number // 10_000}.{number // 100 % 100}.{number % 100}"
+
     def add(self, uri: str, document: bytes) -> None:
         on_large_stack(self._first.add, uri, document)
 
@@ -211,10 +217,10 @@ class LibraryEngine:
         return on_large_stack(self._with_handle, _Schemas.places)
 
     def is_valid(self, entry: str, instance: bytes) -> bool:
-        return on_large_stack(self._with_handle, _Schemas.verdict, entry, instance)
+        return cast(bool, on_large_stack(self._with_handle, _Schemas.verdict, entry, instance))
 
     def check(self, entry: str, instance: bytes, format: str) -> Answer:
-        return on_large_stack(self._with_handle, _Schemas.check, entry, instance, format)
+        return cast(Answer, on_large_stack(self._with_handle, _Schemas.check, entry, instance, format))
 
     def close(self) -> None:
         on_large_stack(self._close)

@@ -11,7 +11,7 @@ import re
 from bisect import bisect_right
 from typing import NamedTuple, Optional, Union
 
-from .finder import Value, root
+from .finder import Value, end_of_string, end_of_value, root
 from .locations import steps
 from .scanner import scan
 
@@ -54,6 +54,16 @@ class Text:
         """Where the name of the member at a JSON Pointer begins; of an item, or the root, the value."""
         found = self._found(pointer)[0]
         return self.at(found.offset if found.name is None else found.name)
+
+    def span(self, pointer: str) -> tuple[int, int]:
+        """The first byte of the value at a JSON Pointer, and the byte after it."""
+        offset = self._found(pointer)[0].offset
+        return offset, end_of_value(self.data, offset)
+
+    def name_span(self, pointer: str) -> tuple[int, int]:
+        """The same of the member's name; of an item, or the root, of the value."""
+        name = self._found(pointer)[0].name
+        return self.span(pointer) if name is None else (name, end_of_string(self.data, name))
 
     def path(self, pointer: str) -> list[str | int]:
         """A JSON Pointer as the names of members and the indices of items."""

@@ -26,7 +26,7 @@ def find_program() -> str:
             return os.path.abspath(found)
         raise EngineNotFound(f"JSCHEMA names {named}, which is no program")
     for build in _BUILDS:
-        if found := shutil.which(Path(__file__).resolve().parents[3] / build):
+        if found := shutil.which(str(Path(__file__).resolve().parents[3] / build)):
             return found
     if found := shutil.which("jschema"):
         return os.path.abspath(found)

@@ -124,7 +124,9 @@ class Schemas:
 def _default_engine() -> Engine:
     """The library's engine, or that of the program where there is no library."""
     library = find_library()
-    return ProgramEngine() if library is None else LibraryEngine(library)
+    if library is None:
+        return ProgramEngine()
+    return LibraryEngine(library)
 
 
 def errors_of(answer: Answer, text: Text) -> list[ValidationError]:

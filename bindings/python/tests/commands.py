@@ -35,7 +35,7 @@ FILES = {
     "a=b.json": '{"type": "string"}',
     "empty/x": "",
 }
-SOME = ["validate", "--schema", "schema.json"]
+SOME = ["validate", "--schema", "schema.json", "--format", "short"]
 
 
 class Case(unittest.TestCase):
@@ -56,5 +56,8 @@ class Case(unittest.TestCase):
         return done.stdout, done.stderr, done.returncode
 
     def judge(self, words, out, said, status, given="", schema="schema.json"):
-        """What a validation writes: all of standard output, and all of standard error."""
-        self.assertEqual(self.run_command("validate", "--schema", schema, *words, given=given), (out, said, status))
+        """What a validation writes: all of standard output, and all of standard error. It is in the format `short`
+        unless the words name another."""
+        format = () if "--format" in words else ("--format", "short")
+        self.assertEqual(self.run_command("validate", "--schema", schema, *format, *words, given=given),
+                         (out, said, status))

@@ -1,32 +1,51 @@
-"""The command `python -m jschema validate`."""
+"""The commands `jschema-validate` and `jschema-lint`, which are also `python -m jschema validate` and `lint`."""
 from __future__ import annotations
 
+import io
 import os
 import sys
-from collections.abc import Iterator
+from typing import Callable
 
-from ..errors import EngineNotFound, Refused
-from ..schemas import Schemas
-from .arguments import Arguments, parse
-from .files import File, Misuse, files_of
-from .inputs import Document, Input, document, inputs
-from .reports import Report, report_for
-from .results import Refusal, Result, Status, message_of, results
-from .terminal import Progress
+from ..errors import EngineNotFound
+from ..lookup import NotOneDocument
+from .arguments import Arguments, Version, of_command, parse
+from .files import Misuse
+from .linting import lint
+from .results import Status, message_of
+from .validating import validate
+from .versions import versions
 
 
 def main(words: list[str]) -> int:
-    """Runs the command with these arguments, and returns its exit status (see `Status`)."""
+    """Runs the command that the first argument names, and returns its exit status (see `Status`)."""
+    return _run(lambda: parse(words))
+
+
+def validate_script() -> int:
+    """The script `jschema-validate`."""
+    return _run(lambda: of_command("validate", sys.argv[1:], "jschema-validate"))
+
+
+def lint_script() -> int:
+    """The script `jschema-lint`."""
+    return _run(lambda: of_command("lint", sys.argv[1:], "jschema-lint"))
+
+
+def _run(read: Callable[[], Arguments]) -> int:
     if sys.stderr is None:
         sys.stderr = open(os.devnull, "w", encoding="utf-8")
     if sys.stdout is None:
         print("jschema: standard output is closed", file=sys.stderr)
         return Status.FAILED
-    sys.stdout.reconfigure(errors="backslashreplace")  # type: ignore[union-attr]
+    if isinstance(sys.stdout, io.TextIOWrapper):
+        sys.stdout.reconfigure(errors="backslashreplace")
     try:
-        arguments = parse(words)
-        return validate(arguments, files_of(arguments.instances, arguments.lines))
-    except (Misuse, EngineNotFound) as misuse:
+        arguments = read()
+        return lint(arguments) if arguments.command == "lint" else validate(arguments)
+    except Version:
+        print(versions())
+        return Status.VALID
+    except (Misuse, EngineNotFound, NotOneDocument) as misuse:
         print(f"jschema: {misuse}", file=sys.stderr)
         return Status.MISUSE
     except BrokenPipeError:
@@ -41,38 +60,3 @@ def main(words: list[str]) -> int:
         return Status.FAILED
     except KeyboardInterrupt:
         return 130
-
-
-def validate(arguments: Arguments, files: list[File]) -> int:
-    """Validates files, and reports what is wrong with them."""
-    documents = [document(arguments.schema, "--schema"), *(document(it, "--ref") for it in arguments.refs)]
-    report = report_for(arguments.format, sys.stdout)
-    try:
-        schemas = Schemas((it.uri, it.text) for it in documents)
-    except Refused as refused:
-        report.refused_schema(refused_schema(documents, refused))
-        return Status.REFUSED
-    progress = Progress(None if arguments.lines else len(files))
-    with schemas:
-        found = results(schemas, documents[0].uri, report.engine_format, inputs(files, arguments.lines), arguments.jobs)
-        return reported(report, progress, found)
-
-
-def reported(report: Report, progress: Progress, found: Iterator[Result]) -> int:
-    """Reports each result as it comes. The worst of them makes the exit status."""
-    status = Status.VALID
-    for count, result in enumerate(found, 1):
-        if report.writes(result):
-            progress.clear()
-        report.result(result)
-        progress.show(count)
-        status = max(status, result.status)
-    progress.clear()
-    report.end()
-    return status
-
-
-def refused_schema(documents: list[Document], refused: Refused) -> Result:
-    """Which of the schema documents is refused, and where. What is about all of them is at the first."""
-    source = documents[refused.index or 0]
-    return Result(Input(source.path, 1, source.text), refusal=Refusal(source.position(refused), refused))

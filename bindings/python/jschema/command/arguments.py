@@ -1,35 +1,71 @@
-"""The arguments of the command."""
+"""The arguments of the commands."""
 from __future__ import annotations
 
 import argparse
 from dataclasses import dataclass
-from typing import NoReturn
+from typing import NoReturn, Optional
 
 from ..engine import FORMATS
+from ..sources import KINDS
 from .files import Misuse
 
-USAGE = ("python -m jschema validate --schema SCHEMA [--ref [URI=]FILE]... [--format FORMAT] [--lines] [--jobs N] "
-         "INSTANCE...")
-EXAMPLE = "python -m jschema validate --schema person.schema.json ada.json"
-STATUSES = """exit status, the highest that applies: 0 all are valid, 1 some are invalid, 2 the arguments are wrong,
-3 an input is refused, 4 out of memory, a read or write failed, or there is no validator"""
+#: What each command is called on its own, and its usage after its name.
+USAGES = {
+    "validate": "[--ref [URI=]FILE|FOLDER]... [--format FORMAT] [--input KIND] [--formats] [--lines] [--jobs N] "
+                "(SCHEMA | --schema SCHEMA) INSTANCE...",
+    "lint": "[--ref [URI=]FILE|FOLDER]... [--format FORMAT] [--input KIND] SCHEMA...",
+}
+EXAMPLES = {"validate": "person.schema.json ada.json", "lint": "person.schema.json"}
+STATUSES = {
+    "validate": """exit status, the highest that applies: 0 all are valid, 1 some are invalid, 2 the arguments are
+wrong, 3 an input is refused, 4 out of memory, a read or write failed, or there is no validator""",
+    "lint": """exit status, the highest that applies: 0 nothing but notes, 1 a warning, 2 the arguments are wrong,
+3 an error: the validator refuses the schema, 4 out of memory, a read or write failed, or there is no validator""",
+}
+#: The formats of the reports, which both commands have.
+REPORTS = ("text", "short", "json", "github", "html", "sarif", "junit")
+_SHOWN = "text (the default): each problem with its line. short: a line for each. json: an array with an object for " \
+         "each file. github: annotations in GitHub Actions. html: a page. sarif, junit: for code scanning and tests"
 
 
 @dataclass(frozen=True)
 class Arguments:
     """What is asked for."""
 
-    schema: str
+    command: str
+    #: The file of the schema; None for `lint`, whose files all are schemas.
+    schema: Optional[str]
     refs: list[str]
+    siblings: bool
     format: str
-    lines: bool
-    jobs: int
-    instances: list[str]
+    input: Optional[str]
+    verbose: bool
+    #: The files that are looked at: instances, or for `lint` schemas.
+    files: list[str]
+    formats: bool = False
+    lines: bool = False
+    jobs: int = 1
+
+
+class Version(Exception):
+    """The version is asked for."""
 
 
 class _Parser(argparse.ArgumentParser):
+    """The parser of a command that is called by a name."""
+
+    def __init__(self, name: str, command: str, description: str) -> None:
+        super().__init__(prog=name, usage=f"{name} {USAGES[command]}", description=description,
+                         epilog=STATUSES[command])
+        self.example = f"{name} {EXAMPLES[command]}"
+
     def error(self, message: str) -> NoReturn:
-        raise Misuse(f"{message}\nusage: {USAGE}\nfor example: {EXAMPLE}")
+        raise Misuse(f"{message}\nusage: {self.usage}\nfor example: {self.example}")
+
+
+class _Version(argparse.Action):
+    def __call__(self, *_: object) -> NoReturn:
+        raise Version
 
 
 def _jobs(word: str) -> int:
@@ -38,35 +74,84 @@ def _jobs(word: str) -> int:
     return int(word)
 
 
-def _parser() -> argparse.ArgumentParser:
-    parser = _Parser(prog="python -m jschema validate", usage=USAGE, epilog=STATUSES,
-                     description="Validates JSON files against a JSON Schema, draft 2020-12.")
-    parser.add_argument("--schema", action="append", required=True, metavar="SCHEMA",
-                        help="the file of the schema; its URI is its $id if that is absolute, else its file's URL")
-    parser.add_argument("--ref", action="append", default=[], metavar="[URI=]FILE",
-                        help="a schema document that is referred to, with the URI to register it under "
-                             "(default: as for the schema); repeat it for each")
-    parser.add_argument("--format", default="text", choices=("text", *FORMATS, "json", "github"), metavar="FORMAT",
-                        help="text (the default): a line for each error. flag, basic, detailed, verbose or merged: the "
-                             "validator's output, a line for each instance. json: an array with an object for each "
-                             "instance. github: annotations in GitHub Actions")
+def _add_common(parser: argparse.ArgumentParser, formats: tuple[str, ...], shown: str) -> None:
+    parser.add_argument("--ref", action="append", default=[], metavar="[URI=]FILE|FOLDER",
+                        help="a schema document that is referred to, with the URI to register it under (default: as "
+                             "for the schema); or a folder, of which those are taken that are referred to. Repeat it "
+                             "for each")
+    parser.add_argument("--ref-siblings", action=argparse.BooleanOptionalAction, default=True,
+                        help="look up the document of a relative reference beside the file that refers to it (the "
+                             "default)")
+    parser.add_argument("--format", default="text", choices=formats, metavar="FORMAT", help=shown)
+    parser.add_argument("--input", choices=KINDS, metavar="KIND",
+                        help="what the files are: json, jsonc (JSON with comments), yaml or toml (default: what the "
+                             "suffix says, else json)")
+    parser.add_argument("--verbose", action="store_true", help="list the documents that were found for references")
+    parser.add_argument("--version", action=_Version, nargs=0,
+                        help="show the versions of the package and the library, and which engine checks")
+
+
+def _validate(name: str) -> _Parser:
+    parser = _Parser(name, "validate", "Validates JSON, YAML and TOML files against a JSON Schema, draft 2020-12.")
+    parser.add_argument("--schema", action="append", metavar="SCHEMA",
+                        help="the file of the schema (default: the first file); its URI is its $id if that is "
+                             "absolute, else its file's URL")
+    _add_common(parser, (*REPORTS, *FORMATS),
+                f"{_SHOWN}. flag, basic, detailed, verbose, merged: the validator's output, a line for each instance")
+    parser.add_argument("--formats", action="store_true",
+                        help="warn of values of a valid instance that break a `format`; the verdict stays")
     parser.add_argument("--lines", action="store_true",
                         help="each line of a file is an instance; empty lines don't count")
     parser.add_argument("--jobs", type=_jobs, default=1, metavar="N", help="how many checks run at once (default: 1)")
-    parser.add_argument("instances", nargs="+", metavar="INSTANCE",
-                        help="a file; a folder, for its .json files (with --lines .jsonl and .ndjson) at any depth; "
-                             "or -, standard input")
+    parser.add_argument("files", nargs="*", metavar="INSTANCE",
+                        help="a file; a folder, for the files in it, at any depth, whose suffix is of a kind (with "
+                             "--lines .jsonl and .ndjson); or -, standard input")
     return parser
 
 
-def parse(words: list[str]) -> Arguments:
-    """Reads the arguments. Raises `Misuse`, which says what to do."""
-    parser = _parser()
-    if words[:1] in (["-h"], ["--help"]):
-        parser.parse_args(["--help"])
-    if words[:1] != ["validate"]:
-        parser.error(f"no command {words[0]!r}: the only one is validate" if words else "name the command: validate")
-    given = parser.parse_intermixed_args(words[1:])
-    if len(given.schema) > 1:
-        parser.error(f"--schema is given {len(given.schema)} times: it names one file, and --ref the others")
-    return Arguments(given.schema[0], given.ref, given.format, given.lines, given.jobs, given.instances)
+def _lint(name: str) -> _Parser:
+    parser = _Parser(name, "lint", "Shows what is wrong with JSON Schemas, and what is probably not meant.")
+    _add_common(parser, REPORTS, _SHOWN)
+    parser.add_argument("files", nargs="*", metavar="SCHEMA",
+                        help="a file; a folder, for the files in it, at any depth, whose suffix is of a kind; or -, "
+                             "standard input")
+    return parser
+
+
+def parse(words: list[str], name: str = "python -m jschema") -> Arguments:
+    """Reads the arguments, the first of which is the command. `name` is how that is called without it.
+
+    Raises `Misuse`, which says what to do, and `Version`.
+    """
+    command = words[0] if words else ""
+    if command == "--version":
+        raise Version
+    if command in ("-h", "--help"):
+        command, words = "validate", ["validate", "--help"]
+    if command not in USAGES:
+        _validate(f"{name} validate").error(f"no command {command!r}: there are validate and lint" if words
+                                            else "name the command: validate or lint")
+    return of_command(command, words[1:], f"{name} {command}")
+
+
+def of_command(command: str, words: list[str], name: str) -> Arguments:
+    """Reads the arguments of a command that is called by a name."""
+    if command == "lint":
+        parser = _lint(name)
+        given = parser.parse_intermixed_args(words)
+        if not given.files:
+            parser.error("the following arguments are required: SCHEMA")
+        return Arguments("lint", None, given.ref, given.ref_siblings, given.format, given.input, given.verbose,
+                         given.files)
+    parser = _validate(name)
+    given = parser.parse_intermixed_args(words)
+    schemas = given.schema or given.files[:1]
+    files = given.files if given.schema else given.files[1:]
+    if len(schemas) > 1:
+        parser.error(f"--schema is given {len(schemas)} times: it names one file, and --ref the others")
+    if not schemas or not files:
+        parser.error(f"the following arguments are required: {'INSTANCE' if schemas else 'SCHEMA and INSTANCE'}")
+    if given.lines and given.input not in (None, "json"):
+        parser.error(f"--lines is for JSON: no line of {given.input} is a document")
+    return Arguments("validate", schemas[0], given.ref, given.ref_siblings, given.format, given.input, given.verbose,
+                     files, given.formats, given.lines, given.jobs)

@@ -4,11 +4,16 @@ from __future__ import annotations
 import errno
 import os
 import stat
+from collections.abc import Sequence
 from dataclasses import dataclass
 from pathlib import Path
 from typing import Optional
 
+from ..sources import SUFFIXES
+
 STDIN = "-"
+#: The suffixes of files with an instance in each line.
+LINES = (".jsonl", ".ndjson")
 
 
 class Misuse(Exception):
@@ -17,19 +22,26 @@ class Misuse(Exception):
 
 @dataclass(frozen=True)
 class File:
-    """A file with instances, or why there is none of this name."""
+    """A file that is looked at, or why there is none of this name."""
 
     name: str
     fault: Optional[OSError] = None
 
 
-def files_of(arguments: list[str], lines: bool) -> list[File]:
-    """The files that arguments name, with those of each folder by name.
+def suffixes(kind: Optional[str], lines: bool) -> Sequence[str]:
+    """The suffixes of the files that are taken of a folder."""
+    if lines:
+        return LINES
+    return SUFFIXES[kind] if kind else [suffix for them in SUFFIXES.values() for suffix in them]
+
+
+def files_of(arguments: Sequence[str], taken: Sequence[str], what: str = "INSTANCE") -> list[File]:
+    """The files that arguments name, with those of each folder that have one of the suffixes, by name.
 
     Raises `Misuse` for an empty name, for a folder without any, and for standard input that is named twice.
     """
     if "" in arguments:
-        raise Misuse("an INSTANCE has an empty name: is a variable of the shell empty?")
+        raise Misuse(f"{'an' if what[0] == 'I' else 'a'} {what} has an empty name: is a variable of the shell empty?")
     if arguments.count(STDIN) > 1:
         raise Misuse(f"{STDIN} is named {arguments.count(STDIN)} times: standard input can be read once")
     files = []
@@ -37,17 +49,19 @@ def files_of(arguments: list[str], lines: bool) -> list[File]:
         if argument == STDIN or not os.path.isdir(argument):
             files.append(File(argument))
         else:
-            files += _files_in(argument, (".jsonl", ".ndjson") if lines else (".json",))
+            files += _files_in(argument, taken)
     return files
 
 
-def _files_in(folder: str, suffixes: tuple[str, ...]) -> list[File]:
+def _files_in(folder: str, taken: Sequence[str]) -> list[File]:
     """The files in a folder at any depth, and each folder that can't be read. Links to folders aren't followed."""
     found: list[File] = []
     for parent, _, names in os.walk(folder, onerror=lambda error: found.append(File(str(error.filename), error))):
-        found += [_in_folder(str(Path(parent, name))) for name in names if Path(name).suffix.lower() in suffixes]
+        found += [_in_folder(str(Path(parent, name))) for name in names if Path(name).suffix.lower() in taken]
     if not found:
-        raise Misuse(f"{folder} has no file {' or '.join(suffixes)}: name its files one by one")
+        *most, last = taken
+        listed = f"{', '.join(most)} or {last}" if most else last
+        raise Misuse(f"{folder} has no file {listed}: name its files one by one")
     return sorted(found, key=lambda file: Path(file.name).parts)
 
 

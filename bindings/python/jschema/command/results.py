@@ -1,4 +1,4 @@
-"""The result of each instance."""
+"""The result of each file or instance."""
 from __future__ import annotations
 
 from collections.abc import Iterable, Iterator
@@ -8,10 +8,15 @@ from typing import NamedTuple, Optional
 
 from ..engine import Answer
 from ..errors import EngineError, Refused, ValidationError, best_first
+from ..extras import MissingLibrary
+from ..formats import Formats
 from ..positions import Position, Text
 from ..schemas import Schemas, errors_of
-from .inputs import Input, refusal_position
+from ..sources import JsonSource, Range
+from .inputs import Input
 from .jobs import side_by_side
+from .places import Places
+from .problems import ERROR, FAILED, REFUSED, WARNING, WHOLE, Problem
 
 
 class Status(IntEnum):
@@ -24,68 +29,116 @@ class Status(IntEnum):
     FAILED = 4
 
 
-class FoundError(NamedTuple):
-    """An error, and where it is in the file."""
-
-    position: Position
-    error: ValidationError
-
-
-class Refusal(NamedTuple):
-    """Why an instance is refused, and where in the file."""
-
-    position: Position
-    refused: Refused
-
-
 @dataclass(frozen=True)
 class Result:
-    """An instance with its answer and errors, or with the refusal or failure that came instead."""
+    """What came of a file or an instance."""
 
     input: Input
-    answer: Optional[Answer] = None
-    errors: list[FoundError] = field(default_factory=list)
-    refusal: Optional[Refusal] = None
-    failure: Optional[str] = None
-
-    @property
-    def status(self) -> Status:
-        """The exit status that this result asks for."""
-        if self.answer is not None:
-            return Status.VALID if self.answer.valid else Status.INVALID
-        return Status.REFUSED if self.failure is None else Status.FAILED
+    status: Status
+    problems: list[Problem] = field(default_factory=list)
+    #: The output or the tree that the report needs, if there is a verdict.
+    text: bytes = b""
 
 
-def result(schemas: Schemas, entry: str, format: str, given: Input) -> Result:
-    """Checks an instance. The errors are found where the format is `basic`, the best first."""
-    if given.fault is not None:
-        return Result(given, failure=given.fault.strerror or str(given.fault))
-    try:
-        answer = schemas.check(entry, given.text, format)
-        has_errors = format == "basic" and not answer.valid
-        errors = best_first(errors_of(answer, Text(given.text, is_json=True))) if has_errors else []
-    except Refused as refused:
-        return Result(given, refusal=Refusal(_in_file(given, refusal_position(given.text, refused)), refused))
-    except (EngineError, MemoryError) as error:
-        return Result(given, failure=message_of(error))
-    return Result(given, answer, [FoundError(_in_file(given, error.position), error) for error in errors])
+class Wanted(NamedTuple):
+    """What a report needs of an instance that has a verdict, beside its problems."""
+
+    #: The format of the output that is written.
+    output: Optional[str] = None
+    #: Whether the tree of the errors is shown.
+    tree: bool = False
+    #: Checks the formats of a valid instance.
+    formats: Optional[Formats] = None
+
+
+class Checker:
+    """Checks instances against a schema."""
+
+    def __init__(self, schemas: Schemas, entry: str, places: Places, wanted: Wanted) -> None:
+        self._schemas, self._entry, self._places, self._wanted = schemas, entry, places, wanted
+
+    def results(self, given: Iterable[Input], jobs: int) -> Iterator[Result]:
+        """The results in the order of the instances. Up to `jobs` checks run at once."""
+        return map(self.result, given) if jobs == 1 else side_by_side(self.result, given, jobs)
+
+    def result(self, given: Input) -> Result:
+        """What comes of an instance."""
+        if isinstance(given.fault, Refused):
+            return refusal(given, given.fault)
+        if given.fault is not None:
+            return failure(given, given.fault)
+        try:
+            return self._judged(given)
+        except Refused as refused:
+            return refusal(given, refused)
+        except (EngineError, MemoryError) as error:
+            return failure(given, error)
+
+    def _judged(self, given: Input) -> Result:
+        """The result of an instance that has a verdict."""
+        wanted = self._wanted
+        if wanted.output is not None:
+            answer = self._check(given, wanted.output)
+            valid, text = answer.valid, answer.text
+        else:
+            # (So most instances end, without an output.)
+            valid, text = self._schemas.is_valid(self._entry, given.source.json), b""
+        if isinstance(given.source, JsonSource):
+            given.source.trust()
+        if valid:
+            return Result(given, Status.VALID, self._warnings(given) if wanted.formats else [], text)
+        tree = self._check(given, "detailed").text if wanted.tree else text
+        return Result(given, Status.INVALID, [] if wanted.output is not None else self._errors(given), tree)
+
+    def _check(self, given: Input, format: str) -> Answer:
+        return self._schemas.check(self._entry, given.source.json, format)
+
+    def _errors(self, given: Input) -> list[Problem]:
+        """The errors of an invalid instance, the best first."""
+        errors = errors_of(self._check(given, "basic"), Text(given.source.json, is_json=True))
+        return [self._problem(given, error) for error in best_first(errors)]
+
+    def _problem(self, given: Input, error: ValidationError) -> Problem:
+        where = (given.source.name if error.is_about_name else given.source.value)(error.instance_location)
+        place = self._places.find(error.absolute_keyword_location)
+        return Problem(ERROR, error.keyword, error.message, in_file(given, where), error.instance_location,
+                       error.absolute_keyword_location, place, error)
+
+    def _warnings(self, given: Input) -> list[Problem]:
+        """The formats that the values of a valid instance break."""
+        assert self._wanted.formats is not None
+        found = self._wanted.formats.broken(self._check(given, "basic").text, given.source.json)
+        return [Problem(WARNING, "format", it.message, in_file(given, given.source.value(it.instance_location)),
+                        it.instance_location, it.absolute_keyword_location,
+                        self._places.find(it.absolute_keyword_location)) for it in found]
+
+
+def refusal(given: Input, refused: Refused) -> Result:
+    """The result of what is refused."""
+    where = in_file(given, given.source.refusal(refused))
+    problem = Problem(REFUSED, refused.kind, refused.meaning, where, refused.place or "", refused=refused)
+    return Result(given, Status.REFUSED, [problem])
+
+
+def failure(given: Input, error: Exception) -> Result:
+    """The result of what failed."""
+    at = Range(*[Position(0, given.line, 1)] * 2) if given.line > 1 else WHOLE
+    return Result(given, Status.FAILED, [Problem(FAILED, type(error).__name__, message_of(error), at)])
 
 
 def message_of(error: Exception) -> str:
     """What an exception says, in one line. Those that the package doesn't raise itself are named."""
     text = " ".join(str(error).split())
+    if isinstance(error, OSError):
+        return error.strerror or text
     if isinstance(error, MemoryError):
         return text or "out of memory"
-    return text if isinstance(error, EngineError) else f"{type(error).__name__}: {text}"
+    return text if isinstance(error, (EngineError, MissingLibrary)) else f"{type(error).__name__}: {text}"
 
 
-def results(schemas: Schemas, entry: str, format: str, given: Iterable[Input], jobs: int) -> Iterator[Result]:
-    """The results in the order of the instances. Up to `jobs` checks run at once."""
-    def checked(it: Input) -> Result:
-        return result(schemas, entry, format, it)
-
-    return map(checked, given) if jobs == 1 else side_by_side(checked, given, jobs)
-
-
-def _in_file(given: Input, position: Position) -> Position:
-    return position._replace(line=position.line + given.line - 1)
+def in_file(given: Input, where: Range) -> Range:
+    """A part of an instance as a part of its file: of a line, which is a text of its own."""
+    if given.line == given.source.first_line:
+        return where
+    lines = given.line - 1
+    return Range(where.begin._replace(line=where.begin.line + lines), where.end._replace(line=where.end.line + lines))

@@ -6,7 +6,7 @@ import sys
 import time
 from typing import Optional, TextIO
 
-_CODES = {"bold": "1", "dim": "2", "red": "31"}
+_CODES = {"bold": "1", "dim": "2", "red": "31", "yellow": "33", "blue": "34"}
 _WIDTH = 30
 # The bar is for more instances than this, and is drawn ten times a second.
 _FEW = 20

@@ -1,0 +1,142 @@
+"""What a schema's author would want to know of a schema.
+
+    for finding in lint(b'{"requierd": ["name"]}', "https://example.com/person"):
+        print(finding.range.begin.line, finding.message)    # 1 no dialect knows the keyword `requierd`: is ...
+"""
+from __future__ import annotations
+
+from collections.abc import Iterator, Sequence
+from typing import Any, Optional
+
+from ..documents import Documents, texts_of
+from ..errors import Refused
+from ..limits import LARGEST_TEXT
+from ..locations import pointer
+from ..positions import Position
+from ..scanner import NotJson, scan
+from ..schemas import Schemas
+from ..sources import Range, Source, Unreadable, read
+from . import bounds, keywords, numbers, patterns, references
+from ..resources import Document, document
+from .finding import ERROR, NOTE, RULES, WARNING, Finding, Found
+
+__all__ = ["ERROR", "NOTE", "RULES", "WARNING", "Finding", "broken", "lint", "lint_all", "lint_documents",
+           "second_document", "unreadable"]
+
+
+def lint(text: bytes, uri: str, *, kind: str = "json", others: Documents = ()) -> list[Finding]:
+    """What is found in a schema document, in the order of the text.
+
+    `kind` is one of `jschema.sources.KINDS`; `others` are documents that it refers to, which aren't looked at. Raises
+    `EngineError` where there is no validator.
+    """
+    return lint_all([(uri, text, kind)], others)[0]
+
+
+def lint_all(texts: Sequence[tuple[str, bytes, str]], others: Documents = ()) -> list[list[Finding]]:
+    """The same of each of several documents, which may refer to one another. Of each the URI, text and kind are given."""
+    made = [_document(uri, text, kind) for uri, text, kind in texts]
+    beside = [it for it in (_document(uri, text, "json") for uri, text in texts_of(others)) if isinstance(it, Document)]
+    found = iter(lint_documents([it for it in made if isinstance(it, Document)], beside))
+    return [next(found) if isinstance(it, Document) else [it] for it in made]
+
+
+def lint_documents(given: Sequence[Document], beside: Sequence[Document] = ()) -> list[list[Finding]]:
+    """The same of documents that were read; `beside` are those that they refer to, which aren't looked at."""
+    documents = [*given, *beside]
+    refusals = _refusals(documents) if given else {}
+    return [_findings(it, documents, refusals.get(index)) for index, it in enumerate(given)]
+
+
+def broken(source: Source) -> Optional[Finding]:
+    """That a text isn't JSON, and where; None if it is."""
+    try:
+        if len(source.json) <= LARGEST_TEXT:
+            scan(source.json)
+            return None
+    except NotJson as error:
+        at = source.at(error.offset)
+        return Finding("not-json", ERROR, Refused("document", "NotJson").meaning, "", Range(at, at))
+    start = Position(0, 1, 1)
+    return Finding("refused", ERROR, Refused("input", "InputTooLarge").meaning, "", Range(start, start))
+
+
+def unreadable(refused: Unreadable) -> Finding:
+    """That a text isn't of its kind."""
+    return Finding("not-json", ERROR, refused.meaning, refused.place or "", refused.range)
+
+
+def second_document(source: Source) -> Finding:
+    """That a file has another document of YAML."""
+    at = source.value("")
+    return Finding("not-json", ERROR, "a schema is one document, and here begins another", "", at)
+
+
+def _document(uri: str, text: bytes, kind: str) -> Document | Finding:
+    """The document of a text; or that it is broken, and where."""
+    try:
+        source, *more = read(text, kind)
+    except Unreadable as refused:
+        return unreadable(refused)
+    return (second_document(more[0]) if more else broken(source)) or document(uri, source)
+
+
+def _judged(documents: Sequence[tuple[str, Any]]) -> Optional[Refused]:
+    """The refusal of documents, if the validator refuses them."""
+    try:
+        with Schemas(documents):
+            return None
+    except Refused as refused:
+        return refused
+
+
+def _refusals(documents: Sequence[Document]) -> dict[int, Refused]:
+    """The first refusal of each document that the validator refuses. It names one document, so it is asked again without
+    that."""
+    refusals: dict[int, Refused] = {}
+    while left := [(index, it) for index, it in enumerate(documents) if index not in refusals]:
+        refused = _judged([(it.uri, it.source.json) for _, it in left])
+        if refused is None:
+            break
+        refusals[left[refused.index or 0][0]] = refused
+    return refusals
+
+
+def _findings(given: Document, documents: Sequence[Document], refused: Optional[Refused]) -> list[Finding]:
+    """What the rules find, in the order of the text."""
+    found = list(_found(given, documents, refused is not None))
+    findings = [_finding(given, it) for it in found]
+    if refused is not None and not _is_known(refused, found):
+        message = f"{refused.meaning} ({refused.kind})"
+        findings.append(Finding("refused", ERROR, message, refused.place or "", given.source.refusal(refused)))
+    return sorted(findings, key=lambda it: it.range.begin)
+
+
+def _is_known(refused: Refused, found: Sequence[Found]) -> bool:
+    """Whether a rule has found what the validator refuses. (References to a document that is itself refused lead
+    somewhere.)"""
+    return refused.kind == "Unresolved" or any(it.severity == ERROR and pointer([*it.tokens]) == refused.place
+                                               for it in found)
+
+
+def _found(given: Document, documents: Sequence[Document], is_refused: bool) -> Iterator[Found]:
+    yield from keywords.unknown(given)
+    yield from keywords.inactive(given)
+    yield from keywords.formats(given)
+    yield from references.unused(given, documents)
+    yield from bounds.nothing(given)
+    if is_refused:
+        # (What the validator accepts has none of these.)
+        yield from references.unresolved(given, documents)
+        yield from patterns.unread(given, _pattern_judge)
+        yield from numbers.outside(given)
+
+
+def _pattern_judge(schema: Any) -> Optional[Refused]:
+    return _judged([("https://a.example/patterns", schema)])
+
+
+def _finding(given: Document, it: Found) -> Finding:
+    place = pointer([*it.tokens])
+    where = given.source.name(place) if it.is_name else given.source.value(place)
+    return Finding(it.rule, it.severity, it.message, place, where, it.suggestion)

@@ -1,0 +1,130 @@
+"""A schema document, each of its schemas, and the URIs that they have."""
+from __future__ import annotations
+
+import json
+import math
+from collections.abc import Iterator, Sequence
+from dataclasses import dataclass, field
+from typing import Any, NamedTuple, Optional
+from urllib.parse import unquote, urldefrag
+
+from .dialects import dialect_of
+from .locations import LISTS, OBJECTS, steps
+from .sources import Source
+from .uris import document_of, joined
+
+Tokens = tuple[str, ...]
+
+#: The keywords whose value is a schema. (`items` may be a list of them, `dependencies` an object, in older drafts.)
+SCHEMAS = frozenset({"additionalItems", "additionalProperties", "contains", "contentSchema", "else", "if", "items", "not",
+                     "propertyNames", "then", "unevaluatedItems", "unevaluatedProperties"})
+DEFINITIONS = ("$defs", "definitions")
+REFERENCES = ("$ref", "$dynamicRef", "$recursiveRef")
+ANCHORS = ("$anchor", "$dynamicAnchor")
+
+
+class Schema(NamedTuple):
+    """A schema that is an object, its tokens, and its base URI."""
+
+    value: dict[str, Any]
+    tokens: Tokens
+    base: str
+
+    def references(self) -> Iterator[tuple[str, str]]:
+        """The keywords that refer to another schema, and the references as they are written."""
+        for keyword in REFERENCES:
+            reference = self.value.get(keyword)
+            if isinstance(reference, str):
+                yield keyword, reference
+
+
+@dataclass
+class Document:
+    """A schema document under a URI."""
+
+    uri: str
+    source: Source
+    value: Any
+    dialect: int
+    schemas: list[Schema] = field(default_factory=list)
+    #: The tokens of every schema, also of those that are booleans.
+    places: set[Tokens] = field(default_factory=set)
+    #: The tokens of each resource by its URI (see `document_of`), and of each anchor by that with the fragment.
+    targets: dict[str, Tokens] = field(default_factory=dict)
+
+
+class Target(NamedTuple):
+    """What a URI names."""
+
+    document: Document
+    tokens: Tokens
+
+
+def document(uri: str, source: Source) -> Document:
+    """The document of a text. Raises `ValueError` or `RecursionError` where it isn't JSON."""
+    value = json.loads(source.json, parse_constant=_no_constant)
+    made = Document(uri, source, value, dialect_of(value))
+    made.targets[document_of(uri)] = ()
+    _visit(made, value, (), urldefrag(uri).url)
+    return made
+
+
+def target(uri: str, documents: Sequence[Document]) -> Optional[Target]:
+    """What the fragment of a URI names in the documents: by a JSON Pointer, it may be less than a schema."""
+    resource = document_of(uri)
+    try:
+        fragment = unquote(urldefrag(uri).fragment, errors="strict")
+    except UnicodeDecodeError:
+        return None
+    for document in documents:
+        if fragment and not fragment.startswith("/"):
+            if (anchored := document.targets.get(f"{resource}#{fragment}")) is not None:
+                return Target(document, anchored)
+        elif (root := document.targets.get(resource)) is not None:
+            return Target(document, (*root, *steps(fragment)))
+    return None
+
+
+def subschemas(schema: dict[str, Any], dialect: int) -> Iterator[tuple[Tokens, Any]]:
+    """The schemas that the keywords of a schema hold, with their tokens from there."""
+    for keyword, value in schema.items():
+        if isinstance(value, list) and (keyword in LISTS or keyword == "items" and dialect < 5):
+            yield from (((keyword, str(index)), item) for index, item in enumerate(value))
+        elif isinstance(value, dict) and (keyword in OBJECTS or keyword == "dependencies" and dialect < 4):
+            yield from (((keyword, name), it) for name, it in value.items() if not isinstance(it, list))
+        elif keyword in SCHEMAS and isinstance(value, (dict, bool)):
+            yield (keyword,), value
+
+
+def is_whole(value: Any) -> bool:
+    """Whether a value of a document is an integer."""
+    return isinstance(value, int) and not isinstance(value, bool)
+
+
+def is_number(value: Any) -> bool:
+    """Whether a value of a document is a number that can be compared."""
+    return is_whole(value) or isinstance(value, float) and math.isfinite(value)
+
+
+def _no_constant(name: str) -> float:
+    raise ValueError(f"JSON has no {name}")
+
+
+def _visit(document: Document, value: Any, tokens: Tokens, base: str) -> None:
+    document.places.add(tokens)
+    if not isinstance(value, dict):
+        return
+    name = value.get("$id", value.get("id") if document.dialect < 2 else None)
+    if isinstance(name, str):
+        if name.startswith("#") and document.dialect < 4:
+            # (What is an anchor since 2019-09.)
+            document.targets[document_of(base) + name] = tokens
+        else:
+            base = urldefrag(joined(base, name)).url
+            document.targets[document_of(base)] = tokens
+    for keyword in ANCHORS:
+        if isinstance(value.get(keyword), str):
+            document.targets[f"{document_of(base)}#{value[keyword]}"] = tokens
+    document.schemas.append(Schema(value, tokens, base))
+    for below, child in subschemas(value, document.dialect):
+        _visit(document, child, tokens + below, base)

@@ -1,0 +1,162 @@
+"""What all kinds of texts have in common, and the two that are JSON."""
+from __future__ import annotations
+
+from typing import NamedTuple, Optional
+
+from ..errors import Refused
+from ..finder import end_of_string
+from ..positions import Position, Text
+from ..scanner import NotJson, scan
+from .tree import Member, Node, found
+
+
+class Range(NamedTuple):
+    """A part of a text."""
+
+    begin: Position
+    end: Position
+
+
+class Unreadable(Refused):
+    """A text that isn't of its kind, or that has a value which JSON doesn't have; and where."""
+
+    def __init__(self, kind: str, meaning: str, at: Range, place: Optional[str] = None) -> None:
+        super().__init__("input", kind, place)
+        self.meaning = meaning
+        self.range = at
+        #: The documents of YAML that stand before it.
+        self.before: list[Source] = []
+
+    def __reduce__(self) -> tuple[type[Unreadable], tuple[str, str, Range, Optional[str]]]:
+        return Unreadable, (self.kind, self.meaning, self.range, self.place)
+
+
+class Source:
+    """A text, and the JSON text that the validator gets for it."""
+
+    def __init__(self, kind: str, data: bytes, json: bytes) -> None:
+        #: One of `KINDS`.
+        self.kind = kind
+        #: The text as it was written, in UTF-8.
+        self.data = data
+        self.json = json
+        #: The line at which it begins: more than 1 for a later document of a YAML file.
+        self.first_line = 1
+
+    def value(self, pointer: str) -> Range:
+        """Where the value at a JSON Pointer stands. Raises `LookupError`, or `NotJson` for a text that isn't JSON."""
+        raise NotImplementedError
+
+    def name(self, pointer: str) -> Range:
+        """Where the name of the member at a JSON Pointer stands; of an item, or the root, the value."""
+        raise NotImplementedError
+
+    def tree(self) -> Node:
+        """All values, with the bytes at which they stand. Raises `NotJson` for a text that isn't JSON."""
+        raise NotImplementedError
+
+    def at(self, offset: int) -> Position:
+        """The line and the column of a byte."""
+        raise NotImplementedError
+
+    def refusal(self, refused: Refused) -> Range:
+        """Where the text is refused: at the value that the refusal names, or where it ceases to be JSON."""
+        if isinstance(refused, Unreadable):
+            return refused.range
+        start = Position(0, 1, 1)
+        if refused.place is None:
+            return Range(start, start)
+        try:
+            return self._place(refused)
+        except NotJson as error:
+            return Range(self.at(error.offset), self.at(error.offset))
+        except LookupError:
+            return Range(start, start)
+
+    def _place(self, refused: Refused) -> Range:
+        return self.value(refused.place or "")
+
+
+class JsonSource(Source):
+    """JSON, or JSON with comments: then `json` has blanks in their place, so each byte keeps its place."""
+
+    def __init__(self, kind: str, data: bytes, json: bytes) -> None:
+        super().__init__(kind, data, json)
+        self._text = Text(json)
+        # (A blank for each byte of a comment: its characters may be fewer.)
+        self._lines = Text(data)
+
+    def trust(self) -> None:
+        """Says that the validator has read the text as JSON, so it isn't scanned again."""
+        self._text = Text(self.json, is_json=True)
+
+    def value(self, pointer: str) -> Range:
+        begin, end = self._text.span(pointer)
+        return Range(self.at(begin), self.at(end))
+
+    def name(self, pointer: str) -> Range:
+        begin, end = self._text.name_span(pointer)
+        return Range(self.at(begin), self.at(end))
+
+    def tree(self) -> Node:
+        return _tree(self.json)
+
+    def at(self, offset: int) -> Position:
+        return self._lines.at(offset)
+
+    def _place(self, refused: Refused) -> Range:
+        if refused.kind != "NotJson":
+            self.trust()
+        if refused.place:
+            return super()._place(refused)
+        # (Of a document that is refused for its URI nobody has read more.)
+        start = self.at(self._text.value("").offset)
+        return Range(start, start)
+
+
+class MarkedSource(Source):
+    """A text whose reader has made a tree of it."""
+
+    def __init__(self, kind: str, data: bytes, json: bytes, root: Node, lines: Text) -> None:
+        super().__init__(kind, data, json)
+        self._root, self._lines = root, lines
+        self.first_line = lines.at(root.begin).line
+
+    def value(self, pointer: str) -> Range:
+        at = found(self._root, pointer)
+        node = at.value if isinstance(at, Member) else at
+        return Range(self.at(node.begin), self.at(node.end))
+
+    def name(self, pointer: str) -> Range:
+        at = found(self._root, pointer)
+        return Range(self.at(at.begin), self.at(at.end))
+
+    def tree(self) -> Node:
+        return self._root
+
+    def at(self, offset: int) -> Position:
+        return self._lines.at(offset)
+
+
+def _tree(text: bytes) -> Node:
+    """The tree of a JSON text."""
+    root = scan(text)
+    made = Node(root.offset, root.end, "")
+    waiting = [(root, made)]
+    while waiting:
+        scanned, node = waiting.pop()
+        if scanned.children is None:
+            node.content = text[scanned.offset:scanned.end].decode()
+        elif isinstance(scanned.children, list):
+            items = [Node(child.offset, child.end, "") for child in scanned.children]
+            node.content = items
+            waiting += zip(scanned.children, items)
+        else:
+            members = {}
+            for name, child in scanned.children.items():
+                begin = child.name if child.name is not None else child.offset
+                value = Node(child.offset, child.end, "")
+                members[name] = Member(begin, end_of_string(text, begin), value)
+                waiting.append((child, value))
+            node.content = members
+    return made
