@@ -110,6 +110,13 @@ def shallow(text: str, node: Node) -> Any:
     return [_value(text, it) for it in node.children] if node.kind == "array" else scalar(text, node)
 
 
+def whole(text: str, node: Node) -> Any:
+    """The value of a node, as far as it is written."""
+    if node.kind == "object":
+        return {str(it.key): whole(text, it) for it in node.children if it.kind != "missing"}
+    return [whole(text, it) for it in node.children] if node.kind == "array" else scalar(text, node)
+
+
 def _value(text: str, node: Node) -> Any:
     return {"object": {}, "array": []}[node.kind] if node.is_holder else scalar(text, node)
 

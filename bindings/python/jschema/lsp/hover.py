@@ -22,7 +22,7 @@ def hover(workspace: Workspace, document: Document, offset: int, is_markdown: bo
         if not root.first <= offset <= root.end:
             continue
         node = root.at(offset)
-        parts = [_shown(it, is_markdown) for it in _notes(workspace, document, index, node)]
+        parts = [shown(it, is_markdown) for it in _notes(workspace, document, index, node)]
         if parts := list(dict.fromkeys(it for it in parts if it)):
             kind, separator = ("markdown", "\n\n---\n\n") if is_markdown else ("plaintext", "\n\n")
             return {"contents": {"kind": kind, "value": separator.join(parts)},
@@ -71,7 +71,7 @@ def _of_reference(workspace: Workspace, document: Document, node: Node) -> list[
     return [value] if isinstance(value, dict) else []
 
 
-def _shown(notes: dict[str, Any], is_markdown: bool) -> str:
+def shown(notes: dict[str, Any], is_markdown: bool) -> str:
     """The text of what a schema says."""
     title, description = notes.get("title"), notes.get("description")
     lines = []

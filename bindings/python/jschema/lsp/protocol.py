@@ -94,6 +94,9 @@ class Connection:
         try:
             while (message := self._next()) is not None:
                 self._take(message)
+                if isinstance(message, dict) and message.get("method") == "exit":
+                    # (A thread that waits for more would keep the stream, and so the process.)
+                    return
         except (OSError, ValueError):
             # The stream broke off, or isn't what the protocol says: there is no way to find the next message.
             pass

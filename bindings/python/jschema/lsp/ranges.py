@@ -1,6 +1,7 @@
 """The positions of LSP in a text: lines, and UTF-16 units in them, from 0."""
 from __future__ import annotations
 
+import itertools
 import os
 import re
 from bisect import bisect_right
@@ -8,7 +9,6 @@ from typing import NamedTuple, Optional
 from urllib.parse import unquote, urlsplit
 
 _LINE_END = re.compile("\r\n|\n|\r")
-_LINE_FEED = re.compile("\n")
 
 
 class Span(NamedTuple):
@@ -27,9 +27,9 @@ class Edit(NamedTuple):
 
     def moved(self, offset: int) -> int:
         """Where a character stands afterwards."""
-        if offset <= self.begin:
-            return offset
-        return offset + self.length - (self.end - self.begin) if offset >= self.end else self.begin + self.length
+        if offset >= self.end:
+            return offset + self.length - (self.end - self.begin)
+        return min(offset, self.begin + self.length) if offset > self.begin else offset
 
 
 class Lines:
@@ -76,8 +76,11 @@ class Lines:
 
     def _line_starts(self) -> list[int]:
         if self._starts is None:
-            line_end = _LINE_END if "\r" in self.text else _LINE_FEED
-            self._starts = [0, *(found.end() for found in line_end.finditer(self.text))]
+            if "\r" in self.text:
+                self._starts = [0, *(found.end() for found in _LINE_END.finditer(self.text))]
+            else:
+                lengths = (len(line) + 1 for line in self.text.split("\n")[:-1])
+                self._starts = [0, *itertools.accumulate(lengths)]
         return self._starts
 
 

@@ -99,6 +99,15 @@ class Resources:
                 at = Place(place.document, place.pointer + pointer([keyword]))
                 self.references.append(Reference(at, schema[keyword], _joined(base, schema[keyword])))
 
+    def anchors(self) -> Iterator[tuple[str, Place]]:
+        """The URI of each anchor, with its place."""
+        for (base, name), place in self._anchors.items():
+            yield f"{base}#{name}", place
+
+    def referred(self, location: str, reference: str) -> Any:
+        """The value that a reference leads to from the schema at a location; None where it leads nowhere."""
+        return self.schema(_joined(urldefrag(location).url, reference))
+
     def base(self, place: Place) -> str:
         """The base URI of what stands at a place: that of the innermost schema above it, or at it, which has one."""
         at = place.pointer

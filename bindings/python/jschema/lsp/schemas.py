@@ -125,21 +125,26 @@ class Store:
         return self._by_id.get(urldefrag(uri).url)
 
     def file(self, path: str) -> Optional[SchemaFile]:
-        """The file of a schema as it is now; None if it can't be read."""
+        """The file of a schema as it is now, or as it was when it could last be read. None if there is none."""
         stamp = self._stamp(path)
         if stamp is None:
             return None
         found = self._files.get(path)
-        if found is None or found.stamp != stamp:
-            document = self._opened(path)
-            if document is not None:
-                found = SchemaFile(path, document.uri, document.text, document.kind, stamp)
-            elif (text := _text(path)) is not None:
-                found = SchemaFile(path, file_url(path), text, kind_of(path), stamp)
-            else:
-                return None
-            self._files[path] = found
+        if found is not None and found.stamp == stamp:
+            return found
+        made = self._read(path, stamp)
+        if made is not None and made.reading.fault is not None and found is not None and found.reading.fault is None:
+            found.stamp = stamp
+        elif made is not None:
+            found = self._files[path] = made
         return found
+
+    def _read(self, path: str, stamp: Hashable) -> Optional[SchemaFile]:
+        document = self._opened(path)
+        if document is not None:
+            return SchemaFile(path, document.uri, document.text, document.kind, stamp)
+        text = _text(path)
+        return None if text is None else SchemaFile(path, file_url(path), text, kind_of(path), stamp)
 
     def set_of(self, path: str) -> Optional[SchemaSet]:
         """The schema in a file, as it is now; None if the file can't be read."""

@@ -63,6 +63,17 @@ def read(given: Any, folder: str, warn: Callable[[str], None]) -> Settings:
     return settings
 
 
+def read_file(path: str, warn: Callable[[str], None]) -> Settings:
+    """Reads a file of settings. Relative paths start from its folder."""
+    try:
+        with open(path, encoding="utf-8") as file:
+            given = json.load(file)
+    except (OSError, ValueError) as error:
+        warn(f"the settings {path} can't be read: {error}")
+        return Settings()
+    return read(given, os.path.dirname(path), warn)
+
+
 def _list(given: dict[str, Any], name: str, warn: Callable[[str], None]) -> list[Any]:
     value = given.get(name, [])
     if isinstance(value, list):

@@ -3,10 +3,10 @@ from __future__ import annotations
 
 import os
 import re
-from typing import Any, Callable, NamedTuple, Optional
+from collections.abc import Iterable
+from typing import NamedTuple, Optional
 from urllib.parse import unquote, urldefrag, urlsplit
 
-from . import settings
 from .documents import Document
 from .ranges import Span, path_of
 from .schemas import SchemaSet, Store
@@ -43,9 +43,12 @@ class Workspace:
         # The schema that each document named when it could last be read.
         self._named: dict[str, Optional[str]] = {}
 
-    def configure(self, given: Any, warn: Callable[[str], None]) -> None:
-        """Takes the settings of the client."""
-        self.settings = settings.read(given, self.folder, warn)
+    def configure(self, given: Iterable[Settings]) -> None:
+        """Takes settings in place of those of before. The first ones count most."""
+        self.settings = Settings()
+        for it in given:
+            self.settings.associations += it.associations
+            self.settings.references += it.references
         self.store.refer_to(self.settings.references)
 
     def open(self, document: Document) -> None:
@@ -105,18 +108,18 @@ class Workspace:
 
     def users_of(self, changed: Document) -> list[Document]:
         """The other open documents whose diagnostics depend on a schema that has changed."""
-        if changed.path is None:
+        if changed.path is None or not self.store.using(changed.path):
             return []
-        names = set(self.store.using(changed.path))
-        users = []
-        for document in self.documents.values():
-            if document is not changed:
-                choice = self.choice_of(document)
-                own = self.set_of_schema(document) if choice is None and self.is_schema(document) else None
-                of = choice.set if isinstance(choice, Choice) else own
-                if of is not None and changed.path in of.paths():
-                    users.append(document)
-        return users if names else []
+        others = [it for it in self.documents.values() if it is not changed]
+        return [it for it in others if changed.path in self._paths_of(it)]
+
+    def _paths_of(self, document: Document) -> list[str]:
+        """The files of the schema of a document."""
+        choice = self.choice_of(document)
+        if isinstance(choice, Choice):
+            return choice.set.paths()
+        own = self.set_of_schema(document) if choice is None and self.is_schema(document) else None
+        return [] if own is None else own.paths()
 
     def _path(self, name: str, folder: str) -> Optional[str]:
         if path := path_of(name):
