@@ -1,0 +1,176 @@
+"""What can be written at a character: names of members and values that the schemas know; in schemas the targets of
+references, and keywords."""
+from __future__ import annotations
+
+import json
+import re
+from collections.abc import Iterator
+from typing import Any, NamedTuple, Optional
+
+from .applied import applied, shallow
+from .context import Context, contexts
+from .documents import Document
+from .hover import shown
+from .keywords import names_of_keywords, values_of_keyword
+from .references import targets
+from .workspace import Choice, Workspace
+
+#: The most items that are sent.
+MOST = 500
+_PROPERTY, _VALUE, _REFERENCE = 10, 12, 18
+_PLAIN, _SNIPPET = 1, 2
+_DEPRECATED = 1
+# A scalar that YAML reads as the string that it looks like.
+_BARE = re.compile(r"(?!(?:null|Null|NULL|true|True|TRUE|false|False|FALSE)$)[A-Za-z_/$][\w./$-]*(?: [\w./$-]+)*")
+
+
+class Client(NamedTuple):
+    """What the client can show."""
+
+    is_markdown: bool = False
+    has_snippets: bool = False
+    has_related: bool = False
+    has_tree: bool = True
+
+
+class Suggestion(NamedTuple):
+    """A name or a value that can be written."""
+
+    value: Any
+    kind: int
+    #: What is known of it: the schema of the member, or of the value.
+    schema: Any = None
+    is_required: bool = False
+    detail: str = ""
+
+
+def completion(workspace: Workspace, document: Document, offset: int, client: Client) -> dict[str, Any]:
+    """The list of what can be written at a character."""
+    items = []
+    for context in contexts(document, offset):
+        found = _of_schema(workspace, document, context) if workspace.is_schema(document) \
+            else _of_instance(workspace, document, context)
+        unique = {json.dumps(it.value, sort_keys=True): it for it in reversed(list(found))}
+        items += [_item(document, context, it, client) for it in reversed(unique.values())]
+    return {"isIncomplete": len(items) > MOST, "items": items[:MOST]}
+
+
+def _of_instance(workspace: Workspace, document: Document, context: Context) -> Iterator[Suggestion]:
+    choice = workspace.choice_of(document)
+    if not isinstance(choice, Choice):
+        return
+    node, member = context.node, context.member
+    present: Any = shallow(context.text, node)
+    if context.is_name and isinstance(present, dict) and member is not None:
+        present.pop(str(member.key), None)
+    for it in applied(choice, context.text, node, present):
+        schema = choice.set.resources.schema(it.location)
+        if isinstance(schema, dict):
+            yield from _names(choice, schema, it.location, present) if context.is_name else _values(schema)
+
+
+def _names(choice: Choice, schema: dict[str, Any], location: str, present: Any) -> Iterator[Suggestion]:
+    """The members that a schema knows, and the object doesn't have yet."""
+    required = schema.get("required")
+    needed = [it for it in required if isinstance(it, str)] if isinstance(required, list) else []
+    properties = schema.get("properties")
+    members = properties if isinstance(properties, dict) else {}
+    names = schema.get("propertyNames")
+    allowed = names.get("enum") if isinstance(names, dict) else None
+    for name in dict.fromkeys([*needed, *members, *(allowed if isinstance(allowed, list) else ())]):
+        below = members.get(name, {})
+        if isinstance(name, str) and name not in present and below is not False:
+            yield Suggestion(name, _PROPERTY, _described(choice, below, location), name in needed)
+
+
+def _described(choice: Choice, schema: Any, location: str) -> Any:
+    """A schema; one that only refers to another with what that says."""
+    if isinstance(schema, dict) and isinstance(schema.get("$ref"), str) and not {"title", "description"} & set(schema):
+        target = choice.set.resources.referred(location, schema["$ref"])
+        if isinstance(target, dict):
+            return {**target, **schema}
+    return schema
+
+
+def _values(schema: dict[str, Any]) -> Iterator[Suggestion]:
+    """The values that a schema knows."""
+    if "const" in schema:
+        yield Suggestion(schema["const"], _VALUE, schema)
+    for word in ("enum", "examples"):
+        values = schema.get(word)
+        for value in values if isinstance(values, list) else ():
+            yield Suggestion(value, _VALUE, schema, detail="" if word == "enum" else "example")
+    if "default" in schema:
+        yield Suggestion(schema["default"], _VALUE, schema, detail="default")
+    if "const" not in schema and "enum" not in schema:
+        types = schema.get("type")
+        for kind in types if isinstance(types, list) else [types]:
+            yield from (Suggestion(it, _VALUE, schema) for it in {"boolean": (True, False), "null": (None,)}.get(kind, ()))
+
+
+def _of_schema(workspace: Workspace, document: Document, context: Context) -> Iterator[Suggestion]:
+    """What can be written in a schema."""
+    tokens = context.node.tokens()
+    if context.is_name:
+        present = shallow(context.text, context.node)
+        for name in names_of_keywords(tokens):
+            if name not in present:
+                yield Suggestion(name, _PROPERTY)
+    elif tokens and tokens[-1] in ("$ref", "$dynamicRef"):
+        for target in targets(workspace, document, context):
+            yield Suggestion(target.written, _REFERENCE, target.schema, detail=target.uri)
+    else:
+        yield from (Suggestion(it, _VALUE) for it in values_of_keyword(tokens))
+
+
+def _item(document: Document, context: Context, it: Suggestion, client: Client) -> dict[str, Any]:
+    """A suggestion as the protocol has it."""
+    is_yaml = document.kind == "yaml"
+    label = it.value if isinstance(it.value, str) else json.dumps(it.value, ensure_ascii=False)
+    text, is_snippet = _name_text(document, context, it, client) if context.is_name else (_written(it.value, is_yaml), False)
+    item: dict[str, Any] = {
+        "label": label, "kind": it.kind, "filterText": _written(it.value, is_yaml),
+        "sortText": ("0" if it.is_required else "1") + label,
+        "insertTextFormat": _SNIPPET if is_snippet else _PLAIN,
+        "textEdit": {"range": document.lines.range(*context.span), "newText": text}}
+    if it.detail or it.is_required:
+        item["detail"] = it.detail or "required"
+    if isinstance(it.schema, dict):
+        if documentation := shown(it.schema, client.is_markdown):
+            item["documentation"] = {"kind": "markdown" if client.is_markdown else "plaintext", "value": documentation}
+        if it.schema.get("deprecated") is True:
+            item["tags"] = [_DEPRECATED]
+    return item
+
+
+def _written(value: Any, is_yaml: bool) -> str:
+    """A value as it is written."""
+    if is_yaml and isinstance(value, str) and _BARE.fullmatch(value):
+        return value
+    return json.dumps(value, ensure_ascii=False)
+
+
+def _name_text(document: Document, context: Context, it: Suggestion, client: Client) -> tuple[str, bool]:
+    """What is inserted for a name, and whether it is a snippet. Where a colon follows, nothing is added."""
+    is_yaml = document.kind == "yaml"
+    name = _written(it.value, is_yaml)
+    after = document.text[context.span.end:context.span.end + 200].lstrip()
+    if after.startswith(":"):
+        return name, False
+    value, is_snippet = _first_value(it.schema, is_yaml, client.has_snippets)
+    comma = "," if not is_yaml and after[:1] not in ("", ",", "}", "]") else ""
+    if is_snippet:
+        name = re.sub(r"([\\$}])", r"\\\1", name)
+    return f"{name}: {value}{comma}" if not is_yaml or value else f"{name}: ", is_snippet
+
+
+def _first_value(schema: Any, is_yaml: bool, has_snippets: bool) -> tuple[str, bool]:
+    """What is inserted as the value of a new member, and whether it is a snippet."""
+    about = schema if isinstance(schema, dict) else {}
+    known = about.get("const", about.get("default"))
+    if "const" in about or "default" in about and not isinstance(known, (dict, list)):
+        return _written(known, is_yaml), False
+    brackets = {"string": '""', "object": "{}", "array": "[]"}.get(str(about.get("type")))
+    if is_yaml or not has_snippets:
+        return "", False
+    return ("$1" if brackets is None or "enum" in about else f"{brackets[0]}$1{brackets[1]}"), True

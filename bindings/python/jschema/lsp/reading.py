@@ -1,0 +1,133 @@
+"""A document's text as it was read: the JSON texts in it and where their values stand, or why it can't be read."""
+from __future__ import annotations
+
+import json
+from typing import Any, NamedTuple, NoReturn, Optional
+
+from ..errors import Refused
+from ..positions import Text
+from ..scanner import NotJson, scan
+from ..sources import Member, Source, Unreadable
+from ..sources import read as read_sources
+from ..sources.source import JsonSource
+from ..sources.tree import found
+from .ranges import Span
+
+
+class Fault(NamedTuple):
+    """Where and why a text can't be read."""
+
+    span: Span
+    message: str
+
+
+class Characters:
+    """A text and its bytes in UTF-8, as the validator reads them."""
+
+    def __init__(self, text: str) -> None:
+        self.text = text
+        self.data = text.encode("utf-8", "surrogatepass")
+        self._is_ascii = len(self.data) == len(text)
+        self._positions = Text(self.data)
+        self._line_starts: list[int] = []
+
+    def at(self, offset: int) -> int:
+        """The character at a byte."""
+        if self._is_ascii:
+            return offset
+        if not self._line_starts:
+            self._line_starts.append(0)
+            for line in self.text.split("\n"):
+                self._line_starts.append(self._line_starts[-1] + len(line) + 1)
+        position = self._positions.at(offset)
+        return self._line_starts[position.line - 1] + position.column - 1
+
+    def span(self, begin: int, end: int) -> Span:
+        """The characters from a byte to another. There is at least one, unless the text ends there."""
+        first, last = self.at(begin), self.at(end)
+        return Span(first, max(last, min(first + 1, len(self.text))))
+
+
+class Reading:
+    """The text of a document. In YAML each of its documents has a source."""
+
+    def __init__(self, text: str, kind: str) -> None:
+        self.characters = Characters(text)
+        self.sources: list[Source] = []
+        #: The value of the first source.
+        self.value: Any = None
+        self.fault: Optional[Fault] = None
+        if not text.strip():
+            return
+        try:
+            self.sources = read_sources(self.characters.data, kind)
+            self.value = _value(self.sources[0].json)
+        except Unreadable as refused:
+            self.fail(self.characters.span(*(it.offset for it in refused.range)), refused.meaning)
+        except _Syntax as syntax:
+            self.fail(self.characters.span(syntax.offset, syntax.offset), syntax.message)
+        for source in self.sources:
+            if isinstance(source, JsonSource) and self.fault is None:
+                source.trust()
+
+    def fail(self, span: Span, message: str) -> None:
+        """Says where and why the text can't be read."""
+        self.sources = []
+        self.fault = Fault(span, message)
+
+    def place(self, source: Source, pointer: str, is_name: bool = False) -> Span:
+        """What to underline of the value at a pointer: a scalar; of an array or an object its name, or else where it
+        begins. With `is_name` it is the name in any case."""
+        begin, end = (it.offset for it in source.value(pointer))
+        if is_name or _is_holder(source, pointer, begin):
+            name = source.name(pointer)
+            begin, end = (name.begin.offset, name.end.offset) if name.begin.offset != begin else (begin, begin + 1)
+        return self.characters.span(begin, end)
+
+    def refusal(self, source: Source, refused: Refused) -> Span:
+        """Where a source is refused."""
+        if refused.place and refused.kind != "NotJson":
+            try:
+                return self.place(source, refused.place)
+            except LookupError:
+                pass
+        return self.characters.span(*(it.offset for it in source.refusal(refused)))
+
+
+def _is_holder(source: Source, pointer: str, begin: int) -> bool:
+    if isinstance(source, JsonSource):
+        return source.json[begin:begin + 1] in (b"[", b"{")
+    at = found(source.tree(), pointer)
+    return not isinstance((at.value if isinstance(at, Member) else at).content, str)
+
+
+class _Syntax(Exception):
+    """A text ceases to be JSON at a byte."""
+
+    def __init__(self, offset: int, message: str) -> None:
+        super().__init__(offset, message)
+        self.offset, self.message = offset, message
+
+
+def _no_constant(name: str) -> NoReturn:
+    raise NotJson(0)
+
+
+def _value(text: bytes) -> Any:
+    """The value of a JSON text, by Python's own reader. (It is quick. What it takes and the validator doesn't is found
+    when the text is validated.) Raises `_Syntax`."""
+    characters = text.decode("utf-8", "surrogatepass")
+    try:
+        return json.loads(characters, parse_constant=_no_constant)
+    except json.JSONDecodeError as error:
+        offset = len(characters[:error.pos].encode("utf-8", "surrogatepass"))
+        raise _Syntax(offset, error.msg[0].lower() + error.msg[1:]) from None
+    except NotJson:
+        try:
+            scan(text)
+        except NotJson as error:
+            raise _Syntax(error.offset, "JSON has neither NaN nor Infinity") from None
+        return None
+    except (ValueError, RecursionError):
+        # An integer of thousands of digits, or thousands of arrays in one another.
+        return None

@@ -1,0 +1,108 @@
+"""The diagnostics of the language server for files with a schema: JSON, YAML, and what can't be read."""
+import json
+import unittest
+
+from lsp_client import PERSON, Session, shown
+
+try:
+    import yaml
+except ImportError:
+    yaml = None
+
+TWO = '{"name": "\U0001f600", "age": -1,\n "address": {"street": 1, "zip": "é"}}'
+
+
+class Instances(Session):
+    def test_errors(self):
+        """Scalars are underlined; of arrays and objects the name, or where they begin; columns count UTF-16 units."""
+        self.start()
+        found = self.open("a.person.json", TWO)
+        self.assertEqual(shown(found), [(1, 23, 24, "type"), (1, 26, 31, "false"), (0, 23, 25, "minimum")])
+        self.assertEqual({it["source"] for it in found}, {"jschema"})
+        self.assertEqual(found[2]["message"], "less than 0")
+        [related] = found[2]["relatedInformation"]
+        self.assertEqual(related["location"]["uri"], self.uri("person.schema.json"))
+        line = PERSON.split("\n")[related["location"]["range"]["start"]["line"]]
+        self.assertEqual(line[related["location"]["range"]["start"]["character"]:][:9], '"minimum"')
+
+    def test_missing_member(self):
+        self.start()
+        self.assertEqual(shown(self.open("a.person.json", ' {"friends": [{"age": 1}]}')),
+                         [(0, 14, 15, "required"), (0, 1, 2, "required")])
+        self.assertEqual(shown(self.open("b.person.json", '{"name": "A", "friends": {}}')), [(0, 14, 23, "type")])
+
+    def test_typing(self):
+        self.start()
+        self.open("a.person.json", TWO)
+        self.assertEqual(shown(self.replace("a.person.json", (0, 24), (0, 25), "5")),
+                         [(1, 23, 24, "type"), (1, 26, 31, "false"), (0, 23, 25, "minimum")])
+        self.assertEqual(shown(self.replace("a.person.json", (0, 23), (0, 24), "")),
+                         [(1, 23, 24, "type"), (1, 26, 31, "false")])
+        self.assertEqual(shown(self.replace("a.person.json", (1, 0), (1, 0), "\n\n")),
+                         [(3, 23, 24, "type"), (3, 26, 31, "false")])
+
+    def test_broken(self):
+        """A text that isn't JSON has the place of that, and the last diagnostics, which move with the text."""
+        self.start()
+        self.open("a.person.json", TWO)
+        self.assertEqual(shown(self.replace("a.person.json", (0, 0), (0, 1), "\n [")),
+                         [(1, 8, 9, "syntax"), (2, 23, 24, "type"), (2, 26, 31, "false"), (1, 24, 26, "minimum")])
+        self.assertEqual(shown(self.replace("a.person.json", (1, 1), (1, 2), "{")),
+                         [(2, 23, 24, "type"), (2, 26, 31, "false"), (1, 24, 26, "minimum")])
+        found = self.replace("a.person.json", (2, 0), (2, 0), "{")
+        self.assertEqual((shown(found)[0], found[0]["message"]),
+                         ((2, 0, 1, "syntax"), "expecting property name enclosed in double quotes"))
+
+    def test_not_json(self):
+        """What only the validator refuses, and what Python reads beyond JSON."""
+        self.start()
+        for text, at in (('["a",\n NaN]', (1, 1, 2)), ('["a", "\\ud800"]', (0, 6, 7)),
+                         ("[" * 200 + "]" * 200, (0, 127, 128)), ("[1e999]", (0, 1, 2)), ('"\x01"', (0, 1, 2)),
+                         ("{} x", (0, 3, 4)), ("[1,]", (0, 3, 4))):
+            with self.subTest(text[:20]):
+                self.assertEqual(shown(self.open(f"{len(text)}.person.json", text)), [(*at, "syntax")])
+
+    def test_no_verdict(self):
+        self.start()
+        [found] = self.open("a.person.json", '{"name": "A",\n "age": 0.5}')
+        self.assertEqual((shown([found]), found["severity"]), ([(1, 8, 11, "NotWhole")], 2))
+
+    def test_many_errors(self):
+        self.start()
+        found = self.open("a.person.json", json.dumps({"name": "A", "friends": [1] * 1000}))
+        self.assertEqual((len(found), found[-1]["message"]), (201, "800 more errors"))
+
+    def test_empty(self):
+        self.start()
+        self.assertEqual(self.open("a.person.json", " \n"), [])
+
+    def test_comments(self):
+        self.start()
+        self.write("settings.json", '{"properties": {"a": {"const": 1}}}')
+        text = '// é\n{"$schema": "./settings.json", /* é */ "a": 2, }'
+        self.assertEqual(shown(self.open("a.jsonc", text, "jsonc")), [(1, 44, 45, "const")])
+        self.assertEqual(shown(self.open("a.json", text)), [(0, 0, 1, "syntax")])
+
+
+@unittest.skipUnless(yaml, "PyYAML isn't installed")
+class Yaml(Session):
+    def test_errors(self):
+        self.start()
+        found = self.open("a.person.yaml", "name: é\nage: -1\naddress:\n  street: 1\n  zip: é\n", "yaml")
+        self.assertEqual(shown(found), [(3, 10, 11, "type"), (4, 2, 5, "false"), (1, 5, 7, "minimum")])
+
+    def test_documents(self):
+        self.start()
+        found = self.open("a.person.yaml", "name: A\nage: -1\n---\nname: B\n---\n{}\n", "yaml")
+        self.assertEqual(shown(found), [(1, 5, 7, "minimum"), (5, 0, 1, "required")])
+
+    def test_broken(self):
+        self.start()
+        self.open("a.person.yaml", "name: A\nage: -1\n", "yaml")
+        found = shown(self.replace("a.person.yaml", (0, 0), (0, 0), "x\n"))
+        self.assertEqual((found[0][-1], found[1:]), ("syntax", [(2, 5, 7, "minimum")]))
+
+    def test_schema_in_a_comment(self):
+        self.start()
+        text = "# yaml-language-server: $schema=person.schema.json\nage: 1\n"
+        self.assertEqual(shown(self.open("a.yaml", text, "yaml")), [(1, 0, 1, "required")])
