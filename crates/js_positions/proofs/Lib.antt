@@ -1,0 +1,4 @@
+pub mod TapeNodes
+pub mod TokenNumbers
+pub mod PositionsFound
+pub mod TokenStarts

@@ -1,0 +1,12 @@
+-- What stands at a node of a text's tape.
+use Rattle.std.specs.Prelude.{◌≡◌, ℕ, List, Option, None, MatchOption, Some, drop, map}
+use Rattle.json.specs.Find.{BeginsWith}
+use Rattle.json.specs.Json.{Json}
+use Rattle.json.specs.Tape.{node_token}
+use Rattle.json.specs.declared.tape.Node.{Node}
+use Rattle.js_positions.specs.Positions.{Placed}
+
+-- the node is where the value begins, or there is neither
+abbrev pub IsPlaced : List Node → Option ℕ → Option Placed → Type 0
+IsPlaced nodes found o =
+    MatchOption found (o ≡ None) (λ n. (v : Json) × (o ≡ Some (n, v)) × BeginsWith (drop n (map node_token nodes)) v)
