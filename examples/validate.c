@@ -6,7 +6,8 @@
 #define TEXT(text) (const uint8_t *)(text), strlen(text)
 
 int main(void) {
-    const char *uri = "urn:person", *schema = "{\"properties\": {\"age\": {\"minimum\": 0}}}", *instance = "{\"age\": -1}";
+    const char *uri = "urn:person", *instance = "{\"age\": -1}";
+    const char *schema = "{\"properties\": {\"age\": {\"minimum\": 0}}}";
     uint8_t text[4096];
     size_t entry;
     jschema schemas = JSCHEMA_EMPTY;

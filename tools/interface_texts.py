@@ -163,7 +163,8 @@ def python_tables(interface):
     limits = "".join(f'    "{it["name"]}": {it["value"]:_},\n' for it in interface["limit"])
     meanings = "".join(f'    "{it["name"]}": {json.dumps(it["meaning"])},\n'
                        for it in sorted(interface["refusal"], key=lambda it: it["name"]))
-    return (f'#: The version of the package, and of the library that belongs to it.\nVERSION = "{interface["version"]}"\n\n'
+    return ("#: The version of the package, and of the library that belongs to it.\n"
+            f'VERSION = "{interface["version"]}"\n\n'
             f"#: Each format, and its number in the library.\nFORMATS = {{{formats}}}\n\n"
             f"#: What a call of the library answers, and the program's exit statuses, by their numbers from 0.\n"
             f"STATUSES = ({names})\n\n"
@@ -222,9 +223,10 @@ def page_examples(*kinds):
 
 # For each file its marks, and what writes the text between each and the next `interface: end`.
 TEXTS = {
-    "jschema": {"version": launcher_version, "usage": launcher_usages, "help": launcher_help, "options": launcher_options},
-    "tools/installed/jschema.1": {"title": manual_title, "synopsis": manual_synopsis, "commands": manual_commands, "formats": manual_formats,
-                                  "statuses": manual_statuses, "limits": manual_limits},
+    "jschema": {"version": launcher_version, "usage": launcher_usages, "help": launcher_help,
+                "options": launcher_options},
+    "tools/installed/jschema.1": {"title": manual_title, "synopsis": manual_synopsis, "commands": manual_commands,
+                                  "formats": manual_formats, "statuses": manual_statuses, "limits": manual_limits},
     "tools/installed/jschema.bash": {"words": bash_words},
     "tools/installed/jschema.zsh": {"words": zsh_words},
     "bindings/c/jschema.pc": {"version": package_version},

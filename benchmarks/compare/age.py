@@ -1,4 +1,4 @@
-"""How old the table of README.md is: the commit of the program that was measured, and how many came since."""
+"""How old the table of RESULTS.md is: the commit of the program that was measured, and how many came since."""
 import os
 import re
 
@@ -6,7 +6,7 @@ from tests.support.pages import part_of, write_part
 from validators import HOME, output_of
 
 HERE = os.path.dirname(os.path.abspath(__file__))
-PAGE = os.path.join(HERE, "README.md")
+PAGE = os.path.join(HERE, "RESULTS.md")
 # What the page says is rounded down to this, and may be as much behind: else each commit would change the page.
 STEP = 200
 

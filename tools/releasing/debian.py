@@ -66,8 +66,8 @@ def pages(release, name):
     """The pages of a package: Debian's own, and those that stand beside each package."""
     folder = f"usr/share/doc/{name}"
     holders = "".join(f" {it}\n" for it in parts.copyrights(release.notices))
-    yield text(f"{folder}/copyright", f"{release.licence}\nIt contains libraries, whose licences are in NOTICES.txt.gz, "
-                                      f"of:\n\n{holders}")
+    yield text(f"{folder}/copyright",
+               f"{release.licence}\nIt contains libraries, whose licences are in NOTICES.txt.gz, of:\n\n{holders}")
     yield File(f"{folder}/changelog.gz", compressed((release.home / "CHANGELOG.md").read_bytes()))
     yield File(f"{folder}/changelog.Debian.gz", compressed("\n".join(changes(release)).encode()))
     yield File(f"{folder}/NOTICES.txt.gz", compressed(release.notices.encode()))

@@ -10,7 +10,8 @@ OLDEST = (2, 17)
 
 def shown(path, option):
     """What readelf shows of a file."""
-    return subprocess.run(["readelf", "--wide", option, str(path)], stdout=subprocess.PIPE, text=True, check=True).stdout
+    done = subprocess.run(["readelf", "--wide", option, str(path)], stdout=subprocess.PIPE, text=True, check=True)
+    return done.stdout
 
 
 def needed(path):
