@@ -19,7 +19,7 @@ def chart(tools, results):
 
 
 def legend(names):
-    x = LEFT
+    x = 20
     for number, name in enumerate(names):
         yield (f'<circle cx="{x}" cy="42" r="5" fill="{COLORS[number]}"/>'
                f'<text x="{x + 9}" y="46">{escape(name)}</text>')
