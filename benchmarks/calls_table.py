@@ -1,4 +1,4 @@
-"""The table of benchmarks/calls in benchmarks/README.md."""
+"""The table of benchmarks/calls in benchmarks/RESULTS.md."""
 
 # The columns by the names of their cases, and the rows by who is asked.
 COLUMNS = {"age, 11 bytes": "11 bytes", "events, 1 KB": "events, 1 KB", "events, 300 KB": "302 KB",

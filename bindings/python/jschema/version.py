@@ -1,4 +1,4 @@
 """The version of the package, which pyproject.toml has too."""
 from __future__ import annotations
 
-VERSION = "0.1.0"
+from .interface import VERSION  # noqa: F401
