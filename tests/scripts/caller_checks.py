@@ -151,6 +151,9 @@ def over_libraries(room, program):
         for part in ("rows", "calls", "memory", "threads", "refused"):
             yield Check(f"bindings/c/test {part}, a library that {fake}",
                         ["bindings/c/test", "--seconds", "1", "--program", program, part], says, home, env={"CC": "cc"})
+    os.symlink("libjschema.so", os.path.join(library, "libjschema.so.0"))
+    yield Check("benchmarks/calls, no such case", ["benchmarks/calls", "--only", "nosuch", "--program", program],
+                "no case has 'nosuch' in its name", home, {"CC": "cc"}, has_count=False)
     hanging = room.executable("fakes/hangs", FAKES["hangs"][0])
     yield Check("bindings/c/test rows, a program that hangs",
                 ["bindings/c/test", "--seconds", "1", "--program", hanging, "rows"], "no end after 1 s", home)
