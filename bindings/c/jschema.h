@@ -20,10 +20,11 @@
    the list of jschema_places; for JSCHEMA_REFUSED the line that says what is refused; otherwise none. jschema_text
    copies it out.
 
-   Stack: a call needs at most 64 KB, and more for what is nested: 1 KB for each level of a JSON text (128 at most),
-   1.5 KB for each group in a group of a regular expression (250 at most), and 2 KB for each schema that is applied
-   inside the application of another (512 at most). So 1.25 MB is enough for whatever is passed in. A thread with less
-   sets jschema_limit, and passes no text that nests deeper than its stack allows.
+   Stack: a call needs at most 32 KB, 100 KB if it searches with a regular expression, and more for what is nested: 1 KB
+   for each level of a JSON text (128 at most), 2 KB for each level of nesting in a regular expression (groups,
+   repetitions, classes: 250 at most), and 2 KB for each schema that is applied inside the application of another (512
+   at most). So 1.25 MB is enough for whatever is passed in. A thread with less sets jschema_limit, and passes no text
+   that nests deeper than its stack allows.
 
    Threads: give a handle to one call at a time. Between calls it may go to another thread, if a lock, or a thread's
    start or end, orders the calls. Threads that work side by side need a handle each: jschema_share makes more handles

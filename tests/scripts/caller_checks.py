@@ -1,8 +1,9 @@
-"""Tests of the scripts that test and time the library for C and the Python package: over fakes."""
+"""Tests of the scripts that test and time the library for C and the packages for Python and JavaScript: over fakes."""
 import os
 import shutil
 import subprocess
 from dataclasses import dataclass
+from pathlib import Path
 
 from benchmarks.turns import Noisy, in_turns
 from script_checks import FAKES, Check
@@ -16,6 +17,25 @@ FAKE_LIBRARIES = {
     "answers another row's text": ([r'-DANSWER="{\"valid\":false}\n"'], "FAILED"),
     "refuses everything": (["-DSTATUS=3", r'-DANSWER="refused: document 0 at \"\": NotJson"'], "FAILED"),
     "is valid in the right shape": (["-DRIGHT_SHAPE"], "FAILED"),
+}
+
+
+RIGHT_SHAPE = "is valid in the right shape"
+SUITE = "/usr/share/perl5/auto/share/dist/Test-JSON-Schema-Acceptance"
+# What a fake module for JavaScript does, and what each part of its tests must say of it.
+OF_ROW = r"rows\.test\.js:\d+:\d+\n\S+ (polygon|annotated_property)/\w+, \w+ "
+FAKE_MODULES = {
+    "crashes": ({"act": "(unreachable)"}, {"node": OF_ROW, "suite": "FAILED suite: the module has stopped"}),
+    "hangs": ({"act": "(loop $forever (br $forever))"},
+              {"node": "no end after 1 s", "suite": "FAILED suite: no end after 1 s", "package": "no end after 1 s"}),
+    "answers nothing": ({}, {"node": OF_ROW, "suite": r"FAILED \S+\.json "}),
+    "answers another row's text": ({"texts": ['{"valid":false}\n'] * 3}, {"node": OF_ROW}),
+    "refuses everything": ({"status": 3, "texts": ['refused: document 0 at "": NotJson\n'] * 3},
+                           {"node": OF_ROW, "suite": "FAILED suite: the module has stopped"}),
+    RIGHT_SHAPE: ({"texts": ['{"valid":true}\n', '{"annotations":[],"valid":true}\n',
+                             '{"absoluteKeywordLocation":"a:b#","instanceLocation":"","keywordLocation":"",'
+                             '"valid":true}\n']},
+                  {"node": OF_ROW, "suite": r"FAILED \S+\.json ", "package": "what it says"}),
 }
 
 
@@ -69,11 +89,52 @@ def of_callers(room):
     yield Check("bindings/c/test, no such part", [*test, "none"], "no part none", home, has_count=False)
     yield Check("bindings/c/test, no compiler", test, home=home, prints=" 1 skipped$",
                 env={"PATH": room.path_without_kit()})
+    yield from of_javascript(room)
     yield Turns("benchmarks/calls, in turns")
     if compiles:
         yield from over_libraries(room, right)
     else:
         skip("bindings/c/test over libraries that are wrong: no compiler")
+
+
+def of_javascript(room):
+    """What tests the JavaScript package: over modules that are wrong (bindings/javascript/tests/fake.wat)."""
+    missing, program = os.path.join(room.folder, "none"), room.executable("fakes/valid", FAKES[RIGHT_SHAPE][0])
+    home = room.copy("module")
+    test = ["bindings/javascript/test", "--program", program]
+    yield Check("bindings/javascript/test, no node", test, home=home, prints=" 1 skipped$",
+                env={"PATH": room.path_without_kit()})
+    tools = ("node", "wasm-opt", "wasm-as")
+    if lacking := [it for it in tools if shutil.which(it) is None]:
+        skip(f"bindings/javascript/test over modules that are wrong: not installed: {', '.join(lacking)}")
+        return
+    yield Check("bindings/javascript/test, no program", [*test[:2], missing], f"no program at {missing}", home)
+    yield Check("bindings/javascript/test, no module", test, "no module", home)
+    yield Check("bindings/javascript/test, no such part", [*test, "none"], "no part none", home, has_count=False)
+    for fake, (values, said) in FAKE_MODULES.items():
+        wrong = room.copied(home, f"module that {fake}")
+        write_module(wrong, **values)
+        for part, says in said.items():
+            if part != "suite" or os.path.isdir(SUITE):
+                yield Check(f"bindings/javascript/test {part}, a module that {fake}",
+                            [*test, "--seconds", "1" if fake == "hangs" else "120", part], says, wrong)
+
+
+def write_module(home, act="", status=0, texts=("", "", "")):
+    """Writes a module that is wrong where the package looks for it."""
+    source = Path(HOME, "bindings/javascript/tests/fake.wat").read_text()
+    values = {"act": act, "status": str(status), **dict(zip(("flag", "basic", "other"), map(with_length, texts)))}
+    for name, value in values.items():
+        source = source.replace(f"{{{name}}}", value)
+    made = Path(home, "out/wasm/jschema.wasm")
+    made.parent.mkdir(parents=True)
+    made.with_suffix(".wat").write_text(source)
+    subprocess.run(["wasm-as", "--enable-bulk-memory", made.with_suffix(".wat"), "-o", made], check=True)
+
+
+def with_length(text):
+    """A text behind its length, as data of a module has it."""
+    return "".join(f"\\{it:02x}" for it in len(text).to_bytes(4, "little") + text.encode())
 
 
 def over_libraries(room, program):
@@ -90,6 +151,9 @@ def over_libraries(room, program):
         for part in ("rows", "calls", "memory", "threads", "refused"):
             yield Check(f"bindings/c/test {part}, a library that {fake}",
                         ["bindings/c/test", "--seconds", "1", "--program", program, part], says, home, env={"CC": "cc"})
+    os.symlink("libjschema.so", os.path.join(library, "libjschema.so.0"))
+    yield Check("benchmarks/calls, no such case", ["benchmarks/calls", "--only", "nosuch", "--program", program],
+                "no case has 'nosuch' in its name", home, {"CC": "cc"}, has_count=False)
     hanging = room.executable("fakes/hangs", FAKES["hangs"][0])
     yield Check("bindings/c/test rows, a program that hangs",
                 ["bindings/c/test", "--seconds", "1", "--program", hanging, "rows"], "no end after 1 s", home)

@@ -4,9 +4,9 @@ import shutil
 
 from script_checks import Check
 from tests.support.programs import HOME
+from tools.interface_texts import FOUND, TEXTS
 
-COPIED = ("README.md", "bindings/c/jschema.h", "bindings/python/jschema/interface.py", "docs/REFUSALS.md",
-          "interface.toml", "jschema", "tools")
+COPIED = ("interface.toml", "tests/reference", "tools", *(it for it in (*TEXTS, *FOUND) if not it.startswith("tools/")))
 SIXTH = '''[[format]]
 name = "hierarchical"
 number = 5
@@ -20,7 +20,8 @@ number = 0'''
 EDITS = {
     "an old help": ("jschema", "  flag      the verdict alone", "  flag      the verdict", "jschema is stale"),
     "an old header": ("bindings/c/jschema.h", "JSCHEMA_BASIC = 1", "JSCHEMA_BASIC = 2", "jschema.h is stale"),
-    "a page without marks": ("README.md", "<!-- interface: limits -->\n", "", "README.md has no marks for limits"),
+    "a page without marks": ("docs/REFUSALS.md", "<!-- interface: limits -->\n", "",
+                             "REFUSALS.md has no marks for limits"),
     "another word for a format": ("crates/js_command/src/words.rt", '"merged" =>', '"unique" =>',
                                   "js_command/src/words.rt: format_of"),
     "another number of a format": ("crates/jschema_c/specs/Status.antt", "format_number Basic = 1",

@@ -24,8 +24,9 @@ FAKES = {
     "prints its usage": (f"echo '{USAGE}' >&2; exit 2", "FAILED"),
     "is valid in the right shape": (f"exec '{HOME}/tests/scripts/fake_valid.sh' \"$@\"", "FAILED"),
 }
-COPIED = ("benchmarks", "bindings", "examples", "tests/fuzz", "tests/hostile", "tests/random", "tests/reference",
-          "tests/rows/polygon", "tests/rows/annotated_property", "tests/scripts", "tests/support", "tools")
+COPIED = ("benchmarks", "bindings", "examples", "tests/conformance", "tests/fuzz", "tests/hostile", "tests/random",
+          "tests/reference", "tests/rows/polygon", "tests/rows/annotated_property", "tests/scripts", "tests/support",
+          "tools")
 COPIED_FILES = ("HANDLES", "crates.txt", "interface.toml", "tests/__init__.py", "tests/mutants/kept_bodies.py",
                 "tests/mutants/quick_bodies.py", "tests/mutants/run", "tests/rows/run")
 

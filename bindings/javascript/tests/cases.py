@@ -1,10 +1,13 @@
 """The cases that the JavaScript tests are asked: the worked rows, and the JSON Schema Test Suite."""
 import base64
+import contextlib
 import hashlib
 import json
 import os
+import signal
 import subprocess
 import sys
+import threading
 from pathlib import Path
 
 HOME = Path(__file__).resolve().parents[3]
@@ -16,7 +19,7 @@ FORMATS = ("flag", "basic", "detailed", "verbose", "merged")
 sys.path[:0] = [str(HOME), str(CONFORMANCE)]
 from exclusions import read_exclusions, report_of  # noqa: E402
 from judging import judge_file  # noqa: E402
-from program import REFUSED_REFERENCE, Outcome  # noqa: E402
+from program import REFUSED_REFERENCE, Outcome, ProgramFailed  # noqa: E402
 from suite import Suite, find_meta_schemas  # noqa: E402
 from tests.support.rows import ROWS, checks, runs  # noqa: E402
 
@@ -57,16 +60,20 @@ class OfTheModule:
 
     path = "suite.js"
 
-    def __init__(self, script):
+    def __init__(self, script, seconds):
         self.process = subprocess.Popen(["node", script], stdin=subprocess.PIPE, stdout=subprocess.PIPE, text=True,
                                         encoding="utf-8")
+        self.end = threading.Timer(seconds, self.process.kill)
 
     def __enter__(self):
+        self.end.start()
         return self
 
     def __exit__(self, *_):
-        self.process.stdin.close()
+        with contextlib.suppress(BrokenPipeError):
+            self.process.stdin.close()
         self.process.wait()
+        self.end.cancel()
 
     def outcomes(self, cases, documents):
         """What it says of each instance of each case, a schema with instances; documents are files."""
@@ -77,9 +84,14 @@ class OfTheModule:
         uri = "https://suite.example/0"
         asked = {"documents": [*texts, (uri, json.dumps(schema))], "entry": uri,
                  "instances": [json.dumps(it) for it in instances]}
-        self.process.stdin.write(json.dumps(asked) + "\n")
-        self.process.stdin.flush()
-        return [outcome(answer, len(texts)) for answer in json.loads(self.process.stdout.readline())]
+        with contextlib.suppress(BrokenPipeError):
+            self.process.stdin.write(json.dumps(asked) + "\n")
+            self.process.stdin.flush()
+        line = self.process.stdout.readline()
+        if not line.endswith("\n"):
+            killed = self.process.wait() == -signal.SIGKILL
+            raise ProgramFailed(f"no end after {self.end.interval:g} s" if killed else "the module has stopped")
+        return [outcome(answer, len(texts)) for answer in json.loads(line)]
 
     def check_words(self, *_):
         """A test that failed is shown by its name alone."""
@@ -95,9 +107,10 @@ def outcome(answer, count):
     return Outcome(None, answer["kind"], answer["subject"])
 
 
-def suite_report(script):
-    """What came of the suite's tests of draft 2020-12, by the profile."""
+def suite_report(script, seconds):
+    """What came of the suite's tests of draft 2020-12, by the profile. Raises `ProgramFailed` if the module stops, or
+    takes longer than `seconds` for all."""
     suite = Suite(str(SUITE), find_meta_schemas())
-    with OfTheModule(script) as module:
+    with OfTheModule(script, seconds) as module:
         judged = [it for name in suite.files() + suite.files(optional=True) for it in judge_file(module, suite, name)]
     return report_of(judged, read_exclusions(CONFORMANCE / "profile"))

@@ -28,7 +28,8 @@ class Refusals(OnThisCommand, expectations.Refusals):
     test_engine_is_missing = None
 
     def test_closed_streams(self):
-        """Node puts /dev/null in place of a stream that is closed: what isn't there is no valid instance."""
+        """Node opens /dev/null in place of a stream that is closed. Callers who have nothing to say open it in the same
+        way, for reading and writing (Python's DEVNULL), so there are no lines then, and one instance isn't JSON."""
         for words, said, status in (("two.json >&-", "0 valid, 1 invalid (2 errors)\n", 1),
                                     ("- <&-", "<stdin>:1:1: refused: not a JSON text, or nested deeper than 127 "
                                               "(root; NotJson)\n0 valid, 0 invalid, 1 refused\n", 3),
