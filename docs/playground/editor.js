@@ -62,6 +62,7 @@ export class Editor {
   set text(text) {
     if (text !== this.#area.value) {
       this.#area.value = text;
+      this.#area.setSelectionRange(0, 0);
       this.#area.scrollTo(0, 0);
     }
     this.#measure();
@@ -160,15 +161,14 @@ export class Editor {
     return parts;
   }
 
-  /** The message behind a line. Behind one that ends out of sight it is shown where the line begins to be seen. */
+  /** The message behind a line; where there is no room for it, below the line. */
   #message(messages, length) {
     const more = messages.length > 1 ? ` (and ${messages.length - 1} more)` : "";
-    const shown = element("span", { class: "message" }, messages[0] + more);
+    const text = messages[0] + more;
     const seen = this.#area.clientWidth + this.#area.scrollLeft;
-    if (length * this.#columnWidth() + 80 > seen) {
-      shown.classList.add("above");
-      shown.style.right = `${-this.#area.scrollLeft}px`;
-    }
+    if ((length + text.length + 4) * this.#columnWidth() <= seen) return element("span", { class: "message" }, text);
+    const shown = element("span", { class: "message below" }, `↑ ${text}`);
+    shown.style.right = `${-this.#area.scrollLeft}px`;
     return shown;
   }
 

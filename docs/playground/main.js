@@ -118,7 +118,7 @@ class Playground {
     const { fault, errors = [] } = answer;
     const faults = fault === undefined ? errors : [fault];
     const marks = (where) => faults.filter((it) => it[where] !== undefined)
-      .map((it) => ({ ...it[where], message: it.message }));
+      .map((it) => ({ ...it[where], message: it.meaning ?? it.message }));
     this.documents.marks = marks("inSchema");
     this.instance.marks = marks("inInstance");
     this.#say(answer);
