@@ -28,7 +28,9 @@ export class Tabs {
     tabs.forEach((tab, index) => {
       const button = this.#holder.children[index] ?? this.#holder.appendChild(this.#button());
       const isSelected = tab.key === selected;
-      Object.assign(button, { id: `${this.#panel}-${tab.key}`, className: tab.kind ?? "", tabIndex: isSelected ? 0 : -1 });
+      button.id = `${this.#panel}-${tab.key}`;
+      button.className = tab.kind ?? "";
+      button.tabIndex = isSelected ? 0 : -1;
       if (button.textContent !== tab.label) button.textContent = tab.label;
       button.setAttribute("aria-selected", String(isSelected));
       button.onclick = () => this.#chosen(tab.key);

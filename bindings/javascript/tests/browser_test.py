@@ -349,7 +349,8 @@ class Page(unittest.TestCase):
             self.skipTest("the playground in one file: esbuild isn't installed")
         with tempfile.TemporaryDirectory() as folder:
             file = Path(folder, "playground.html")
-            subprocess.run([HOME / "tools" / "build-playground", "--module", GIVEN["module"], "--out", file], check=True)
+            build = HOME / "tools" / "build-playground"
+            subprocess.run([build, "--module", GIVEN["module"], "--out", file], check=True, stdout=subprocess.DEVNULL)
             self.open(file.as_uri())
             self.expect_verdict("✗ Invalid: 1 error")
             self.write("#instance-text", '{"name": "Ada"}')
@@ -394,9 +395,9 @@ const walker = document.createTreeWalker(document.body, NodeFilter.SHOW_TEXT);
 while (walker.nextNode()) {
   const holder = walker.currentNode.parentElement;
   const text = walker.currentNode.textContent.trim();
-  if (text === "" || !holder.checkVisibility() || holder.closest("noscript, option, datalist, button:disabled")) continue;
+  const isLeftOut = holder.closest("noscript, option, datalist, textarea, button:disabled");
+  if (text === "" || isLeftOut || !holder.checkVisibility()) continue;
   const [front, back] = [colour(getComputedStyle(holder).color), behind(holder)];
-  if (holder.tagName === "TEXTAREA") continue;
   const [dark, light] = [luminance(front), luminance(back)].sort((a, b) => a - b);
   const ratio = (light + 0.05) / (dark + 0.05);
   if (ratio < 4.5) faults.push([text.slice(0, 40), String(front), String(back), ratio]);
