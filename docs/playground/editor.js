@@ -5,6 +5,8 @@
  * of the lines that fit, coloured tokens, underlines, and behind each line the message of its first underline.
  */
 import { element } from "./elements.js";
+import { indented } from "./indenting.js";
+import { Values } from "./places.js";
 
 // As in style.css.
 const LINE_HEIGHT = 20;
@@ -38,7 +40,11 @@ export class Editor {
     });
     this.#caret = element("p", { class: "caret", id: `${id}-caret` });
     const text = element("div", { class: "text" }, this.#area, this.#drawing);
-    holder.append(element("div", { class: "editor" }, this.#gutter, text), this.#caret);
+    const format = element("button", {
+      type: "button", title: `Indent the ${label.toLowerCase()}`, onclick: () => this.#indent(),
+    }, "Format");
+    holder.append(element("div", { class: "editor" }, this.#gutter, text),
+      element("div", { class: "foot" }, this.#caret, format));
     this.#area.addEventListener("input", () => {
       this.#marks = movedMarks(this.#marks, this.#before, this.#area.value);
       this.#selected = undefined;
@@ -103,6 +109,17 @@ export class Editor {
     const line = this.#lineOf(offset);
     const before = this.#area.value.slice(this.#starts[line], offset);
     return { line: line + 1, column: [...before].length + 1 };
+  }
+
+  /** Indents a text that is JSON, in a way that can be undone. */
+  #indent() {
+    const text = `${indented(this.#area.value)}\n`;
+    if (new Values(this.#area.value).faultAt !== undefined || text === this.#area.value) return;
+    this.#area.focus();
+    this.#area.select();
+    document.execCommand("insertText", false, text);
+    this.#area.setSelectionRange(0, 0);
+    this.#area.scrollTo(0, 0);
   }
 
   /** Draws the lines that can be seen. */

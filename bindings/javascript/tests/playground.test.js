@@ -7,7 +7,7 @@ import { Checker } from "../../../docs/playground/checker.js";
 import { Checks, MOST_NODES } from "../../../docs/playground/checking.js";
 import { DROP, MERGE, REPLACE, after, normalForm, possibleSteps } from "../../../docs/playground/condensing.js";
 import { EXAMPLES, stateOfExample } from "../../../docs/playground/examples.js";
-import { indented } from "../../../docs/playground/output_panel.js";
+import { indented } from "../../../docs/playground/indenting.js";
 import { SchemaTexts, Values } from "../../../docs/playground/places.js";
 import { nodesOf, pruned, textOf, treeOf } from "../../../docs/playground/result_tree.js";
 import { fragmentOf, stateOf } from "../../../docs/playground/sharing.js";
