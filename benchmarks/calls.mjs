@@ -9,7 +9,6 @@ import { readFileSync } from "node:fs";
 import { createRequire } from "node:module";
 import { Schemas } from "../bindings/javascript/src/index.js";
 
-const AJV = "/usr/share/nodejs/ajv";
 const MOST_CALLS = 1_000_000;
 
 const { documents, olderDocuments, entry, instance, call, seconds } = JSON.parse(readFileSync(0, "utf8"));
@@ -39,7 +38,7 @@ async function outputIn(format) {
 }
 
 function ajvFunction() {
-  const Ajv = createRequire(import.meta.url)(AJV);
+  const Ajv = createRequire(import.meta.url)("ajv");
   const ajv = new Ajv({ unknownFormats: "ignore", logger: false });
   for (const [uri, text] of Object.entries(olderDocuments)) ajv.addSchema(JSON.parse(text), uri);
   return ajv.getSchema(entry);

@@ -34,10 +34,11 @@ class Handler(BaseHTTPRequestHandler):
         path = unquote(urlsplit(self.path).path)
         if path in ("/", PAGE.rstrip("/")):
             return self.reply(302, b"", {"Location": PAGE}, has_body)
-        file = self.server.file_of(path)
-        if file is None:
+        path = f"{PAGE}index.html" if path == PAGE else path
+        file, media_type = self.server.file_of(path), TYPES.get(posixpath.splitext(path)[1])
+        if file is None or media_type is None:
             return self.reply(404, b"not found\n", {"Content-Type": "text/plain"}, has_body)
-        return self.reply(200, file.read_bytes(), {"Content-Type": TYPES[file.suffix]}, has_body)
+        return self.reply(200, file.read_bytes(), {"Content-Type": media_type}, has_body)
 
     def reply(self, status, body, headers, has_body):
         fixed = {"Content-Length": str(len(body)), "Cache-Control": "no-cache", "X-Content-Type-Options": "nosniff",
@@ -71,7 +72,6 @@ class Server(ThreadingHTTPServer):
     def file_of(self, path):
         """The file that a path names, or None."""
         found = self.others.get(path)
-        if found is None and posixpath.normpath(path) == path.rstrip("/") and path.startswith((PAGE, PACKAGE)):
+        if found is None and posixpath.normpath(path) == path and path.startswith((PAGE, PACKAGE)):
             found = HOME / path.removeprefix("/")
-            found = found / "index.html" if path == PAGE else found
-        return found if found is not None and found.suffix in TYPES and found.is_file() else None
+        return found if found is not None and found.is_file() else None

@@ -85,8 +85,8 @@ export class Checks {
 
   /** What was thrown, with the place of what is refused. */
   #described(error, { instance }) {
-    const { name, message, subject, kind, place, index } = error;
-    const fault = { name, message, subject, kind };
+    const { name, message, meaning, subject, kind, place, index } = error;
+    const fault = { name, message, meaning, subject, kind };
     if (!(error instanceof Refused)) return fault;
     if (index !== undefined) fault.inSchema = this.#refusedIn(index, error, place);
     if (subject === "instance") fault.inInstance = refusedAt(new Values(instance), place, instance);

@@ -49,7 +49,7 @@ export class CondensingPanel {
         button("step", "Step", () => this.#take(this.#undone.at(-1) ?? this.#possible()[0])),
         button("random", "Random step", () => this.#take(randomOf(this.#possible()))),
         button("end", "End", () => this.#finish()),
-        element("label", {}, this.#merging, " also drop repeated siblings (the output merged)")),
+        element("label", {}, this.#merging, "also drop repeated siblings (the output merged)")),
       element("div", { class: "progress" }, this.#progress, this.#said));
     this.#tree = new TreeView(this.#holder, {
       label: "Result, being condensed", shown: (node, parent) => this.#shown(node, parent), chosen: how.chosen,

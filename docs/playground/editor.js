@@ -5,6 +5,8 @@
  * of the lines that fit, coloured tokens, underlines, and behind each line the message of its first underline.
  */
 import { element } from "./elements.js";
+import { indented } from "./indenting.js";
+import { Values } from "./places.js";
 
 // As in style.css.
 const LINE_HEIGHT = 20;
@@ -38,7 +40,11 @@ export class Editor {
     });
     this.#caret = element("p", { class: "caret", id: `${id}-caret` });
     const text = element("div", { class: "text" }, this.#area, this.#drawing);
-    holder.append(element("div", { class: "editor" }, this.#gutter, text), this.#caret);
+    const format = element("button", {
+      type: "button", title: `Indent the ${label.toLowerCase()}`, onclick: () => this.#indent(),
+    }, "Format");
+    holder.append(element("div", { class: "editor" }, this.#gutter, text),
+      element("div", { class: "foot" }, this.#caret, format));
     this.#area.addEventListener("input", () => {
       this.#marks = movedMarks(this.#marks, this.#before, this.#area.value);
       this.#selected = undefined;
@@ -62,6 +68,7 @@ export class Editor {
   set text(text) {
     if (text !== this.#area.value) {
       this.#area.value = text;
+      this.#area.setSelectionRange(0, 0);
       this.#area.scrollTo(0, 0);
     }
     this.#measure();
@@ -102,6 +109,17 @@ export class Editor {
     const line = this.#lineOf(offset);
     const before = this.#area.value.slice(this.#starts[line], offset);
     return { line: line + 1, column: [...before].length + 1 };
+  }
+
+  /** Indents a text that is JSON, in a way that can be undone. */
+  #indent() {
+    const text = `${indented(this.#area.value)}\n`;
+    if (new Values(this.#area.value).faultAt !== undefined || text === this.#area.value) return;
+    this.#area.focus();
+    this.#area.select();
+    document.execCommand("insertText", false, text);
+    this.#area.setSelectionRange(0, 0);
+    this.#area.scrollTo(0, 0);
   }
 
   /** Draws the lines that can be seen. */
@@ -160,15 +178,14 @@ export class Editor {
     return parts;
   }
 
-  /** The message behind a line. Behind one that ends out of sight it is shown where the line begins to be seen. */
+  /** The message behind a line; where there is no room for it, below the line. */
   #message(messages, length) {
     const more = messages.length > 1 ? ` (and ${messages.length - 1} more)` : "";
-    const shown = element("span", { class: "message" }, messages[0] + more);
+    const text = messages[0] + more;
     const seen = this.#area.clientWidth + this.#area.scrollLeft;
-    if (length * this.#columnWidth() + 80 > seen) {
-      shown.classList.add("above");
-      shown.style.right = `${-this.#area.scrollLeft}px`;
-    }
+    if ((length + text.length + 4) * this.#columnWidth() <= seen) return element("span", { class: "message" }, text);
+    const shown = element("span", { class: "message below" }, `↑ ${text}`);
+    shown.style.right = `${-this.#area.scrollLeft}px`;
     return shown;
   }
 

@@ -18,14 +18,16 @@ export class ErrorList {
 
   show({ verdict, errors = [], count = 0, fault }) {
     this.#items = errors.map((error) => this.#item(error));
-    const left = count - errors.length;
-    const children = {
-      valid: [element("p", { class: "hint" }, "The instance is valid: there are no errors.")],
-      none: [element("p", { class: "hint" }, helpFor(fault))],
-      invalid: [element("ol", { class: "errors" }, ...this.#items),
-        left > 0 ? element("p", { class: "hint" }, `${left.toLocaleString("en")} more errors.`) : undefined],
-    }[verdict];
-    this.#holder.replaceChildren(...children.filter((it) => it !== undefined));
+    const hint = (text) => element("p", { class: "hint" }, text);
+    if (verdict === "valid") {
+      this.#holder.replaceChildren(hint("The instance is valid: there are no errors."));
+    } else if (verdict === "none") {
+      this.#holder.replaceChildren(hint(helpFor(fault)));
+    } else {
+      this.#holder.replaceChildren(element("ol", { class: "errors" }, ...this.#items));
+      const left = count - errors.length;
+      if (left > 0) this.#holder.append(hint(`${left.toLocaleString("en")} more errors.`));
+    }
   }
 
   /** Emphasizes the errors for which this holds. */

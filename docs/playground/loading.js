@@ -29,17 +29,18 @@ export function forbidConnections() {
   document.head.append(policy);
 }
 
-// (A worker of a blob has the policy of the page.)
-let workerUrl;
+// (A worker of a blob has the policy of the page. From a disk it can't be a module.)
+let worker;
 
 /** A new worker. */
 export function startWorker() {
-  workerUrl ??= URL.createObjectURL(new Blob([workerText()], { type: "text/javascript" }));
-  return new Worker(workerUrl, { type: "module" });
+  worker ??= workerSource();
+  return new Worker(worker.url, { type: worker.type });
 }
 
-function workerText() {
+function workerSource() {
   const embedded = document.getElementById("embedded-worker");
-  return embedded === null ? `import ${JSON.stringify(new URL("worker.js", import.meta.url).href)};`
-    : embedded.textContent;
+  const text = embedded?.textContent ?? `import ${JSON.stringify(new URL("worker.js", import.meta.url).href)};`;
+  const url = URL.createObjectURL(new Blob([text], { type: "text/javascript" }));
+  return { url, type: embedded === null ? "module" : "classic" };
 }

@@ -118,7 +118,7 @@ class Playground {
     const { fault, errors = [] } = answer;
     const faults = fault === undefined ? errors : [fault];
     const marks = (where) => faults.filter((it) => it[where] !== undefined)
-      .map((it) => ({ ...it[where], message: it.message }));
+      .map((it) => ({ ...it[where], message: it.meaning ?? it.message }));
     this.documents.marks = marks("inSchema");
     this.instance.marks = marks("inInstance");
     this.#say(answer);
@@ -129,14 +129,15 @@ class Playground {
 
   #say({ verdict, count, milliseconds, fault }) {
     const said = at("verdict");
+    const errors = () => `${count.toLocaleString("en")} ${count === 1 ? "error" : "errors"}`;
+    const text = {
+      valid: () => "✓ Valid", invalid: () => `✗ Invalid: ${errors()}`, none: () => `${fault.name}: ${fault.message}`,
+    }[verdict]();
     said.className = verdict;
-    if (verdict === "none") {
-      said.textContent = `${fault.name === "Refused" ? "Refused" : fault.name}: ${fault.message}`;
-    } else {
-      const time = milliseconds < 1 ? "in less than 1 ms" : `in ${Math.round(milliseconds)} ms`;
-      const errors = `${count.toLocaleString("en")} ${count === 1 ? "error" : "errors"}`;
-      said.textContent = verdict === "valid" ? `✓ Valid (${time})` : `✗ Invalid: ${errors} (${time})`;
-    }
+    // (A screen reader says what changes.)
+    if (said.textContent !== text) said.textContent = text;
+    at("time").textContent = milliseconds === undefined ? ""
+      : milliseconds < 1 ? "in less than 1 ms" : `in ${Math.round(milliseconds)} ms`;
   }
 
   #showPanel() {

@@ -1,6 +1,7 @@
 /** The panel with the output as it is written, in any format. */
 import { FORMATS } from "../../bindings/javascript/src/index.js";
 import { element } from "./elements.js";
+import { indented } from "./indenting.js";
 
 /** The most characters of an output that are shown. */
 const MOST_CHARACTERS = 200_000;
@@ -34,23 +35,4 @@ export class OutputPanel {
 
 function hintFor({ length }) {
   return `${length.toLocaleString("en")} characters; indented here${length > MOST_CHARACTERS ? " and cut" : ""}.`;
-}
-
-/** A JSON text (or the beginning of one) with a line for each member and item. Only space between tokens is added. */
-export function indented(text) {
-  let depth = 0;
-  const tokens = text.matchAll(/"(?:[^"\\]|\\.)*"?|[[\]{},:]|[^\s"[\]{},:]+/g);
-  const pieces = [];
-  const feed = () => pieces.push("\n", "  ".repeat(depth));
-  let before = "";
-  for (const [token] of tokens) {
-    const closes = token === "]" || token === "}";
-    if (closes) depth -= 1;
-    const isEmpty = closes && (before === "[" || before === "{");
-    if (!isEmpty && (closes || before === "[" || before === "{" || before === ",")) feed();
-    pieces.push(token === ":" ? ": " : token);
-    if (token === "[" || token === "{") depth += 1;
-    before = token;
-  }
-  return pieces.join("");
 }

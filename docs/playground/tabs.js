@@ -24,13 +24,23 @@ export class Tabs {
   /** Shows these tabs. @param {{ key: number | string, label: string, kind?: string }[]} tabs */
   show(tabs, selected) {
     const hadFocus = this.#holder.contains(document.activeElement);
-    this.#holder.replaceChildren(...tabs.map(({ key, label, kind }) => element("button", {
-      type: "button", role: "tab", id: `${this.#panel}-${key}`, class: kind, "aria-controls": this.#panel,
-      "aria-selected": String(key === selected), tabindex: key === selected ? "0" : "-1",
-      onclick: () => this.#chosen(key),
-    }, label)));
+    while (this.#holder.children.length > tabs.length) this.#holder.lastChild.remove();
+    tabs.forEach((tab, index) => {
+      const button = this.#holder.children[index] ?? this.#holder.appendChild(this.#button());
+      const isSelected = tab.key === selected;
+      button.id = `${this.#panel}-${tab.key}`;
+      button.className = tab.kind ?? "";
+      button.tabIndex = isSelected ? 0 : -1;
+      if (button.textContent !== tab.label) button.textContent = tab.label;
+      button.setAttribute("aria-selected", String(isSelected));
+      button.onclick = () => this.#chosen(tab.key);
+    });
     document.getElementById(this.#panel).setAttribute("aria-labelledby", `${this.#panel}-${selected}`);
     if (hadFocus) this.#holder.querySelector("[aria-selected=true]")?.focus();
+  }
+
+  #button() {
+    return element("button", { type: "button", role: "tab", "aria-controls": this.#panel });
   }
 
   #key(event) {

@@ -111,9 +111,10 @@ class Page(unittest.TestCase):
         self.expect_verdict("✗ Invalid: 2 errors")
         self.assertEqual(self.texts("#instance-editor .underlined"), ["1", "-3"])
         self.picture("typed")
-        self.write("#instance-text", '{"name": 0.5}')
-        self.expect_verdict("Refused: instance at /name: NotWhole")
-        self.assertEqual(self.texts("#instance-editor .underlined"), ["0.5"])
+        self.write("#instance-text", '{"name": tru}')
+        self.expect_verdict("Refused: instance: NotJson")
+        self.assertEqual(self.texts("#instance-editor .underlined"), ["t"])
+        self.assertEqual(self.texts(".drawing .message"), ["not a JSON text, or nested deeper than 127"])
         self.picture("refused")
         self.write("#instance-text", "{}")
         self.write("#schema-text", '{"type": "nul"}')
@@ -121,6 +122,18 @@ class Page(unittest.TestCase):
         self.assertEqual("".join(self.texts("#schema-editor .underlined")), '"type": "nul"')
         self.write("#schema-text", '{"type": "null"}')
         self.expect_verdict("✗ Invalid: 1 error")
+
+    def test_format(self):
+        self.write("#instance-text", '{"name":"é😀","list":[1,{"a":[]}],"age":9007199254740993}')
+        before = self.find("#instance-text").get_property("value")
+        self.button("Format", "#instance-editor").click()
+        self.assertEqual(self.find("#instance-text").get_property("value"),
+                         json.dumps(json.loads(before), indent=2, ensure_ascii=False) + "\n")
+        self.find("#instance-text").send_keys(Keys.CONTROL, "z")
+        self.assertEqual(self.find("#instance-text").get_property("value"), before)
+        self.write("#instance-text", '{"a":')
+        self.button("Format", "#instance-editor").click()
+        self.assertEqual(self.find("#instance-text").get_property("value"), '{"a":')
 
     def test_underlines_move_with_the_text(self):
         area = self.find("#instance-text")
@@ -132,7 +145,7 @@ class Page(unittest.TestCase):
 
     def test_errors_lead_to_their_places(self):
         self.choose_example("Strict trees: $dynamicRef")
-        self.expect_verdict("✗ Invalid: 1 error")
+        self.expect_verdict("✗ Invalid: 2 errors")
         places = self.all(".errors .where button")
         self.find(".errors .message").click()
         self.assertEqual(self.texts("#instance-editor .selected"), ["1"])
@@ -141,15 +154,17 @@ class Page(unittest.TestCase):
         places[0].click()
         self.assertEqual(self.driver.switch_to.active_element.get_attribute("id"), "instance-text")
         self.assertIn("Line 3, column 14", self.find("#instance-text-caret").text)
+        self.until(lambda: len(self.all(".errors .current")) == 1)
         self.all(".errors .where button")[1].click()
         self.assertEqual(self.driver.switch_to.active_element.get_attribute("id"), "schema-text")
-        self.assertEqual(len(self.all(".errors .current")), 1)
+        self.until(lambda: len(self.all(".errors .current")) == 2)
 
     def test_an_error_in_another_document_opens_its_tab(self):
         self.choose_example("Strict trees: $dynamicRef")
         self.write("#instance-text", '{"children": 1}')
-        self.until(lambda: self.texts(".errors .message") == ["type is integer"])
-        self.assertEqual([it.text for it in self.all("#documents [role=tab].marked")], ["tree"])
+        # (`$ref` fails at the root, and a failing keyword evaluates nothing.)
+        self.until(lambda: self.texts(".errors .message") == ["type is integer", "false schema"])
+        self.assertEqual([it.text for it in self.all("#documents [role=tab].marked")], ["strict-tree", "tree"])
         self.find(".errors .message").click()
         self.assertEqual(self.find("#documents [aria-selected=true]").text, "tree")
         self.assertEqual("".join(self.texts("#schema-editor .selected")), '"type": "array"')
@@ -239,7 +254,8 @@ class Page(unittest.TestCase):
                 self.choose_example(name)
                 self.expect_verdict("Refused: walk: TooLarge" if "TooLarge" in name else "✗ Invalid")
         self.choose_example("A hostile pattern")
-        self.expect_verdict("✗ Invalid: 1 error (in less than 1 ms)")
+        self.expect_verdict("✗ Invalid: 1 error")
+        self.assertRegex(self.find("#time").text, r"^in (less than 1|\d{1,3}) ms$")
 
     def test_link(self):
         self.choose_example("One of two: anyOf, condensed")
@@ -327,8 +343,7 @@ class Page(unittest.TestCase):
                 "width": 340, "height": 800, "deviceScaleFactor": 1, "mobile": False})
             for panel in ("errors", "tree", "condensing", "output"):
                 self.open_panel(panel)
-                width = self.driver.execute_script("return document.scrollingElement.scrollWidth - innerWidth")
-                self.assertLessEqual(width, 0, panel)
+                self.assertEqual(self.driver.execute_script(WIDER), [], panel)
                 self.picture(f"narrow-{panel}")
         finally:
             self.driver.execute_cdp_cmd("Emulation.clearDeviceMetricsOverride", {})
@@ -347,7 +362,8 @@ class Page(unittest.TestCase):
             self.skipTest("the playground in one file: esbuild isn't installed")
         with tempfile.TemporaryDirectory() as folder:
             file = Path(folder, "playground.html")
-            subprocess.run([HOME / "tools" / "build-playground", "--module", GIVEN["module"], "--out", file], check=True)
+            build = HOME / "tools" / "build-playground"
+            subprocess.run([build, "--module", GIVEN["module"], "--out", file], check=True, stdout=subprocess.DEVNULL)
             self.open(file.as_uri())
             self.expect_verdict("✗ Invalid: 1 error")
             self.write("#instance-text", '{"name": "Ada"}')
@@ -361,6 +377,13 @@ class Page(unittest.TestCase):
             self.open(link)
             self.assertEqual(self.find("#instance-text").get_property("value"), '{"name": "Ada"}')
 
+
+# What goes beyond the right edge of the window, without what scrolls by itself.
+WIDER = """
+if (document.scrollingElement.scrollWidth <= innerWidth) return [];
+return Array.from(document.body.querySelectorAll("*")).filter((it) => it.getBoundingClientRect().right > innerWidth)
+  .map((it) => it.outerHTML.slice(0, 100));
+"""
 
 # The texts whose contrast with what is behind them is less than WCAG AA asks: each as text, colours and ratio.
 CONTRAST = """
@@ -385,9 +408,9 @@ const walker = document.createTreeWalker(document.body, NodeFilter.SHOW_TEXT);
 while (walker.nextNode()) {
   const holder = walker.currentNode.parentElement;
   const text = walker.currentNode.textContent.trim();
-  if (text === "" || !holder.checkVisibility() || holder.closest("noscript, option, datalist, button:disabled")) continue;
+  const isLeftOut = holder.closest("noscript, option, datalist, textarea, button:disabled");
+  if (text === "" || isLeftOut || !holder.checkVisibility()) continue;
   const [front, back] = [colour(getComputedStyle(holder).color), behind(holder)];
-  if (holder.tagName === "TEXTAREA") continue;
   const [dark, light] = [luminance(front), luminance(back)].sort((a, b) => a - b);
   const ratio = (light + 0.05) / (dark + 0.05);
   if (ratio < 4.5) faults.push([text.slice(0, 40), String(front), String(back), ratio]);

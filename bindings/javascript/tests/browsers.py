@@ -31,12 +31,12 @@ area.dispatchEvent(new Event("input"));
 # Milliseconds from a change of the instance until the frame that shows its verdict.
 KEY_PRESS = """
 const end = arguments[0];
-const area = document.querySelector("#instance-text"), verdict = document.querySelector("#verdict");
+const area = document.querySelector("#instance-text"), time = document.querySelector("#time");
 const begin = performance.now();
 new MutationObserver((_, observer) => {
   observer.disconnect();
   requestAnimationFrame(() => setTimeout(() => end(performance.now() - begin)));
-}).observe(verdict, { childList: true });
+}).observe(time, { childList: true });
 area.setRangeText(" ", 1, 1);
 area.dispatchEvent(new Event("input"));
 """

@@ -7,7 +7,7 @@ import { Checker } from "../../../docs/playground/checker.js";
 import { Checks, MOST_NODES } from "../../../docs/playground/checking.js";
 import { DROP, MERGE, REPLACE, after, normalForm, possibleSteps } from "../../../docs/playground/condensing.js";
 import { EXAMPLES, stateOfExample } from "../../../docs/playground/examples.js";
-import { indented } from "../../../docs/playground/output_panel.js";
+import { indented } from "../../../docs/playground/indenting.js";
 import { SchemaTexts, Values } from "../../../docs/playground/places.js";
 import { nodesOf, pruned, textOf, treeOf } from "../../../docs/playground/result_tree.js";
 import { fragmentOf, stateOf } from "../../../docs/playground/sharing.js";
@@ -131,7 +131,8 @@ test("the examples have the verdicts that the standard gives them", async () => 
 
 test("errors are underlined at the value and at the keyword", async () => {
   const documents = [
-    { uri: "https://example.com/a", text: '{"$ref": "b",\n "$defs": {"c": {"$id": "d/e",\n "items": {"type": "null"}}}}' },
+    { uri: "https://example.com/a",
+      text: '{"$ref": "b",\n "$defs": {"c": {"$id": "d/e",\n "items": {"type": "null"}}}}' },
     { uri: "https://example.com/b", text: '{"$id": "https://other.example/x",\n "propertyNames": {"maxLength": 1},' +
       '\n "additionalProperties": {"$ref": "https://example.com/d/e"}}' },
   ];
@@ -164,7 +165,8 @@ test("what is refused is underlined", async () => {
 
 test("a result that is too large for the page is judged, and not shown as a tree", async () => {
   const documents = [{ uri: "urn:x", text: '{"items": {"title": "t"}}' }];
-  const request = { documents, entry: "urn:x", instance: JSON.stringify(Array(MOST_NODES).fill(0)), wanted: ["verbose"] };
+  const instance = JSON.stringify(Array(MOST_NODES).fill(0));
+  const request = { documents, entry: "urn:x", instance, wanted: ["verbose"] };
   const { verdict, outputs } = await new Checks(module).answer(request);
   assert.deepEqual([verdict, outputs], ["valid", { verbose: undefined }]);
 });
@@ -217,7 +219,8 @@ test("of the requests that wait only the newest is asked, and a slow worker is e
 
 test("a link holds the whole state", async () => {
   for (const example of EXAMPLES) {
-    const state = { ...stateOfExample(example), panel: "output", format: "merged", isMerging: true, instance: "\u{1f600}" };
+    const changed = { panel: "output", format: "merged", isMerging: true, instance: "\u{1f600}" };
+    const state = { ...stateOfExample(example), ...changed };
     assert.deepEqual(await stateOf(await fragmentOf(state)), state);
   }
   assert.match(await fragmentOf(stateOfExample(EXAMPLES[0])), /^#1\.[\w-]+$/);
