@@ -6,12 +6,12 @@ import math
 from collections.abc import Iterator, Sequence
 from dataclasses import dataclass, field
 from typing import Any, NamedTuple, Optional
-from urllib.parse import unquote, urldefrag
+from urllib.parse import unquote
 
 from .dialects import dialect_of
 from .locations import LISTS, OBJECTS, steps
 from .sources import Source
-from .uris import document_of, joined
+from .uris import document_of, fragment_of, joined, without_fragment
 
 Tokens = tuple[str, ...]
 
@@ -65,7 +65,7 @@ def document(uri: str, source: Source) -> Document:
     value = json.loads(source.json, parse_constant=_no_constant)
     made = Document(uri, source, value, dialect_of(value))
     made.targets[document_of(uri)] = ()
-    _visit(made, value, (), urldefrag(uri).url)
+    _visit(made, value, (), without_fragment(uri))
     return made
 
 
@@ -73,7 +73,7 @@ def target(uri: str, documents: Sequence[Document]) -> Optional[Target]:
     """What the fragment of a URI names in the documents: by a JSON Pointer, it may be less than a schema."""
     resource = document_of(uri)
     try:
-        fragment = unquote(urldefrag(uri).fragment, errors="strict")
+        fragment = unquote(fragment_of(uri), errors="strict")
     except UnicodeDecodeError:
         return None
     for document in documents:
@@ -120,7 +120,7 @@ def _visit(document: Document, value: Any, tokens: Tokens, base: str) -> None:
             # (What is an anchor since 2019-09.)
             document.targets[document_of(base) + name] = tokens
         else:
-            base = urldefrag(joined(base, name)).url
+            base = without_fragment(joined(base, name))
             document.targets[document_of(base)] = tokens
     for keyword in ANCHORS:
         if isinstance(value.get(keyword), str):

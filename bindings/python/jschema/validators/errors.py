@@ -1,8 +1,10 @@
 """Errors with the members that those of pip's `jsonschema` have."""
 from __future__ import annotations
 
+import pprint
 import re
 from collections import deque
+from textwrap import indent
 from typing import Any, Optional, Union
 
 from ..errors import Refused, ValidationError
@@ -69,6 +71,13 @@ class DetailedError(ValidationError):
     def json_path(self) -> str:
         """The place of the value as a JSONPath (RFC 9535)."""
         return "$" + "".join(map(_segment, self._absolute_path))
+
+
+    def __str__(self) -> str:
+        schema, instance = (pprint.pformat(it, width=72, sort_dicts=False) for it in (self.schema, self.instance))
+        within = "".join(f"[{step!r}]" for step in [*self.schema_path][:-1])
+        return (f"{self.message}\n\nFailed validating {self.validator!r} in schema{within}:\n{indent(schema, '    ')}"
+                f"\n\nOn instance{''.join(f'[{step!r}]' for step in self.path)}:\n{indent(instance, '    ')}")
 
 
 class SchemaError(Refused):

@@ -23,6 +23,7 @@ _MESSAGES: dict[str, Callable[[Any, Any], str]] = {
     "maxProperties": lambda wanted, it: f"{it!r} {_too_many(wanted, 'has too many properties')}",
     "not": lambda wanted, it: f"{it!r} should not be valid under {wanted!r}",
     "anyOf": lambda wanted, it: f"{it!r} is not valid under any of the given schemas",
+    "oneOf": lambda wanted, it: f"{it!r} is not valid under any of the given schemas",
     "contains": lambda wanted, it: f"{it!r} does not contain items matching the given schema",
     "maxContains": lambda wanted, it: f"Too many items match the given schema (expected at most {wanted})",
 }
@@ -30,6 +31,9 @@ _MESSAGES: dict[str, Callable[[Any, Any], str]] = {
 
 def message(keyword: str, wanted: Any, instance: Any, said: str) -> str:
     """The message for a keyword with a value; for one that pip's has no words for, what the validator said."""
+    if keyword == "minContains":
+        matched = said.split(" ", 1)[0]
+        return f"Too few items match the given schema (expected at least {wanted} but only {matched} matched)"
     return _MESSAGES[keyword](wanted, instance) if keyword in _MESSAGES else said
 
 

@@ -3,12 +3,11 @@ from __future__ import annotations
 
 from collections.abc import Mapping
 from typing import Any, Optional
-from urllib.parse import urldefrag
 
 from ..errors import Refused
 from ..resources import Document, document
 from ..sources import JsonSource
-from ..uris import document_of, joined
+from ..uris import document_of, joined, without_fragment
 from ..values import text_of_value
 
 #: The base of a schema without an absolute `$id`, and of relative URIs in a registry.
@@ -29,9 +28,9 @@ def gathered(schema: Any, registry: Optional[Mapping[str, Any]]) -> list[Documen
                 wanted = joined(found.base, reference)
                 if registry is None or any(document_of(wanted) in other.targets for other in documents):
                     continue
-                contents = _contents(registry, urldefrag(wanted).url)
+                contents = _contents(registry, without_fragment(wanted))
                 if contents is not None:
-                    more = _document(urldefrag(wanted).url, contents)
+                    more = _document(without_fragment(wanted), contents)
                     # What was taken before, and is a part of this one, is left to it.
                     documents[1:] = [other for other in documents[1:] if document_of(other.uri) not in more.targets]
                     documents.append(more)
@@ -48,7 +47,7 @@ def _document(uri: str, value: Any) -> Document:
 
 def _own_uri(schema: Any) -> Optional[str]:
     name = schema.get("$id") if isinstance(schema, dict) else None
-    return joined(BASE, urldefrag(name).url) if isinstance(name, str) else None
+    return joined(BASE, without_fragment(name)) if isinstance(name, str) else None
 
 
 def _contents(registry: Mapping[str, Any], uri: str) -> Optional[Any]:

@@ -6,7 +6,7 @@ from __future__ import annotations
 
 from collections import deque
 from collections.abc import Iterator, Sequence
-from typing import Any, Optional
+from typing import Any, Callable, Optional
 
 from ..locations import schema_steps, steps
 from ..positions import Text
@@ -19,13 +19,15 @@ _EXTRAS = frozenset(("additionalProperties", "items", "unevaluatedItems", "uneva
 _REFERENCES = ("$dynamicRef", "$ref")
 
 Node = dict[str, Any]
+#: Whether a value is valid against the schema with a URI.
+Holds = Callable[[str, Any], bool]
 
 
 class Reading:
     """The errors of one instance."""
 
-    def __init__(self, documents: Sequence[Document], instance: Any, text: Text) -> None:
-        self._documents, self._instance, self._text = documents, instance, text
+    def __init__(self, documents: Sequence[Document], instance: Any, text: Text, holds: Holds) -> None:
+        self._documents, self._instance, self._text, self._holds = documents, instance, text, holds
 
     def errors(self, node: Node, parent: Optional[DetailedError] = None) -> Iterator[DetailedError]:
         """The errors of a node of the output, those below the ones with a message as their context."""
@@ -70,9 +72,10 @@ class Reading:
         self._set_keyword(error)
         if error.validator is None:
             error.message = messages.false_schema(error.instance)
-        elif error.validator == "oneOf":
-            error.message = self._several(error) if not node.get("errors") else messages.message(
-                "anyOf", None, error.instance, "")
+        elif error.validator == "oneOf" and not node.get("errors"):
+            held = [it for index, it in enumerate(error.validator_value)
+                    if self._holds(f"{error.absolute_keyword_location}/{index}", error.instance)]
+            error.message = messages.several(error.instance, [*held[1:], *held[:1]])
         else:
             error.message = messages.message(error.validator, error.validator_value, error.instance, error.message)
         for child in node.get("errors", ()):
@@ -96,16 +99,6 @@ class Reading:
             return
         error.validator, error.validator_value = error.keyword, value
         error.schema = _at(found.document.value, tokens[:-1]) if found is not None else None
-        if error.validator == "contains":
-            self._set_contains(error)
-
-    @staticmethod
-    def _set_contains(error: DetailedError) -> None:
-        """Pip's `jsonschema` names `minContains` where some items match, but too few."""
-
-    def _several(self, error: DetailedError) -> str:
-        """The message where more than one schema of `oneOf` holds."""
-        return error.message
 
     def _extras(self, child: Node, node: Optional[Node]) -> Optional[list[Node]]:
         """The nodes of the members or items that there may not be, of which a node is one; None if it is none."""

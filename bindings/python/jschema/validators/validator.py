@@ -59,7 +59,7 @@ class Validator:
         # (Most instances are valid, and need no tree.)
         if not self._schemas.is_valid(self._entry.uri, text):
             tree = parse(self._schemas.check(self._entry.uri, text, "detailed").text)
-            yield from Reading(self._documents, instance, Text(text, is_json=True)).errors(tree)
+            yield from Reading(self._documents, instance, Text(text, is_json=True), self._holds).errors(tree)
 
     def validate(self, instance: Any) -> None:
         """Raises the best error (see `best_match`) unless the instance is valid."""
@@ -70,6 +70,9 @@ class Validator:
     def evolve(self, schema: Any) -> Validator:
         """A validator for another schema with the same registry."""
         return Validator(schema, self._registry)
+
+    def _holds(self, uri: str, value: Any) -> bool:
+        return self._schemas.is_valid(uri, text_of_value(value))
 
     @property
     def _entry(self) -> Document:
