@@ -28,13 +28,6 @@ def bounded():
 
 
 class Inputs(Case):
-    def write(self, name, text, mode=0o644):
-        path = self.folder / name
-        path.parent.mkdir(parents=True, exist_ok=True)
-        path.write_text(text, "utf-8")
-        path.chmod(mode)
-        return name
-
     def ended(self, *words, given=None):
         """The status, standard output and standard error of a run that may not take much memory, nor read what nobody
         may read."""
