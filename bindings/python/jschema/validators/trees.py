@@ -72,10 +72,10 @@ class Reading:
         self._set_keyword(error)
         if error.validator is None:
             error.message = messages.false_schema(error.instance)
-        elif error.validator == "oneOf" and not node.get("errors"):
-            held = [it for index, it in enumerate(error.validator_value)
-                    if self._holds(f"{error.absolute_keyword_location}/{index}", error.instance)]
-            error.message = messages.several(error.instance, [*held[1:], *held[:1]])
+        elif error.validator == "oneOf" and (held := self._held(error)):
+            # (What the other subschemas say isn't why it fails. The first that holds is named last.)
+            error.message = messages.several(error.instance, [*held[1:], held[0]])
+            return error
         else:
             error.message = messages.message(error.validator, error.validator_value, error.instance, error.message)
         for child in node.get("errors", ()):
@@ -99,6 +99,11 @@ class Reading:
             return
         error.validator, error.validator_value = error.keyword, value
         error.schema = _at(found.document.value, tokens[:-1]) if found is not None else None
+
+    def _held(self, error: DetailedError) -> list[Any]:
+        """The subschemas of a `oneOf` that hold."""
+        return [it for index, it in enumerate(error.validator_value)
+                if self._holds(f"{error.absolute_keyword_location}/{index}", error.instance)]
 
     def _extras(self, child: Node, node: Optional[Node]) -> Optional[list[Node]]:
         """The nodes of the members or items that there may not be, of which a node is one; None if it is none."""
