@@ -4,7 +4,6 @@ from __future__ import annotations
 import json
 import math
 from collections.abc import Iterator, Sequence
-from dataclasses import dataclass, field
 from typing import Any, NamedTuple, Optional
 from urllib.parse import unquote
 
@@ -38,19 +37,17 @@ class Schema(NamedTuple):
                 yield keyword, reference
 
 
-@dataclass
 class Document:
     """A schema document under a URI."""
 
-    uri: str
-    source: Source
-    value: Any
-    dialect: int
-    schemas: list[Schema] = field(default_factory=list)
-    #: The tokens of every schema, also of those that are booleans.
-    places: set[Tokens] = field(default_factory=set)
-    #: The tokens of each resource by its URI (see `document_of`), and of each anchor by that with the fragment.
-    targets: dict[str, Tokens] = field(default_factory=dict)
+    def __init__(self, uri: str, source: Source, value: Any) -> None:
+        self.uri, self.source, self.value = uri, source, value
+        self.dialect = dialect_of(value)
+        self.schemas: list[Schema] = []
+        #: The tokens of every schema, also of those that are booleans.
+        self.places: set[Tokens] = set()
+        #: The tokens of each resource by its URI (see `document_of`), and of each anchor by that with the fragment.
+        self.targets: dict[str, Tokens] = {}
 
 
 class Target(NamedTuple):
@@ -63,7 +60,7 @@ class Target(NamedTuple):
 def document(uri: str, source: Source) -> Document:
     """The document of a text. Raises `ValueError` or `RecursionError` where it isn't JSON."""
     value = json.loads(source.json, parse_constant=_no_constant)
-    made = Document(uri, source, value, dialect_of(value))
+    made = Document(uri, source, value)
     made.targets[document_of(uri)] = ()
     _visit(made, value, (), without_fragment(uri))
     return made

@@ -3,12 +3,11 @@ from __future__ import annotations
 
 from collections.abc import Iterable, Iterator, Sequence
 from enum import IntEnum
-from typing import NamedTuple, Optional
+from typing import TYPE_CHECKING, NamedTuple, Optional
 
 from ..engine import Answer
 from ..errors import EngineError, Refused, ValidationError, best_first
 from ..extras import MissingLibrary
-from ..formats import Formats
 from ..positions import Position, Text
 from ..schemas import Schemas, errors_of
 from ..sources import JsonSource, Range
@@ -16,6 +15,10 @@ from .inputs import Input
 from .jobs import side_by_side
 from .places import Places
 from .problems import ERROR, FAILED, REFUSED, WARNING, WHOLE, Problem
+
+
+if TYPE_CHECKING:
+    from ..formats import Formats
 
 
 class Status(IntEnum):

@@ -1,7 +1,6 @@
 """Errors with the members that those of pip's `jsonschema` have."""
 from __future__ import annotations
 
-import pprint
 import re
 from collections import deque
 from textwrap import indent
@@ -74,6 +73,8 @@ class DetailedError(ValidationError):
 
 
     def __str__(self) -> str:
+        # (Imported where it is needed: it isn't quick.)
+        import pprint
         schema, instance = (pprint.pformat(it, width=72, sort_dicts=False) for it in (self.schema, self.instance))
         within = "".join(f"[{step!r}]" for step in [*self.schema_path][:-1])
         return (f"{self.message}\n\nFailed validating {self.validator!r} in schema{within}:\n{indent(schema, '    ')}"
