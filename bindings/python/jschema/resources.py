@@ -9,7 +9,7 @@ from urllib.parse import unquote
 
 from .dialects import dialect_of
 from .locations import LISTS, OBJECTS, steps
-from .sources import Source
+from .sources import JsonSource, Source
 from .uris import document_of, fragment_of, joined, without_fragment
 
 Tokens = tuple[str, ...]
@@ -59,7 +59,9 @@ class Target(NamedTuple):
 
 def document(uri: str, source: Source) -> Document:
     """The document of a text. Raises `ValueError` or `RecursionError` where it isn't JSON."""
-    value = json.loads(source.json, parse_constant=_no_constant)
+    value = json.loads(source.json.decode(), parse_constant=_no_constant)
+    if isinstance(source, JsonSource):
+        source.trust()
     made = Document(uri, source, value)
     made.targets[document_of(uri)] = ()
     _visit(made, value, (), without_fragment(uri))

@@ -14,6 +14,8 @@ FOUND = (
     ({"item": {}}, ("unknown-keyword", "warning", "is `items` meant?", "/item")),
     ({"additionalProperty": {}}, ("unknown-keyword", "note", "so it is an annotation", "/additionalProperty")),
     ({"discriminator": {}}, ("unknown-keyword", "note", "so it is an annotation", "/discriminator")),
+    ({"own": 1, "items": {"own": 1, "properties": {"own": {"own": 1}}}},
+     ("unknown-keyword", "note", "(here and 2 times more)", "/own")),
     ({"x-anything": 1, "properties": {"requierd": {}}, "default": {"requierd": 1}, "enum": [{"requierd": 1}]},),
     # These can't act.
     ({"additionalItems": False}, ("inactive-keyword", "warning", "use `items` beside `prefixItems`", "/additionalItems")),

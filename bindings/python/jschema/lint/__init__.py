@@ -11,11 +11,10 @@ from typing import Any, Optional
 from ..documents import Documents, texts_of
 from ..errors import Refused
 from ..limits import LARGEST_TEXT
+from ..meanings import explain
 from ..locations import pointer
-from ..positions import Position
-from ..scanner import NotJson, scan
 from ..schemas import Schemas
-from ..sources import Range, Source, Unreadable, read
+from ..sources import Source, Unreadable, read
 from . import bounds, keywords, numbers, patterns, references
 from ..resources import Document, document
 from .finding import ERROR, NOTE, RULES, WARNING, Finding, Found
@@ -48,17 +47,13 @@ def lint_documents(given: Sequence[Document], beside: Sequence[Document] = ()) -
     return [_findings(it, documents, refusals.get(index)) for index, it in enumerate(given)]
 
 
-def broken(source: Source) -> Optional[Finding]:
-    """That a text isn't JSON, and where; None if it is."""
-    try:
-        if len(source.json) <= LARGEST_TEXT:
-            scan(source.json)
-            return None
-    except NotJson as error:
-        at = source.at(error.offset)
-        return Finding("not-json", ERROR, Refused("document", "NotJson").meaning, "", Range(at, at))
-    start = Position(0, 1, 1)
-    return Finding("refused", ERROR, Refused("input", "InputTooLarge").meaning, "", Range(start, start))
+def broken(source: Source) -> Finding:
+    """That a text isn't JSON, and where; or that it is too large to be read."""
+    refused = Refused("input", "InputTooLarge")
+    if len(source.json) <= LARGEST_TEXT:
+        refused = Refused("document", "NotJson", "")
+        explain(refused, source.json, "")
+    return Finding("not-json", ERROR, refused.meaning, "", source.refusal(refused))
 
 
 def unreadable(refused: Unreadable) -> Finding:
@@ -78,7 +73,12 @@ def _document(uri: str, text: bytes, kind: str) -> Document | Finding:
         source, *more = read(text, kind)
     except Unreadable as refused:
         return unreadable(refused)
-    return (second_document(more[0]) if more else broken(source)) or document(uri, source)
+    if more:
+        return second_document(more[0])
+    try:
+        return document(uri, source)
+    except (ValueError, RecursionError):
+        return broken(source)
 
 
 def _judged(documents: Sequence[tuple[str, Any]]) -> Optional[Refused]:
