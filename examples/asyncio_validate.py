@@ -3,8 +3,8 @@
 
     examples/asyncio_validate.py --schema examples/person.schema.json --port 8000
 
-Each line that a client sends is an instance, and gets a line: the validator's output in the format flag, or why there is
-none. Checks run on threads (`asyncio.to_thread`), which share the schemas: Python's lock is released during a check.
+Each line that a client sends is an instance, and gets a line: the validator's output in the format flag, or why there
+is none. Checks run on threads (`asyncio.to_thread`), which share the schemas: Python's lock is released during a check.
 """
 import argparse
 import asyncio

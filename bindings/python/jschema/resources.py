@@ -15,8 +15,8 @@ from .uris import document_of, fragment_of, joined, without_fragment
 Tokens = tuple[str, ...]
 
 #: The keywords whose value is a schema. (`items` may be a list of them, `dependencies` an object, in older drafts.)
-SCHEMAS = frozenset({"additionalItems", "additionalProperties", "contains", "contentSchema", "else", "if", "items", "not",
-                     "propertyNames", "then", "unevaluatedItems", "unevaluatedProperties"})
+SCHEMAS = frozenset({"additionalItems", "additionalProperties", "contains", "contentSchema", "else", "if", "items",
+                     "not", "propertyNames", "then", "unevaluatedItems", "unevaluatedProperties"})
 DEFINITIONS = ("$defs", "definitions")
 REFERENCES = ("$ref", "$dynamicRef", "$recursiveRef")
 ANCHORS = ("$anchor", "$dynamicAnchor")

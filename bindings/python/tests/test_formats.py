@@ -13,7 +13,8 @@ from jschema.formats import CHECKS, Formats
 STRINGS = {
     "date": (None, ("2020-02-29", "0001-01-01"), ("2019-02-29", "2020-2-2", "20200202", "2020-02-02T", "２０２０-02-02")),
     "time": ("rfc3339_validator", ("23:59:59Z", "01:02:03.4+05:06"), ("24:00:00Z", "01:02:03", "1:2:3Z")),
-    "date-time": ("rfc3339_validator", ("2020-02-29T23:59:59Z", "2020-02-29t23:59:59z"), ("2020-02-29", "2019-02-29T00:00:00Z")),
+    "date-time": ("rfc3339_validator", ("2020-02-29T23:59:59Z", "2020-02-29t23:59:59z"),
+                  ("2020-02-29", "2019-02-29T00:00:00Z")),
     "email": (None, ("a@b.example",), ("a", "")),
     "hostname": ("fqdn", ("a.example", "localhost"), ("-a", "a_b", "", "a" * 64)),
     "ipv4": (None, ("127.0.0.1",), ("127.0.0", "256.0.0.1", "01.2.3.4", "1.2.3.4/8", "")),
@@ -74,8 +75,9 @@ class Commands(Case):
         out, _, _ = self.run_inside(*words, "--formats", "--format", "json")
         valid, invalid = json.loads(out)
         self.assertEqual((valid["valid"], valid["errors"], invalid["valid"]), (True, [], False))
-        self.assertEqual([(it["warning"], it["line"], it["column"], it["schema"]["column"]) for it in valid["warnings"]],
-                         [("breaks the format date", 1, 7, 23)])
+        [warning] = valid["warnings"]
+        self.assertEqual((warning["warning"], warning["line"], warning["column"], warning["schema"]["column"]),
+                         ("breaks the format date", 1, 7, 23))
         self.assertNotIn("warnings", invalid)
         out, said, _ = self.run_inside(*words[:3], "--formats")
         self.assertIn("warning[format]: breaks the format date\n --> f.json:1:7\n", said)

@@ -31,7 +31,8 @@ class Inputs(Case):
     def ended(self, *words, given=None):
         """The status, standard output and standard error of a run that may not take much memory, nor read what nobody
         may read."""
-        done = subprocess.run([sys.executable, "-m", "jschema", "validate", "--format", "short", *words], cwd=self.folder, check=False,
+        command = [sys.executable, "-m", "jschema", "validate", "--format", "short"]
+        done = subprocess.run([*command, *words], cwd=self.folder, check=False,
                               stdin=given or subprocess.DEVNULL, stdout=subprocess.PIPE, stderr=subprocess.PIPE,
                               timeout=60, preexec_fn=bounded)
         return done.returncode, done.stdout.decode(), done.stderr.decode()

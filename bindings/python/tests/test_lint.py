@@ -18,7 +18,8 @@ FOUND = (
      ("unknown-keyword", "note", "(here and 2 times more)", "/own")),
     ({"x-anything": 1, "properties": {"requierd": {}}, "default": {"requierd": 1}, "enum": [{"requierd": 1}]},),
     # These can't act.
-    ({"additionalItems": False}, ("inactive-keyword", "warning", "use `items` beside `prefixItems`", "/additionalItems")),
+    ({"additionalItems": False},
+     ("inactive-keyword", "warning", "use `items` beside `prefixItems`", "/additionalItems")),
     ({"dependencies": {}}, ("inactive-keyword", "warning", "use `dependentRequired`", "/dependencies")),
     ({"then": True}, ("inactive-keyword", "warning", "without `if`", "/then")),
     ({"if": True}, ("inactive-keyword", "warning", "without `then` or `else`", "/if")),
@@ -42,7 +43,8 @@ FOUND = (
     # These lead nowhere.
     ({"$ref": "#/$defs/a"}, ("unresolved-reference", "error", "no schema has the URI", "/$ref")),
     ({"$ref": "#/properties"}, ("unresolved-reference", "error", "no schema has the URI", "/$ref")),
-    ({"$ref": "other"}, ("unresolved-reference", "error", "no document has the URI https://example.com/other", "/$ref")),
+    ({"$ref": "other"},
+     ("unresolved-reference", "error", "no document has the URI https://example.com/other", "/$ref")),
     ({"items": {"$id": "a/b", "$ref": "c"}},
      ("unresolved-reference", "error", "no document has the URI https://example.com/a/c", "/items/$ref")),
     ({"$dynamicRef": "#none"}, ("unresolved-reference", "error", "no schema has the URI", "/$dynamicRef")),
@@ -160,16 +162,15 @@ class Commands(Case):
         for text, status in (("{}", 0), ('{"format": "date"}', 0), ('{"then": {}}', 1), ('{"type": 1}', 3), ("{", 3)):
             self.write("status.json", text)
             self.assertEqual(self.run_inside("lint", "--format", "short", "status.json")[2], status)
-        self.assertEqual(self.run_inside("lint", "nowhere.json")[1:],
-                         ("failed: nowhere.json: No such file or directory\n\n0 errors, 0 warnings, 0 notes, 1 failed\n",
-                          4))
+        said = "failed: nowhere.json: No such file or directory\n\n0 errors, 0 warnings, 0 notes, 1 failed\n"
+        self.assertEqual(self.run_inside("lint", "nowhere.json"), ("", said, 4))
 
     def test_formats(self):
         self.write("f.json", '{"then": {}}')
-        short = "f.json:1:2: warning: `then` can't act without `if` (/then; inactive-keyword)\n"
-        self.assertEqual(self.run_inside("lint", "--format", "short", "f.json")[0], short)
+        problem = "`then` can't act without `if` (/then; inactive-keyword)\n"
+        self.assertEqual(self.run_inside("lint", "--format", "short", "f.json")[0], f"f.json:1:2: warning: {problem}")
         self.assertEqual(self.run_inside("lint", "--format", "github", "f.json")[0],
-                         "::warning file=f.json,line=1,col=2::`then` can't act without `if` (/then; inactive-keyword)\n")
+                         f"::warning file=f.json,line=1,col=2::{problem}")
         [shown] = json.loads(self.run_inside("lint", "--format", "json", "f.json")[0])
         self.assertEqual(shown, {"file": "f.json", "findings": [{
             "rule": "inactive-keyword", "severity": "warning", "line": 1, "column": 2, "endLine": 1, "endColumn": 8,

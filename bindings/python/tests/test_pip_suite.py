@@ -1,5 +1,5 @@
-"""The tests of pip's `jsonschema` that speak of draft 2020-12, on our validator: each passes, or is listed with a reason
-and fails."""
+"""The tests of pip's `jsonschema` that speak of draft 2020-12, on our validator: each passes, or is listed with a
+reason and fails."""
 import importlib
 import types
 import unittest

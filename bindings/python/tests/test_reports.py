@@ -71,7 +71,8 @@ failed: none.json: No such file or directory
         """Lines are those of the file, and what is underlined is what stands there."""
         self.write("rows.jsonl", '\n{"name": "A"}\n{"name": "A", "age": -1}\n')
         out = self.run_inside("validate", "--lines", "schema.json", "rows.jsonl")[0]
-        self.assertIn('\n --> rows.jsonl:3:22\n  |\n3 | {"name": "A", "age": -1}\n  |                      ^^ /age\n', out)
+        self.assertIn('\n --> rows.jsonl:3:22\n  |\n3 | {"name": "A", "age": -1}\n'
+                      '  |                      ^^ /age\n', out)
         self.write("rows.yaml", "name: A\n---\nname: B\nfriends:\n- age: 1\n  é: 1\n")
         try:
             out = self.run_inside("validate", "schema.json", "rows.yaml")[0]

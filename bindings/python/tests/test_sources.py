@@ -40,13 +40,15 @@ VALUES = (
 )
 # Texts of YAML that are refused, a part of why, and the line and column.
 REFUSED = (
-    ("a: 010", "octal", 1, 4), ("a: 0o17", "octal", 1, 4), ("-07", "octal", 1, 1), ("a: 09", "begins with a zero", 1, 4),
+    ("a: 010", "octal", 1, 4), ("a: 0o17", "octal", 1, 4), ("-07", "octal", 1, 1),
+    ("a: 09", "begins with a zero", 1, 4),
     ("a: .inf", "no number", 1, 4), ("-.INF", "no number", 1, 1), (".nan", "no number", 1, 1),
     ("<<: {a: 1}", "merge", 1, 1), ("a: 1\n b: 2", "", 2, 3), ("a: 1\nb: 2\na: 3", "twice", 3, 1),
     ("a: !foo 1", "tag !foo", 1, 4), ("!!timestamp 2020-01-01", "tag timestamp", 1, 1), ("!!set {a}", "tag set", 1, 1),
     ("!!int x", "no int", 1, 1), ("!!bool 1", "no bool", 1, 1), ("é: *x", "no anchor", 1, 4),
     ("a: &x [*x]", "hold itself", 1, 8), ("[1, 2", "", 1, 6), ("", "no document", 1, 1), ("# c\n", "no document", 1, 1),
-    ("? [1]\n: 2", "a string", 1, 3), ("a: &x k\nb: {*x : 1}", "a string", 2, 5), ("~: 1", "a string", 1, 1), ("!!int 1: 2", "a string", 1, 1),
+    ("? [1]\n: 2", "a string", 1, 3), ("a: &x k\nb: {*x : 1}", "a string", 2, 5), ("~: 1", "a string", 1, 1),
+    ("!!int 1: 2", "a string", 1, 1),
     ("[" * 128, "deeper than 127", 1, 128), ("- " * 128, "deeper than 127", 1, 255),
 )
 

@@ -53,7 +53,8 @@ class Calls(unittest.TestCase):
 
     def test_schema_errors(self):
         for schema, kind, path in (({"type": 1}, "BadKeyword", ["type"]), ({"items": [{}]}, "NotASchema", ["items"]),
-                                   ({"pattern": "("}, "BadPattern", ["pattern"]), ({"minimum": 1.5}, "NotWhole", ["minimum"]),
+                                   ({"pattern": "("}, "BadPattern", ["pattern"]),
+                                   ({"minimum": 1.5}, "NotWhole", ["minimum"]),
                                    ({"$ref": "#/none"}, "Unresolved", ["$ref"])):
             with self.subTest(schema), self.assertRaises(jschema.SchemaError) as raised:
                 jschema.validator_for(schema)
@@ -77,7 +78,8 @@ class Calls(unittest.TestCase):
 class Errors(unittest.TestCase):
     def test_each_missing_member(self):
         found = errors(PERSON, {})
-        self.assertEqual([it.message for it in found], ["'name' is a required property", "'age' is a required property"])
+        self.assertEqual([it.message for it in found],
+                         ["'name' is a required property", "'age' is a required property"])
         self.assertEqual({it.validator for it in found}, {"required"})
         found = errors({"dependentRequired": {"a": ["b", "c"], "d": ["e"]}}, {"a": 1, "b": 1})
         self.assertEqual([it.message for it in found], ["'c' is a dependency of 'a'"])

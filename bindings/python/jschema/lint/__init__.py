@@ -11,12 +11,12 @@ from typing import Any, Optional
 from ..documents import Documents, texts_of
 from ..errors import Refused
 from ..limits import LARGEST_TEXT
-from ..meanings import explain
 from ..locations import pointer
+from ..meanings import explain
+from ..resources import Document, document
 from ..schemas import Schemas
 from ..sources import Source, Unreadable, read
 from . import bounds, keywords, numbers, patterns, references
-from ..resources import Document, document
 from .finding import ERROR, NOTE, RULES, WARNING, Finding, Found
 
 __all__ = ["ERROR", "NOTE", "RULES", "WARNING", "Finding", "broken", "lint", "lint_all", "lint_documents",
@@ -33,7 +33,7 @@ def lint(text: bytes, uri: str, *, kind: str = "json", others: Documents = ()) -
 
 
 def lint_all(texts: Sequence[tuple[str, bytes, str]], others: Documents = ()) -> list[list[Finding]]:
-    """The same of each of several documents, which may refer to one another. Of each the URI, text and kind are given."""
+    """The same of several documents, which may refer to one another. Of each the URI, text and kind are given."""
     made = [_document(uri, text, kind) for uri, text, kind in texts]
     beside = [it for it in (_document(uri, text, "json") for uri, text in texts_of(others)) if isinstance(it, Document)]
     found = iter(lint_documents([it for it in made if isinstance(it, Document)], beside))
@@ -91,8 +91,8 @@ def _judged(documents: Sequence[tuple[str, Any]]) -> Optional[Refused]:
 
 
 def _refusals(documents: Sequence[Document]) -> dict[int, Refused]:
-    """The first refusal of each document that the validator refuses. It names one document, so it is asked again without
-    that."""
+    """The first refusal of each document that the validator refuses. It names one document, so it is asked again
+    without that."""
     refusals: dict[int, Refused] = {}
     while left := [(index, it) for index, it in enumerate(documents) if index not in refusals]:
         refused = _judged([(it.uri, it.source.json) for _, it in left])

@@ -14,7 +14,8 @@ from .finding import NOTE, WARNING, Found
 _OWN = "x-"
 
 _TYPES: dict[str, tuple[str, ...]] = {
-    **dict.fromkeys(("minimum", "maximum", "exclusiveMinimum", "exclusiveMaximum", "multipleOf"), ("integer", "number")),
+    **dict.fromkeys(("minimum", "maximum", "exclusiveMinimum", "exclusiveMaximum", "multipleOf"),
+                    ("integer", "number")),
     **dict.fromkeys(("minLength", "maxLength", "pattern", "contentEncoding", "contentMediaType"), ("string",)),
     **dict.fromkeys(("items", "prefixItems", "contains", "minContains", "maxContains", "minItems", "maxItems",
                      "uniqueItems", "unevaluatedItems"), ("array",)),
