@@ -14,9 +14,17 @@ import zipfile
 from pathlib import Path
 
 HOME = Path(__file__).resolve().parent
-# (Python 3.9 has no reader of TOML.)
-SECTION = (HOME / "pyproject.toml").read_text("utf-8").split("[project]")[1]
-PROJECT = dict(re.findall(r'^([\w-]+) = "(.*)"$', SECTION, re.M))
+
+
+def section(name):
+    """The lines of a section of pyproject.toml. (Python 3.9 has no reader of TOML.)"""
+    return (HOME / "pyproject.toml").read_text("utf-8").partition(f"[{name}]\n")[2].partition("\n[")[0]
+
+
+PROJECT = dict(re.findall(r'^([\w-]+) = "(.*)"$', section("project"), re.M))
+SCRIPTS = re.findall(r'^([\w-]+) = "(.*)"$', section("project.scripts"), re.M)
+EXTRAS = [(extra, re.findall('"([^"]+)"', needed))
+          for extra, needed in re.findall(r"^([\w-]+) = \[(.*)\]$", section("project.optional-dependencies"), re.M)]
 STEM = f"{PROJECT['name']}-{PROJECT['version']}"
 LIBRARY = HOME.parents[1] / "out" / "lib" / "libjschema.so.0"
 
@@ -43,6 +51,7 @@ def build_editable(wheel_directory, config_settings=None, metadata_directory=Non
 def write_wheel(wheel_directory, files, platform):
     """Writes a wheel of files, and returns its name."""
     files[f"{STEM}.dist-info/METADATA"] = metadata().encode()
+    files[f"{STEM}.dist-info/entry_points.txt"] = scripts().encode()
     files[f"{STEM}.dist-info/WHEEL"] = about_wheel(f"py3-none-{platform}", platform == "any").encode()
     files[f"{STEM}.dist-info/RECORD"] = record(files).encode()
     name = f"{STEM}-py3-none-{platform}.whl"
@@ -77,9 +86,26 @@ def about_wheel(tag, is_pure):
 def metadata():
     """The core metadata, with the README as the description."""
     readme = (HOME / PROJECT["readme"]).read_text("utf-8")
+    extras = "".join(f"Provides-Extra: {extra}\n{''.join(map(requirement(extra), needed))}" for extra, needed in EXTRAS)
     return (f"Metadata-Version: 2.1\nName: {PROJECT['name']}\nVersion: {PROJECT['version']}\n"
-            f"Summary: {PROJECT['description']}\nRequires-Python: {PROJECT['requires-python']}\n"
+            f"Summary: {PROJECT['description']}\nRequires-Python: {PROJECT['requires-python']}\n{extras}"
             f"Description-Content-Type: text/markdown\n\n{readme}")
+
+
+def requirement(extra):
+    """How the metadata name a library that an extra needs."""
+    def line(needed):
+        name, _, marker = needed.partition(";")
+        condition = f"({marker.strip()}) and " if marker else ""
+        return f'Requires-Dist: {name} ; {condition}extra == "{extra}"\n'
+
+    return line
+
+
+def scripts():
+    """The entry points: the commands that an installation puts on the PATH."""
+    lines = "".join(f"{name} = {call}\n" for name, call in SCRIPTS)
+    return f"[console_scripts]\n{lines}"
 
 
 def record(files):

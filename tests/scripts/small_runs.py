@@ -38,6 +38,7 @@ RUN_BY = {
         Small("benchmarks/instructions {folder}/measured --only events --program {program}", ("valgrind", "time")),
     "benchmarks/calls --write":
         Small("benchmarks/calls --only '11 bytes' --each 0.01 --program {program}", (LIBRARY, "cc")),
+    "benchmarks/command --write": Small("benchmarks/command --files 3 --rounds 1 --only files", (LIBRARY,)),
     "benchmarks/page": Small("benchmarks/page --rounds 1", (MODULE, "chromium", "chromedriver")),
     "benchmarks/compare/cases /tmp/cases": Small("benchmarks/compare/cases {folder}/compared"),
     "benchmarks/compare/run /tmp/cases --write":

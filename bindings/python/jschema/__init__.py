@@ -6,11 +6,14 @@
 """
 from .engine import FORMATS, Answer, Engine
 from .errors import EngineError, EngineNotFound, Refused, ValidationError, best_first
+from .interface import VERSION as __version__
 from .library import LibraryEngine
 from .positions import Position, Text
 from .program import ProgramEngine
 from .scanner import NotJson
 from .schemas import Schemas
+from .validators import DetailedError, SchemaError, Validator, best_match, validate, validator_for
 
-__all__ = ["FORMATS", "Answer", "Engine", "EngineError", "EngineNotFound", "LibraryEngine", "NotJson", "Position",
-           "ProgramEngine", "Refused", "Schemas", "Text", "ValidationError", "best_first"]
+__all__ = ["FORMATS", "Answer", "DetailedError", "Engine", "EngineError", "EngineNotFound", "LibraryEngine", "NotJson",
+           "Position", "ProgramEngine", "Refused", "SchemaError", "Schemas", "Text", "ValidationError", "Validator",
+           "__version__", "best_first", "best_match", "validate", "validator_for"]

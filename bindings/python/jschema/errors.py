@@ -1,6 +1,7 @@
 """The exceptions: an invalid instance, a refused input, a failing engine."""
 from __future__ import annotations
 
+from collections.abc import Sequence
 from typing import Optional
 
 from .interface import MEANINGS
@@ -25,12 +26,12 @@ class ValidationError(Exception):
         self.text = text
 
     @property
-    def path(self) -> list[str | int]:
+    def path(self) -> Sequence[str | int]:
         """The instance location as member names and indices. pip's `jsonschema` calls it so too."""
         return self.text.path(self.instance_location)
 
     @property
-    def schema_path(self) -> list[str | int]:
+    def schema_path(self) -> Sequence[str | int]:
         """The keyword location as names and indices."""
         return [step.token for step in schema_steps(self.keyword_location)]
 

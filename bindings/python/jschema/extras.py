@@ -5,8 +5,8 @@ import importlib
 from typing import Any
 
 #: The extra of pyproject.toml that installs a library, by the library's module.
-EXTRAS = {"yaml": "yaml", "tomli": "toml", "referencing": "pip", "fqdn": "formats", "idna": "formats",
-          "isoduration": "formats", "jsonpointer": "formats", "rfc3339_validator": "formats", "rfc3987": "formats"}
+EXTRAS = {"yaml": "yaml", "tomli": "toml", "fqdn": "formats", "isoduration": "formats",
+          "rfc3339_validator": "formats", "rfc3987": "formats"}
 _PACKAGES = {"yaml": "PyYAML"}
 
 

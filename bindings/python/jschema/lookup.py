@@ -193,8 +193,8 @@ def _paths_beside(path: str, document: Document, schema: Schema, reference: str)
     if schema.base != root and urlsplit(schema.base)[:2] == urlsplit(root)[:2]:
         away = posixpath.relpath(posixpath.dirname(path_of(schema.base)) or "/",
                                  posixpath.dirname(path_of(root)) or "/")
-        yield os.path.join(folder, unquote(away), below)
-    yield os.path.join(folder, below)
+        yield os.path.normpath(os.path.join(folder, unquote(away), below))
+    yield os.path.normpath(os.path.join(folder, below))
 
 
 def _is_regular(path: str) -> bool:

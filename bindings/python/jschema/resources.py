@@ -4,20 +4,19 @@ from __future__ import annotations
 import json
 import math
 from collections.abc import Iterator, Sequence
-from dataclasses import dataclass, field
 from typing import Any, NamedTuple, Optional
-from urllib.parse import unquote, urldefrag
+from urllib.parse import unquote
 
 from .dialects import dialect_of
 from .locations import LISTS, OBJECTS, steps
-from .sources import Source
-from .uris import document_of, joined
+from .sources import JsonSource, Source
+from .uris import document_of, fragment_of, joined, without_fragment
 
 Tokens = tuple[str, ...]
 
 #: The keywords whose value is a schema. (`items` may be a list of them, `dependencies` an object, in older drafts.)
-SCHEMAS = frozenset({"additionalItems", "additionalProperties", "contains", "contentSchema", "else", "if", "items", "not",
-                     "propertyNames", "then", "unevaluatedItems", "unevaluatedProperties"})
+SCHEMAS = frozenset({"additionalItems", "additionalProperties", "contains", "contentSchema", "else", "if", "items",
+                     "not", "propertyNames", "then", "unevaluatedItems", "unevaluatedProperties"})
 DEFINITIONS = ("$defs", "definitions")
 REFERENCES = ("$ref", "$dynamicRef", "$recursiveRef")
 ANCHORS = ("$anchor", "$dynamicAnchor")
@@ -38,19 +37,17 @@ class Schema(NamedTuple):
                 yield keyword, reference
 
 
-@dataclass
 class Document:
     """A schema document under a URI."""
 
-    uri: str
-    source: Source
-    value: Any
-    dialect: int
-    schemas: list[Schema] = field(default_factory=list)
-    #: The tokens of every schema, also of those that are booleans.
-    places: set[Tokens] = field(default_factory=set)
-    #: The tokens of each resource by its URI (see `document_of`), and of each anchor by that with the fragment.
-    targets: dict[str, Tokens] = field(default_factory=dict)
+    def __init__(self, uri: str, source: Source, value: Any) -> None:
+        self.uri, self.source, self.value = uri, source, value
+        self.dialect = dialect_of(value)
+        self.schemas: list[Schema] = []
+        #: The tokens of every schema, also of those that are booleans.
+        self.places: set[Tokens] = set()
+        #: The tokens of each resource by its URI (see `document_of`), and of each anchor by that with the fragment.
+        self.targets: dict[str, Tokens] = {}
 
 
 class Target(NamedTuple):
@@ -62,10 +59,12 @@ class Target(NamedTuple):
 
 def document(uri: str, source: Source) -> Document:
     """The document of a text. Raises `ValueError` or `RecursionError` where it isn't JSON."""
-    value = json.loads(source.json, parse_constant=_no_constant)
-    made = Document(uri, source, value, dialect_of(value))
+    value = json.loads(source.json.decode(), parse_constant=_no_constant)
+    if isinstance(source, JsonSource):
+        source.trust()
+    made = Document(uri, source, value)
     made.targets[document_of(uri)] = ()
-    _visit(made, value, (), urldefrag(uri).url)
+    _visit(made, value, (), without_fragment(uri))
     return made
 
 
@@ -73,7 +72,7 @@ def target(uri: str, documents: Sequence[Document]) -> Optional[Target]:
     """What the fragment of a URI names in the documents: by a JSON Pointer, it may be less than a schema."""
     resource = document_of(uri)
     try:
-        fragment = unquote(urldefrag(uri).fragment, errors="strict")
+        fragment = unquote(fragment_of(uri), errors="strict")
     except UnicodeDecodeError:
         return None
     for document in documents:
@@ -120,7 +119,7 @@ def _visit(document: Document, value: Any, tokens: Tokens, base: str) -> None:
             # (What is an anchor since 2019-09.)
             document.targets[document_of(base) + name] = tokens
         else:
-            base = urldefrag(joined(base, name)).url
+            base = without_fragment(joined(base, name))
             document.targets[document_of(base)] = tokens
     for keyword in ANCHORS:
         if isinstance(value.get(keyword), str):

@@ -3,7 +3,7 @@ from __future__ import annotations
 
 import re
 from typing import Optional
-from urllib.parse import quote, urldefrag
+from urllib.parse import quote
 
 # The scheme, the authority, the path, the query with its `?`, and the fragment with its `#`.
 _Parts = tuple[Optional[str], Optional[str], str, Optional[str], Optional[str]]
@@ -39,9 +39,19 @@ def path_of(reference: str) -> str:
     return _parts(reference)[2]
 
 
+def without_fragment(uri: str) -> str:
+    """A URI without its fragment."""
+    return uri.partition("#")[0]
+
+
+def fragment_of(uri: str) -> str:
+    """The fragment of a URI, without the `#`."""
+    return uri.partition("#")[2]
+
+
 def document_of(uri: str) -> str:
     """A URI without its fragment, in the form in which the validator writes it, so that two can be compared."""
-    scheme, authority, path, query, _ = _parts(urldefrag(uri).url)
+    scheme, authority, path, query, _ = _parts(without_fragment(uri))
     if scheme is not None and scheme.lower() in ("http", "https", "ws", "wss", "ftp") and not path:
         path = "/"
     return _made(scheme and scheme.lower(), authority and authority.lower(), _quoted(path),

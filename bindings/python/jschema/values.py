@@ -36,6 +36,13 @@ def text_of(instance: Instance) -> bytes:
     return _encoded(_written(instance))
 
 
+def text_of_value(value: Any) -> bytes:
+    """The JSON text of a value, also of a str: it is a string here. Raises the same."""
+    if isinstance(value, (bytes, bytearray, memoryview)):
+        raise TypeError(f"JSON has no {type(value).__name__}: look at the root")
+    return _encoded(_written(value)) if isinstance(value, str) else text_of(value)
+
+
 def _encoded(text: str) -> bytes:
     try:
         return text.encode()

@@ -1,10 +1,14 @@
 """The files that the tests of the command validate, and how they run it."""
+import io
 import os
 import subprocess
 import sys
 import tempfile
 import unittest
 from pathlib import Path
+from unittest import mock
+
+from jschema import command
 
 SCHEMA = """{
   "$id": "https://example.com/person",
@@ -54,6 +58,26 @@ class Case(unittest.TestCase):
         done = subprocess.run([sys.executable, "-m", "jschema", *words], input=given, cwd=self.folder, check=False,
                               stdout=subprocess.PIPE, stderr=subprocess.PIPE, encoding="utf-8")
         return done.stdout, done.stderr, done.returncode
+
+    def run_inside(self, *words):
+        """The same, in this process: without standard input, and sooner."""
+        out, said = (io.TextIOWrapper(io.BytesIO(), "utf-8", write_through=True) for _ in range(2))
+        before = os.getcwd()
+        os.chdir(self.folder)
+        try:
+            with mock.patch.multiple(sys, stdout=out, stderr=said):
+                status = int(command.main([*words]))
+        finally:
+            os.chdir(before)
+        return out.buffer.getvalue().decode(), said.buffer.getvalue().decode(), status
+
+    def write(self, name, text, mode=0o644):
+        """Makes a file, and returns its name."""
+        path = self.folder / name
+        path.parent.mkdir(parents=True, exist_ok=True)
+        path.write_text(text, "utf-8")
+        path.chmod(mode)
+        return name
 
     def judge(self, words, out, said, status, given="", schema="schema.json"):
         """What a validation writes: all of standard output, and all of standard error. It is in the format `short`

@@ -8,17 +8,25 @@ import sys
 from commands import AGE, NAME, SOME, TWO_LINES, Case
 
 MISUSES = (
-    ([], "name the command: validate\n"),
-    (["check"], "no command 'check': the only one is validate\n"),
-    (["validate", "two.json"], "the following arguments are required: --schema\n"),
+    ([], "name the command: validate or lint\n"),
+    (["check"], "no command 'check': there are validate and lint\n"),
+    (["validate"], "the following arguments are required: SCHEMA and INSTANCE\n"),
+    (["validate", "schema.json"], "the following arguments are required: INSTANCE\n"),
     (SOME, "the following arguments are required: INSTANCE\n"),
+    (["lint"], "the following arguments are required: SCHEMA\n"),
     ([*SOME, "--format", "xml", "two.json"], "argument --format: invalid choice: 'xml' (choose from "),
+    (["lint", "--format", "basic", "schema.json"], "argument --format: invalid choice: 'basic' (choose from "),
+    ([*SOME, "--input", "xml", "two.json"], "argument --input: invalid choice: 'xml' (choose from "),
+    ([*SOME, "--lines", "--input", "yaml", "two.json"], "--lines is for JSON: no line of yaml is a document\n"),
     ([*SOME, "--jobs", "0", "two.json"], "argument --jobs: '0' isn't a number from 1 to 256\n"),
     (["validate", "--schema", "data", "two.json"], "data is a folder: name the file of one schema"),
+    (["validate", "data", "two.json"], "data is a folder: name the file of one schema"),
     (["validate", "--schema", "https://example.com/s.json", "two.json"], "nothing is fetched: save "),
-    ([*SOME, "empty"], "empty has no file .json: name its files one by one\n"),
+    ([*SOME, "empty"], "empty has no file .json, .jsonc, .yaml, .yml or .toml: name its files one by one\n"),
+    ([*SOME, "--input", "toml", "empty"], "empty has no file .toml: name its files one by one\n"),
     ([*SOME, "--schema", "other.json", "two.json"], "--schema is given 2 times: it names one file"),
     ([*SOME, ""], "an INSTANCE has an empty name"),
+    (["lint", ""], "a SCHEMA has an empty name"),
     (["validate", "--schema", "", "two.json"], "--schema has an empty name"),
     ([*SOME, "--ref", "urn:x=", "two.json"], "--ref has an empty name"),
     ([*SOME, "--ref", "urn:\udcff=string.json", "two.json"], "the URI 'urn:\\udcff' isn't UTF-8"),
@@ -135,7 +143,7 @@ class Refusals(Case):
 import sys
 from unittest import mock
 from jschema import command
-with mock.patch.object(command, "results", side_effect={error}):
+with mock.patch.object(command, "validate", side_effect={error}):
     sys.exit(command.main(sys.argv[1:]))
 """
                 done = subprocess.run([sys.executable, "-c", code, *SOME, "two.json"], cwd=self.folder, check=False,
@@ -178,8 +186,9 @@ class Formats(Case):
         self.assertEqual(json.loads(out), [
             {"file": "data/ada.json", "line": 1, "valid": True, "errors": []},
             {"file": "data/sub/bob.json", "line": 1, "valid": False, "errors": [
-                {"line": 2, "column": 2, "error": "type is integer", "instanceLocation": "/name",
-                 "keywordLocation": "/properties/name/type", "absoluteKeywordLocation": NAME}]},
+                {"line": 2, "column": 2, "endLine": 2, "endColumn": 3, "error": "type is integer",
+                 "instanceLocation": "/name", "keywordLocation": "/properties/name/type",
+                 "absoluteKeywordLocation": NAME, "schema": {"file": "schema.json", "line": 4, "column": 27}}]},
             {"file": "half.json", "line": 1, "valid": None,
              "refused": {"line": 2, "column": 9, "subject": "instance", "kind": "NotWhole", "place": "/age",
                          "message": "a number with a fraction, an exponent or a minus before zero, or beyond 64 bits"}},
@@ -213,7 +222,7 @@ class Misuse(Case):
 
     def test_example_in_the_message(self):
         _, errors, _ = self.run_command("validate", "two.json")
-        self.assertIn("\nfor example: python -m jschema validate --schema person.schema.json ada.json\n", errors)
+        self.assertIn("\nfor example: python -m jschema validate person.schema.json ada.json\n", errors)
 
 
 class Terminal(Case):
@@ -221,7 +230,7 @@ class Terminal(Case):
         """What a terminal gets of both streams."""
         ours, theirs = pty.openpty()
         environment = {name: it for name, it in {**os.environ, **environment}.items() if it}
-        with subprocess.Popen([sys.executable, "-m", "jschema", "validate", "--schema", "schema.json", *words],
+        with subprocess.Popen([sys.executable, "-m", "jschema", *SOME, *words],
                               cwd=self.folder, stdin=subprocess.DEVNULL, stdout=theirs, stderr=theirs, env=environment):
             os.close(theirs)
             found = b""

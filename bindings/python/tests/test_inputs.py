@@ -28,17 +28,11 @@ def bounded():
 
 
 class Inputs(Case):
-    def write(self, name, text, mode=0o644):
-        path = self.folder / name
-        path.parent.mkdir(parents=True, exist_ok=True)
-        path.write_text(text, "utf-8")
-        path.chmod(mode)
-        return name
-
     def ended(self, *words, given=None):
         """The status, standard output and standard error of a run that may not take much memory, nor read what nobody
         may read."""
-        done = subprocess.run([sys.executable, "-m", "jschema", "validate", *words], cwd=self.folder, check=False,
+        command = [sys.executable, "-m", "jschema", "validate", "--format", "short"]
+        done = subprocess.run([*command, *words], cwd=self.folder, check=False,
                               stdin=given or subprocess.DEVNULL, stdout=subprocess.PIPE, stderr=subprocess.PIPE,
                               timeout=60, preexec_fn=bounded)
         return done.returncode, done.stdout.decode(), done.stderr.decode()
@@ -126,7 +120,7 @@ class Paths(Inputs):
         self.assertEqual(self.run_command("validate", "--schema", "zero.json", "-", given="1"),
                          ("", "1 valid, 0 invalid\n", 0))
         self.write("lone.json", '{"$id": "https://a.example/\\ud800"}')
-        out, said, status = self.run_command("validate", "--schema", "lone.json", "-", given="1")
+        out, said, status = self.run_command("validate", "--format", "short", "--schema", "lone.json", "-", given="1")
         self.assertEqual((out, status), ("", 3))
         self.assertRegex(said, r"\Alone\.json:1:9: refused: not a JSON text, .* \(root; NotJson\)\n\Z")
 

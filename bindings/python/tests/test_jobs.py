@@ -11,9 +11,16 @@ import unittest
 import jschema
 from commands import SOME, TWO_LINES, Case
 from jschema.command.inputs import Input
-from jschema.command.results import results
+from jschema.command.places import Places
+from jschema.command.results import Checker, Wanted
+from jschema.sources import JsonSource
 
 URI = "https://example.com/s"
+
+
+def given(line, text):
+    """An instance on a line."""
+    return Input("x", line, JsonSource("json", text, text))
 
 
 class Slow:
@@ -36,16 +43,16 @@ class Slow:
 class Results(unittest.TestCase):
     def setUp(self):
         self.engine = Slow()
-        self.schemas = jschema.Schemas({}, engine=self.engine)
+        self.checker = Checker(jschema.Schemas({}, engine=self.engine), URI, Places([]), Wanted("flag"))
 
     def results(self, texts, jobs=2):
-        return results(self.schemas, URI, "flag", (Input("x", number, it) for number, it in enumerate(texts)), jobs)
+        return self.checker.results((given(number, it) for number, it in enumerate(texts)), jobs)
 
     def test_order(self):
         texts = [b"0.1", b"0", b"0.05", b"0", b"0"] * 4
         for jobs in (1, 2, 7):
             found = list(self.results(texts, jobs))
-            self.assertEqual([(it.input.line, it.input.text) for it in found], list(enumerate(texts)))
+            self.assertEqual([(it.input.line, it.input.source.json) for it in found], list(enumerate(texts)))
 
     def test_what_waits_is_not_run(self):
         found = self.results([b"0"] + [b"0.3"] * 20)
@@ -58,9 +65,9 @@ class Results(unittest.TestCase):
 
     def test_error_of_the_input(self):
         def inputs():
-            yield Input("x", 1, b"0")
+            yield given(1, b"0")
             raise ZeroDivisionError
-        found = results(self.schemas, URI, "flag", inputs(), 2)
+        found = self.checker.results(inputs(), 2)
         self.assertEqual(next(found).input.line, 1)
         with self.assertRaises(ZeroDivisionError):
             next(found)
@@ -72,8 +79,8 @@ class Results(unittest.TestCase):
         def inputs():
             for number in range(1000):
                 read.append(number)
-                yield Input("x", number, b"0")
-        found = results(self.schemas, URI, "flag", inputs(), 3)
+                yield given(number, b"0")
+        found = self.checker.results(inputs(), 3)
         next(found)
         time.sleep(0.3)
         self.assertLess(len(read), 20)
@@ -84,7 +91,7 @@ class Streams(Case):
     def test_live_stream(self):
         """Each line has its answer before the next one comes."""
         for jobs in ("1", "4"):
-            for format, expected in (("text", b"<stdin>:%d:1: "), ("flag", b'{"valid":false}\n')):
+            for format, expected in (("short", b"<stdin>:%d:1: "), ("flag", b'{"valid":false}\n')):
                 with self.subTest(format, jobs=jobs), subprocess.Popen(
                         [sys.executable, "-m", "jschema", *SOME, "--jobs", jobs, "--format", format, "--lines", "-"],
                         cwd=self.folder, stdin=subprocess.PIPE, stdout=subprocess.PIPE,

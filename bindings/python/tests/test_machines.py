@@ -48,7 +48,7 @@ class RefusedSchema(Case):
         self.assertEqual((said, status), (self.LINE, 3))
 
     def test_others(self):
-        for format in ("text", "flag", "basic", "merged"):
+        for format in ("short", "flag", "basic", "merged"):
             self.assertEqual(self.run_command(*SOME, "--ref", "bad.json", "--format", format, "data/ada.json"),
                              ("", self.LINE, 3))
 

@@ -6,9 +6,9 @@ from unittest import mock
 
 import jschema
 from jschema import NotJson, Text, positions
-from jschema.command.inputs import refusal_position
 from jschema.locations import pointer
 from jschema.scanner import scan
+from jschema.sources import JsonSource
 from tests.reference import json_text
 from tests.support.rows import texts
 
@@ -26,6 +26,11 @@ NOT_JSON = (
     b"[1,]", b'{"a":1,}', b"[,1]", b"[1 2]", b'{"a" 1}', b"{1:1}", b"[}", b"{]", b"[1]]", b"nul", b"True", b"1 1",
     b"\x0b1",
 )
+
+
+def refusal_position(data, refused):
+    """Where a text is refused."""
+    return JsonSource("json", data, data).refusal(refused).begin
 
 
 def naive(data, offset):

@@ -11,6 +11,7 @@ import zipfile
 from pathlib import Path
 
 import backend
+import jschema
 from jschema.interface import VERSION
 
 PACKAGE = Path(__file__).resolve().parent.parent
@@ -47,6 +48,10 @@ class Wheel(unittest.TestCase):
             about = "from importlib.metadata import metadata as it; print(it('jschema')['Version'])"
             self.assertEqual(run(python, "-c", about, env=environment), f"{VERSION}\n")
             self.assertIn("usage: python -m jschema validate", run(python, "-m", "jschema", "-h", env=environment))
+            for name in ("validate", "lint"):
+                script = python.parent / f"jschema-{name}"
+                self.assertIn(f"usage: jschema-{name} [", run(script, "-h", env=environment))
+                self.assertRegex(run(script, "--version", env=environment), rf"\Ajschema {VERSION}\n(no )?library")
 
     @unittest.skipUnless(importlib.util.find_spec("pip"), "needs pip")
     def test_editable(self):
@@ -66,10 +71,20 @@ class Wheel(unittest.TestCase):
             with zipfile.ZipFile(Path(folder, backend.build_wheel(folder))) as wheel:
                 names = set(wheel.namelist())
             expected = {path.relative_to(PACKAGE).as_posix() for path in (PACKAGE / "jschema").rglob("*.py")}
-            about = {f"jschema-{VERSION}.dist-info/{name}" for name in ("METADATA", "WHEEL", "RECORD")}
+            about = {f"jschema-{VERSION}.dist-info/{name}"
+                     for name in ("METADATA", "WHEEL", "RECORD", "entry_points.txt")}
             library = {f"jschema/{backend.LIBRARY.name}"} if backend.LIBRARY.is_file() else set()
             self.assertEqual(names, expected | about | library | {"jschema/py.typed"})
             self.assertEqual(backend.build_sdist(folder), f"jschema-{VERSION}.tar.gz")
+
+    def test_metadata(self):
+        """The metadata name each extra of pyproject.toml with what it needs, and the version is the package's."""
+        lines = backend.metadata().splitlines()
+        for line in ("Provides-Extra: yaml", 'Requires-Dist: PyYAML ; extra == "yaml"', "Provides-Extra: toml",
+                     "Requires-Dist: tomli ; (python_version < '3.11') and extra == \"toml\"",
+                     'Requires-Dist: rfc3987 ; extra == "formats"', 'Requires-Dist: referencing ; extra == "pip"'):
+            self.assertIn(line, lines)
+        self.assertEqual(jschema.__version__, VERSION)
 
     def test_code_for_old_versions(self):
         """Every module is in the grammar of the oldest version that pyproject.toml names."""

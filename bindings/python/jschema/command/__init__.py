@@ -10,10 +10,8 @@ from ..errors import EngineNotFound
 from ..lookup import NotOneDocument
 from .arguments import Arguments, Version, of_command, parse
 from .files import Misuse
-from .linting import lint
 from .results import Status, message_of
 from .validating import validate
-from .versions import versions
 
 
 def main(words: list[str]) -> int:
@@ -41,8 +39,13 @@ def _run(read: Callable[[], Arguments]) -> int:
         sys.stdout.reconfigure(errors="backslashreplace")
     try:
         arguments = read()
-        return lint(arguments) if arguments.command == "lint" else validate(arguments)
+        if arguments.command == "validate":
+            return validate(arguments)
+        # (Imported where it is needed, so that a validation starts sooner.)
+        from .linting import lint
+        return lint(arguments)
     except Version:
+        from .versions import versions
         print(versions())
         return Status.VALID
     except (Misuse, EngineNotFound, NotOneDocument) as misuse:

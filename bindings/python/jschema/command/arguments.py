@@ -2,8 +2,7 @@
 from __future__ import annotations
 
 import argparse
-from dataclasses import dataclass
-from typing import NoReturn, Optional
+from typing import NamedTuple, NoReturn, Optional
 
 from ..engine import FORMATS
 from ..sources import KINDS
@@ -28,8 +27,7 @@ _SHOWN = "text (the default): each problem with its line. short: a line for each
          "each file. github: annotations in GitHub Actions. html: a page. sarif, junit: for code scanning and tests"
 
 
-@dataclass(frozen=True)
-class Arguments:
+class Arguments(NamedTuple):
     """What is asked for."""
 
     command: str

@@ -5,9 +5,8 @@ import errno
 import os
 import stat
 from collections.abc import Sequence
-from dataclasses import dataclass
 from pathlib import Path
-from typing import Optional
+from typing import NamedTuple, Optional
 
 from ..sources import SUFFIXES
 
@@ -20,8 +19,7 @@ class Misuse(Exception):
     """The arguments are wrong; the message says what to do."""
 
 
-@dataclass(frozen=True)
-class File:
+class File(NamedTuple):
     """A file that is looked at, or why there is none of this name."""
 
     name: str
@@ -56,13 +54,16 @@ def files_of(arguments: Sequence[str], taken: Sequence[str], what: str = "INSTAN
 def _files_in(folder: str, taken: Sequence[str]) -> list[File]:
     """The files in a folder at any depth, and each folder that can't be read. Links to folders aren't followed."""
     found: list[File] = []
-    for parent, _, names in os.walk(folder, onerror=lambda error: found.append(File(str(error.filename), error))):
-        found += [_in_folder(str(Path(parent, name))) for name in names if Path(name).suffix.lower() in taken]
+    suffixes = frozenset(taken)
+    # (The folder's name without `./` and what else says nothing.)
+    for parent, _, names in os.walk(Path(folder), onerror=lambda error: found.append(File(str(error.filename), error))):
+        found += [_in_folder(os.path.join(parent, name)) for name in names
+                  if os.path.splitext(name)[1].lower() in suffixes]
     if not found:
         *most, last = taken
         listed = f"{', '.join(most)} or {last}" if most else last
         raise Misuse(f"{folder} has no file {listed}: name its files one by one")
-    return sorted(found, key=lambda file: Path(file.name).parts)
+    return sorted(found, key=lambda file: file.name.split(os.sep))
 
 
 def _in_folder(name: str) -> File:

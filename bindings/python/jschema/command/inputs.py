@@ -6,9 +6,8 @@ import os
 import stat
 import sys
 from collections.abc import Iterable, Iterator
-from dataclasses import dataclass
 from io import BufferedReader
-from typing import Optional, Union
+from typing import NamedTuple, Optional, Union
 
 from ..extras import MissingLibrary
 from ..limits import LARGEST_TEXT
@@ -19,8 +18,7 @@ _BLOCK = 1 << 16
 _NOTHING = JsonSource("json", b"", b"")
 
 
-@dataclass(frozen=True)
-class Input:
+class Input(NamedTuple):
     """An instance, or a schema that is looked at, with the file and the line at which it begins; or why there is
     none."""
 
@@ -70,7 +68,9 @@ def _opened(name: str) -> BufferedReader:
 
 def _text(file: BufferedReader) -> bytes:
     """What a file has; of one that is too large, one byte more than the validator takes."""
-    return file.read(LARGEST_TEXT + 1)
+    begin = file.read(_BLOCK)
+    # (Python makes room for as much as it is asked for, so it is asked for little first.)
+    return begin if len(begin) < _BLOCK else begin + file.read(LARGEST_TEXT + 1 - _BLOCK)
 
 
 def _lines(file: BufferedReader, shown: str) -> Iterator[Input]:

@@ -7,6 +7,7 @@ from typing import Optional
 
 from ..lint import ERROR, NOTE, Finding, broken, lint_documents, second_document, unreadable
 from ..lookup import SchemaFile, UnreadableFile, file_url, own_uri, walked
+from ..resources import Document
 from ..sources import Unreadable
 from .arguments import Arguments
 from .documents import referred
@@ -34,33 +35,44 @@ def lint(arguments: Arguments) -> int:
 
 def _results(given: Sequence[Input], arguments: Arguments) -> Iterator[Result]:
     """The result of each schema, in their order."""
-    faults = [_fault(it, given[index - 1] if index else None) for index, it in enumerate(given)]
-    made = [None if fault else _schema_file(it) for it, fault in zip(given, faults)]
-    files = [it for it in made if it is not None]
-    documents = [walked(it) for it in files]
-    beside = [walked(it) for it in referred(files, arguments.refs, arguments.siblings, arguments.input,
-                                            arguments.verbose)]
-    found = iter(lint_documents([it for it in documents if it], [it for it in beside if it]))
-    return iter([_result(it, next(found)) if fault is None else fault for it, fault in zip(given, faults)])
+    results: list[Optional[Result]] = []
+    files: list[SchemaFile] = []
+    documents: list[Document] = []
+    for index, it in enumerate(given):
+        result = _fault(it, given[index - 1] if index else None)
+        if result is None:
+            file, document = _schema_file(it)
+            if document is not None:
+                files.append(file)
+                documents.append(document)
+            else:
+                result = _result(it, [broken(it.source)])
+        results.append(result)
+    beside = referred(files, arguments.refs, arguments.siblings, arguments.input, arguments.verbose)
+    found = iter(lint_documents(documents, [it for it in map(walked, beside) if it]))
+    return iter([_result(it, next(found)) if result is None else result for it, result in zip(given, results)])
 
 
 def _fault(given: Input, before: Optional[Input]) -> Optional[Result]:
-    """The result of what is no schema document that can be read."""
+    """The result of what can't be read, or is the second document of a file."""
     if isinstance(given.fault, Unreadable):
         return _result(given, [unreadable(given.fault)])
     if given.fault is not None:
         return failure(given, given.fault)
     if before is not None and before.fault is None and before.file == given.file and given.line > before.line:
         return _result(given, [second_document(given.source)])
-    finding = broken(given.source)
-    return _result(given, [finding]) if finding else None
+    return None
 
 
-def _schema_file(given: Input) -> SchemaFile:
-    name = given.file if given.file != "<stdin>" else STDIN
-    made = SchemaFile(given.file, file_url(name), given.source)
-    own = own_uri(walked(made))
-    return made._replace(uri=own) if own else made
+def _schema_file(given: Input) -> tuple[SchemaFile, Optional[Document]]:
+    """A schema under its `$id`, or else under its file's URL."""
+    file = SchemaFile(given.file, file_url(given.file if given.file != "<stdin>" else STDIN), given.source)
+    document = walked(file)
+    own = own_uri(document)
+    if own is None:
+        return file, document
+    named = file._replace(uri=own)
+    return named, walked(named)
 
 
 def _result(given: Input, found: Sequence[Finding]) -> Result:

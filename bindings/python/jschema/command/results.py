@@ -1,15 +1,13 @@
 """The result of each file or instance."""
 from __future__ import annotations
 
-from collections.abc import Iterable, Iterator
-from dataclasses import dataclass, field
+from collections.abc import Iterable, Iterator, Sequence
 from enum import IntEnum
-from typing import NamedTuple, Optional
+from typing import TYPE_CHECKING, NamedTuple, Optional
 
 from ..engine import Answer
 from ..errors import EngineError, Refused, ValidationError, best_first
 from ..extras import MissingLibrary
-from ..formats import Formats
 from ..positions import Position, Text
 from ..schemas import Schemas, errors_of
 from ..sources import JsonSource, Range
@@ -17,6 +15,10 @@ from .inputs import Input
 from .jobs import side_by_side
 from .places import Places
 from .problems import ERROR, FAILED, REFUSED, WARNING, WHOLE, Problem
+
+
+if TYPE_CHECKING:
+    from ..formats import Formats
 
 
 class Status(IntEnum):
@@ -29,13 +31,12 @@ class Status(IntEnum):
     FAILED = 4
 
 
-@dataclass(frozen=True)
-class Result:
+class Result(NamedTuple):
     """What came of a file or an instance."""
 
     input: Input
     status: Status
-    problems: list[Problem] = field(default_factory=list)
+    problems: Sequence[Problem] = ()
     #: The output or the tree that the report needs, if there is a verdict.
     text: bytes = b""
 
@@ -86,9 +87,9 @@ class Checker:
         if isinstance(given.source, JsonSource):
             given.source.trust()
         if valid:
-            return Result(given, Status.VALID, self._warnings(given) if wanted.formats else [], text)
+            return Result(given, Status.VALID, self._warnings(given) if wanted.formats else (), text)
         tree = self._check(given, "detailed").text if wanted.tree else text
-        return Result(given, Status.INVALID, [] if wanted.output is not None else self._errors(given), tree)
+        return Result(given, Status.INVALID, () if wanted.output is not None else self._errors(given), tree)
 
     def _check(self, given: Input, format: str) -> Answer:
         return self._schemas.check(self._entry, given.source.json, format)

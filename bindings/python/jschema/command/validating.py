@@ -3,9 +3,9 @@ from __future__ import annotations
 
 import sys
 from collections.abc import Iterable, Sequence
+from typing import TYPE_CHECKING
 
 from ..errors import Refused
-from ..formats import Formats
 from ..lookup import SchemaFile, UnreadableFile
 from ..schemas import Schemas
 from ..sources import JsonSource
@@ -17,6 +17,9 @@ from .places import Places
 from .reports import Report, report_for
 from .results import Checker, Result, Status, Wanted, refusal
 from .terminal import Progress
+
+if TYPE_CHECKING:
+    from ..formats import Formats
 
 
 def validate(arguments: Arguments) -> int:
@@ -36,7 +39,7 @@ def validate(arguments: Arguments) -> int:
     except Refused as refused:
         report.refused_schema(refused_schema(documents, refused))
         return Status.REFUSED
-    formats = Formats() if arguments.formats else None
+    formats = _formats() if arguments.formats else None
     progress = Progress(None if arguments.lines else len(files))
     with schemas:
         checker = Checker(schemas, schema.uri, Places(documents), Wanted(report.output, report.tree, formats))
@@ -45,6 +48,11 @@ def validate(arguments: Arguments) -> int:
     for message in sorted(set(formats.missing.values())) if formats is not None else ():
         print(f"jschema: {message}", file=sys.stderr)
     return status
+
+
+def _formats() -> Formats:
+    from ..formats import Formats
+    return Formats()
 
 
 def reported(report: Report, progress: Progress, found: Iterable[Result]) -> int:

@@ -2,9 +2,9 @@
 from __future__ import annotations
 
 from ..errors import EngineError
+from ..interface import VERSION
 from ..library import LibraryEngine, find_library
 from ..program import find_program
-from ..version import VERSION
 
 
 def versions() -> str:

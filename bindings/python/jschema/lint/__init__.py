@@ -12,12 +12,11 @@ from ..documents import Documents, texts_of
 from ..errors import Refused
 from ..limits import LARGEST_TEXT
 from ..locations import pointer
-from ..positions import Position
-from ..scanner import NotJson, scan
-from ..schemas import Schemas
-from ..sources import Range, Source, Unreadable, read
-from . import bounds, keywords, numbers, patterns, references
+from ..meanings import explain
 from ..resources import Document, document
+from ..schemas import Schemas
+from ..sources import Source, Unreadable, read
+from . import bounds, keywords, numbers, patterns, references
 from .finding import ERROR, NOTE, RULES, WARNING, Finding, Found
 
 __all__ = ["ERROR", "NOTE", "RULES", "WARNING", "Finding", "broken", "lint", "lint_all", "lint_documents",
@@ -34,7 +33,7 @@ def lint(text: bytes, uri: str, *, kind: str = "json", others: Documents = ()) -
 
 
 def lint_all(texts: Sequence[tuple[str, bytes, str]], others: Documents = ()) -> list[list[Finding]]:
-    """The same of each of several documents, which may refer to one another. Of each the URI, text and kind are given."""
+    """The same of several documents, which may refer to one another. Of each the URI, text and kind are given."""
     made = [_document(uri, text, kind) for uri, text, kind in texts]
     beside = [it for it in (_document(uri, text, "json") for uri, text in texts_of(others)) if isinstance(it, Document)]
     found = iter(lint_documents([it for it in made if isinstance(it, Document)], beside))
@@ -48,17 +47,13 @@ def lint_documents(given: Sequence[Document], beside: Sequence[Document] = ()) -
     return [_findings(it, documents, refusals.get(index)) for index, it in enumerate(given)]
 
 
-def broken(source: Source) -> Optional[Finding]:
-    """That a text isn't JSON, and where; None if it is."""
-    try:
-        if len(source.json) <= LARGEST_TEXT:
-            scan(source.json)
-            return None
-    except NotJson as error:
-        at = source.at(error.offset)
-        return Finding("not-json", ERROR, Refused("document", "NotJson").meaning, "", Range(at, at))
-    start = Position(0, 1, 1)
-    return Finding("refused", ERROR, Refused("input", "InputTooLarge").meaning, "", Range(start, start))
+def broken(source: Source) -> Finding:
+    """That a text isn't JSON, and where; or that it is too large to be read."""
+    refused = Refused("input", "InputTooLarge")
+    if len(source.json) <= LARGEST_TEXT:
+        refused = Refused("document", "NotJson", "")
+        explain(refused, source.json, "")
+    return Finding("not-json", ERROR, refused.meaning, "", source.refusal(refused))
 
 
 def unreadable(refused: Unreadable) -> Finding:
@@ -78,7 +73,12 @@ def _document(uri: str, text: bytes, kind: str) -> Document | Finding:
         source, *more = read(text, kind)
     except Unreadable as refused:
         return unreadable(refused)
-    return (second_document(more[0]) if more else broken(source)) or document(uri, source)
+    if more:
+        return second_document(more[0])
+    try:
+        return document(uri, source)
+    except (ValueError, RecursionError):
+        return broken(source)
 
 
 def _judged(documents: Sequence[tuple[str, Any]]) -> Optional[Refused]:
@@ -91,8 +91,8 @@ def _judged(documents: Sequence[tuple[str, Any]]) -> Optional[Refused]:
 
 
 def _refusals(documents: Sequence[Document]) -> dict[int, Refused]:
-    """The first refusal of each document that the validator refuses. It names one document, so it is asked again without
-    that."""
+    """The first refusal of each document that the validator refuses. It names one document, so it is asked again
+    without that."""
     refusals: dict[int, Refused] = {}
     while left := [(index, it) for index, it in enumerate(documents) if index not in refusals]:
         refused = _judged([(it.uri, it.source.json) for _, it in left])

@@ -1,7 +1,9 @@
 """Keywords that no dialect knows, and keywords that can't act where they stand."""
 from __future__ import annotations
 
+from collections import Counter
 from collections.abc import Iterator
+from functools import lru_cache
 from typing import Any, Optional
 
 from ..dialects import KEYWORDS, stranger
@@ -12,7 +14,8 @@ from .finding import NOTE, WARNING, Found
 _OWN = "x-"
 
 _TYPES: dict[str, tuple[str, ...]] = {
-    **dict.fromkeys(("minimum", "maximum", "exclusiveMinimum", "exclusiveMaximum", "multipleOf"), ("integer", "number")),
+    **dict.fromkeys(("minimum", "maximum", "exclusiveMinimum", "exclusiveMaximum", "multipleOf"),
+                    ("integer", "number")),
     **dict.fromkeys(("minLength", "maxLength", "pattern", "contentEncoding", "contentMediaType"), ("string",)),
     **dict.fromkeys(("items", "prefixItems", "contains", "minContains", "maxContains", "minItems", "maxItems",
                      "uniqueItems", "unevaluatedItems"), ("array",)),
@@ -28,15 +31,24 @@ _LEAVES = {"unevaluatedItems": "items", "unevaluatedProperties": "additionalProp
 
 
 def unknown(document: Document) -> Iterator[Found]:
-    """The keywords of no dialect, with the nearest that is one."""
+    """The keywords of no dialect, with the nearest that is one; of those that are near to none, the first of a name."""
+    own: dict[str, Found] = {}
+    count: Counter[str] = Counter()
     for schema in document.schemas:
         for keyword in schema.value:
             if keyword in KEYWORDS or keyword.startswith(_OWN):
                 continue
             meant = nearest(keyword)
-            message = f"no dialect knows the keyword `{keyword}`"
-            yield Found("unknown-keyword", WARNING if meant else NOTE, (*schema.tokens, keyword), True,
-                        f"{message}: is `{meant}` meant?" if meant else f"{message}, so it is an annotation", meant)
+            found = Found("unknown-keyword", WARNING if meant else NOTE, (*schema.tokens, keyword), True,
+                          f"no dialect knows the keyword `{keyword}`", meant)
+            if meant:
+                yield found._replace(message=f"{found.message}: is `{meant}` meant?")
+            else:
+                own.setdefault(keyword, found)
+                count[keyword] += 1
+    for keyword, found in own.items():
+        more = f" (here and {count[keyword] - 1} times more)" if count[keyword] > 1 else ""
+        yield found._replace(message=f"{found.message}, so it is an annotation{more}")
 
 
 def inactive(document: Document) -> Iterator[Found]:
@@ -56,6 +68,7 @@ def formats(document: Document) -> Iterator[Found]:
                         "`format` is an annotation, and isn't asserted: `--formats` warns of values that break it")
 
 
+@lru_cache(maxsize=1000)
 def nearest(name: str) -> Optional[str]:
     """The keyword that is meant by a name that is none: at most two typing errors away, or one in a short name."""
     most = 1 if len(name) < 6 else 2

@@ -19,6 +19,6 @@ def outside(document: Document) -> Iterator[Found]:
         elif isinstance(value, list):
             waiting += [(item, (*tokens, str(index))) for index, item in enumerate(value)]
         elif isinstance(value, float):
-            yield Found("number", ERROR, tokens, False, "the validator takes whole numbers, written without `.` and `e`")
+            yield Found("number", ERROR, tokens, False, "the validator takes whole numbers, without `.` and `e`")
         elif isinstance(value, int) and not LEAST <= value <= GREATEST:
             yield Found("number", ERROR, tokens, False, "the validator takes numbers from -2^63 to 2^64 - 1")

@@ -14,10 +14,9 @@ Judge = Callable[[object], Optional[Refused]]
 
 # (In a class `(?=` is four characters, and `\b` a backspace.)
 _PART = re.compile(r"(?P<escaped>\\(?:(?P<named>k<\w+>|g\{?\w+)|(?P<number>[1-9]\d*)|(?P<control>c[A-Za-z])|.))"
-                   r"|(?P<class>\[\^?\]?(?:\\.|[^\]\\])*\])|(?P<look>\(\?<?[=!])|(?P<atomic>\(\?>)"
-                   r"|(?P<possessive>[*+?}]\+)", re.DOTALL)
+                   r"|(?P<class>\[\^?\]?(?:\\.|[^\]\\])*\])|(?P<look>\(\?<?[=!])|(?P<atomic>\(\?>)", re.DOTALL)
 _PARTS = {"named": "a back-reference", "number": "a back-reference", "control": "a control character",
-          "atomic": "an atomic group", "possessive": "a possessive repetition"}
+          "atomic": "an atomic group"}
 _LOOKS = {"(?=": "look-ahead", "(?!": "negative look-ahead", "(?<=": "look-behind", "(?<!": "negative look-behind"}
 
 

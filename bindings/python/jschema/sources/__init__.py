@@ -1,5 +1,5 @@
-"""Texts that people write: JSON, JSON with comments, YAML and TOML. Each becomes a JSON text for the validator, and knows
-where each of its values stands.
+"""Texts that people write: JSON, JSON with comments, YAML and TOML. Each becomes a JSON text for the validator, and
+knows where each of its values stands.
 
     [source] = read(b"age: -1\\n", "yaml")
     source.json            # b'{"age":-1}'

@@ -21,10 +21,10 @@ class NotCore(ValueError):
 
 def scalar(value: str, tag: Optional[str], is_plain: bool) -> str:
     """The JSON text of a scalar with a tag. `is_plain` says that it is written without a tag and without quotes."""
-    if tag == "str" or tag in (None, "!") and not is_plain:
+    if tag in ("str", "!") or tag is None and not is_plain:
         return json.dumps(string(value), ensure_ascii=False)
     found = _plain(value)
-    if tag is None or tag == "!":
+    if tag is None:
         return found[1]
     if tag not in ("null", "bool", "int", "float"):
         raise NotCore(f"the tag {tag} is none of YAML 1.2's core schema")

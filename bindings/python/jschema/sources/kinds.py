@@ -1,9 +1,9 @@
 """The kinds of texts, by the names of files."""
 from __future__ import annotations
 
+import importlib
 import os
 
-from . import jsonc, toml, yaml
 from .source import JsonSource, Source
 
 #: Each kind, with the suffixes of its files.
@@ -25,4 +25,5 @@ def read(data: bytes, kind: str) -> list[Source]:
     """
     if kind == "json":
         return [JsonSource(kind, data, data)]
-    return {"jsonc": jsonc.read, "yaml": yaml.read, "toml": toml.read}[kind](data)
+    sources: list[Source] = importlib.import_module(f".{kind}", __package__).read(data)
+    return sources

@@ -82,13 +82,21 @@ class JsonSource(Source):
 
     def __init__(self, kind: str, data: bytes, json: bytes) -> None:
         super().__init__(kind, data, json)
-        self._text = Text(json)
-        # (A blank for each byte of a comment: its characters may be fewer.)
-        self._lines = Text(data)
+        self._is_json = False
+        # (Made when they are needed.)
+        self._read: Optional[Text] = None
+        self._lines: Optional[Text] = None
 
     def trust(self) -> None:
         """Says that the validator has read the text as JSON, so it isn't scanned again."""
-        self._text = Text(self.json, is_json=True)
+        self._is_json = True
+        self._read = None
+
+    @property
+    def _text(self) -> Text:
+        if self._read is None:
+            self._read = Text(self.json, self._is_json)
+        return self._read
 
     def value(self, pointer: str) -> Range:
         begin, end = self._text.span(pointer)
@@ -102,6 +110,9 @@ class JsonSource(Source):
         return _tree(self.json)
 
     def at(self, offset: int) -> Position:
+        if self._lines is None:
+            # (Not that of `json`: it has a blank for each byte of a comment, whose characters may be fewer.)
+            self._lines = Text(self.data)
         return self._lines.at(offset)
 
     def _place(self, refused: Refused) -> Range:

@@ -95,7 +95,7 @@ class Places:
         """A value; the byte after it."""
         text = self._text
         first = text[begin:begin + 1]
-        if len(tokens) > DEEPEST:
+        if len(tokens) >= DEEPEST and first in (b"[", b"{"):
             raise TooDeep(begin)
         if first == b"[":
             end = self._array(begin, tokens)

@@ -217,7 +217,7 @@ class _Reader:
 
     @staticmethod
     def _put_in(holder: _Holder, node: Node) -> int:
-        """Puts a value into a sequence or a mapping, and returns how many bytes that takes beside those of the value."""
+        """Puts a value into a sequence or a mapping, and returns how many bytes that takes beside the value's."""
         if isinstance(holder.node.content, list):
             holder.node.content.append(node)
             return 1

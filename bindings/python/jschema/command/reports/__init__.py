@@ -1,25 +1,22 @@
 """How results are written: for people, for other programs, or as the validator's output."""
 from __future__ import annotations
 
+import importlib
 from typing import TextIO
 
 from ...engine import FORMATS
-from .base import Report
-from .html import HtmlReport
-from .junit import JunitReport
-from .lines import GithubReport, ShortReport
-from .machines import JsonReport, OutputReport
-from .sarif import SarifReport
-from .text import TextReport
+from .base import Report as Report
 
-__all__ = ["Report", "report_for"]
-
-_REPORTS: dict[str, type[Report]] = {
-    "text": TextReport, "short": ShortReport, "json": JsonReport, "github": GithubReport, "html": HtmlReport,
-    "sarif": SarifReport, "junit": JunitReport,
+# The class of each report, with its module: only that of the format is imported.
+_REPORTS = {
+    "text": ("text", "TextReport"), "short": ("lines", "ShortReport"), "json": ("machines", "JsonReport"),
+    "github": ("lines", "GithubReport"), "html": ("html", "HtmlReport"), "sarif": ("sarif", "SarifReport"),
+    "junit": ("junit", "JunitReport"),
 }
 
 
 def report_for(format: str, command: str, out: TextIO) -> Report:
     """The report of a command in a format."""
-    return OutputReport(format, command, out) if format in FORMATS else _REPORTS[format](format, command, out)
+    module, name = ("machines", "OutputReport") if format in FORMATS else _REPORTS[format]
+    made: type[Report] = getattr(importlib.import_module(f".{module}", __name__), name)
+    return made(format, command, out)

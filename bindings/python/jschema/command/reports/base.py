@@ -34,7 +34,8 @@ class Report:
     def result(self, result: Result) -> None:
         """Writes a result."""
         self.statuses[result.status] += 1
-        self.kinds.update(problem.kind for problem in result.problems)
+        if result.problems:
+            self.kinds.update(problem.kind for problem in result.problems)
         self.write_result(result)
 
     def write_result(self, result: Result) -> None:

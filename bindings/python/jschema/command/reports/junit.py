@@ -2,8 +2,8 @@
 from __future__ import annotations
 
 import re
+from html import escape
 from typing import TextIO
-from xml.sax.saxutils import escape, quoteattr
 
 from ..problems import FAILED, Problem
 from ..results import Result, Status
@@ -61,8 +61,9 @@ def _line(file: str, problem: Problem) -> str:
 
 
 def _text(text: str) -> str:
-    return escape(_NO_XML.sub("\ufffd", text))
+    return escape(_NO_XML.sub("\ufffd", text), quote=False)
 
 
 def _attribute(text: str) -> str:
-    return quoteattr(_NO_XML.sub("\ufffd", text))
+    escaped = escape(_NO_XML.sub("\ufffd", text)).replace("\t", "&#9;").replace("\n", "&#10;").replace("\r", "&#13;")
+    return f'"{escaped}"'

@@ -6,9 +6,9 @@ import os
 from typing import Any, TextIO
 from urllib.parse import quote
 
+from ...interface import VERSION
 from ...lint import RULES
 from ...lookup import file_url
-from ...version import VERSION
 from ..problems import FAILED, NOTE, REFUSED, WARNING, Problem
 from ..results import Result, Status
 from .base import Report, complain

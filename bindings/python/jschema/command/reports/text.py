@@ -52,7 +52,8 @@ def _notes(problem: Problem) -> list[str]:
     place = problem.keyword_place
     notes = []
     if place is not None:
-        notes.append(f"{printable(place.file)}:{place.position.line}:{place.position.column}: {printable(problem.rule)}")
+        line, column = place.position[1:]
+        notes.append(f"{printable(place.file)}:{line}:{column}: {printable(problem.rule)}")
     if problem.keyword_uri:
         notes.append(printable(problem.keyword_uri))
     return notes

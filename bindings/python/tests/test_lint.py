@@ -1,0 +1,183 @@
+"""What lint finds in schemas, and where."""
+import json
+import unittest
+
+from commands import Case
+from jschema.lint import RULES, lint, lint_all
+
+URI = "https://example.com/s"
+# A schema, and what is found: the rule, the severity, a part of the message, and the place.
+FOUND = (
+    # No dialect knows these.
+    ({"requierd": ["a"]}, ("unknown-keyword", "warning", "is `required` meant?", "/requierd")),
+    ({"minlength": 1}, ("unknown-keyword", "warning", "is `minLength` meant?", "/minlength")),
+    ({"item": {}}, ("unknown-keyword", "warning", "is `items` meant?", "/item")),
+    ({"additionalProperty": {}}, ("unknown-keyword", "note", "so it is an annotation", "/additionalProperty")),
+    ({"discriminator": {}}, ("unknown-keyword", "note", "so it is an annotation", "/discriminator")),
+    ({"own": 1, "items": {"own": 1, "properties": {"own": {"own": 1}}}},
+     ("unknown-keyword", "note", "(here and 2 times more)", "/own")),
+    ({"x-anything": 1, "properties": {"requierd": {}}, "default": {"requierd": 1}, "enum": [{"requierd": 1}]},),
+    # These can't act.
+    ({"additionalItems": False},
+     ("inactive-keyword", "warning", "use `items` beside `prefixItems`", "/additionalItems")),
+    ({"dependencies": {}}, ("inactive-keyword", "warning", "use `dependentRequired`", "/dependencies")),
+    ({"then": True}, ("inactive-keyword", "warning", "without `if`", "/then")),
+    ({"if": True}, ("inactive-keyword", "warning", "without `then` or `else`", "/if")),
+    ({"if": True, "else": {}},),
+    ({"minContains": 1}, ("inactive-keyword", "warning", "without `contains`", "/minContains")),
+    ({"contains": True, "maxContains": 1},),
+    ({"items": {}, "unevaluatedItems": False}, ("inactive-keyword", "warning", "leaves nothing", "/unevaluatedItems")),
+    ({"type": ["string", "null"], "minimum": 1}, ("inactive-keyword", "warning", "string or null", "/minimum")),
+    ({"type": ["string", "integer"], "minimum": 1},),
+    ({"type": "number", "multipleOf": 2, "const": 4},),
+    ({"format": "date"}, ("format", "note", "isn't asserted", "/format")),
+    # Nothing refers to these.
+    ({"type": "array", "$defs": {"a": {}}}, ("unused-definition", "warning", "`a`", "/$defs/a")),
+    ({"$defs": {"a": {}}},),
+    ({"$ref": "#/$defs/a", "$defs": {"a": {}}},),
+    ({"$ref": "#/$defs/a/items", "$defs": {"a": {"items": {}}}},),
+    ({"$ref": "#x", "definitions": {"a": {"$anchor": "x"}}},),
+    ({"$ref": "t", "$defs": {"a": {"$id": "t"}}},),
+    ({"type": "array", "$defs": {"a": {"$ref": "#/$defs/a"}}}, ("unused-definition", "warning", "`a`", "/$defs/a")),
+    ({"$dynamicRef": "#x", "$defs": {"a": {"$dynamicAnchor": "x"}, "b": {"$dynamicAnchor": "y"}}},),
+    # These lead nowhere.
+    ({"$ref": "#/$defs/a"}, ("unresolved-reference", "error", "no schema has the URI", "/$ref")),
+    ({"$ref": "#/properties"}, ("unresolved-reference", "error", "no schema has the URI", "/$ref")),
+    ({"$ref": "other"},
+     ("unresolved-reference", "error", "no document has the URI https://example.com/other", "/$ref")),
+    ({"items": {"$id": "a/b", "$ref": "c"}},
+     ("unresolved-reference", "error", "no document has the URI https://example.com/a/c", "/items/$ref")),
+    ({"$dynamicRef": "#none"}, ("unresolved-reference", "error", "no schema has the URI", "/$dynamicRef")),
+    # The validator doesn't read these.
+    ({"pattern": "a(?=b)"}, ("pattern", "error", "`(?=` at 2 is a look-ahead", "/pattern")),
+    ({"pattern": "[(?=](?<!b)"}, ("pattern", "error", "`(?<!` at 6 is a negative look-behind", "/pattern")),
+    ({"pattern": r"(a)\\\1"}, ("pattern", "error", r"`\1` at 6 is a back-reference", "/pattern")),
+    ({"pattern": r"(?<n>a)\k<n>"}, ("pattern", "error", "back-reference", "/pattern")),
+    ({"patternProperties": {"a++(?>b)": {}, "ok": {}, "(": {}}},
+     ("pattern", "error", "`(?>` at 4 is an atomic group", "/patternProperties/a++(?>b)"),
+     ("pattern", "error", "isn't a regular expression", "/patternProperties/(")),
+    ({"maximum": 1.5, "enum": [{"a": 2**64}, -2**63 - 1]}, ("number", "error", "whole", "/maximum"),
+     ("number", "error", "2^64", "/enum/0/a"), ("number", "error", "2^64", "/enum/1")),
+    ({"type": 1}, ("refused", "error", "the keyword's value has the wrong form (BadKeyword)", "/type")),
+    ({"items": [{}]}, ("refused", "error", "a schema is an object or a boolean (NotASchema)", "/items")),
+    # These accept nothing.
+    ({"minimum": 2, "maximum": 1}, ("accepts-nothing", "warning", "`minimum` 2 is more than `maximum` 1", "/minimum")),
+    ({"minimum": 1, "maximum": 1},),
+    ({"minimum": 1, "exclusiveMaximum": 1}, ("accepts-nothing", "warning", "isn't below", "/minimum")),
+    ({"type": "integer", "exclusiveMinimum": 1, "exclusiveMaximum": 2},
+     ("accepts-nothing", "warning", "none is between", "/exclusiveMinimum")),
+    ({"minLength": 2, "maxLength": 1}, ("accepts-nothing", "warning", "accepts no string", "/minLength")),
+    ({"contains": {}, "minContains": 2, "maxContains": 1}, ("accepts-nothing", "warning", "no array", "/minContains")),
+    ({"contains": {}, "minContains": 3, "maxItems": 2}, ("accepts-nothing", "warning", "no array", "/minContains")),
+    ({"minItems": 2, "prefixItems": [{}], "items": False}, ("accepts-nothing", "warning", "prefixItems", "/minItems")),
+    ({"required": ["a", "b"], "maxProperties": 1}, ("accepts-nothing", "warning", "2 names", "/required")),
+    ({"required": ["a"], "properties": {"a": False}}, ("accepts-nothing", "warning", "is false", "/required")),
+    ({"required": ["a"], "additionalProperties": False}, ("accepts-nothing", "warning", "`a`", "/required")),
+    ({"required": ["a"], "additionalProperties": False, "patternProperties": {"^a": {}}},),
+    ({"enum": []}, ("accepts-nothing", "warning", "is empty", "/enum")),
+    ({"type": "string", "enum": [1, None]}, ("accepts-nothing", "warning", "of the type string", "/enum")),
+    ({"type": "number", "enum": [1]},), ({"type": ["integer"], "const": True},
+                                         ("accepts-nothing", "warning", "isn't of the type integer", "/const")),
+)
+
+
+def found(schema, **how):
+    return lint(json.dumps(schema).encode(), URI, **how)
+
+
+class Rules(unittest.TestCase):
+    def test_rules(self):
+        seen = {"not-json"}
+        for schema, *expected in FOUND:
+            with self.subTest(schema):
+                findings = sorted(found(schema), key=lambda it: it.place)
+                expected = sorted(expected, key=lambda it: it[-1])
+                self.assertEqual([(it.rule, it.severity, it.place) for it in findings],
+                                 [(rule, severity, place) for rule, severity, _, place in expected])
+                for finding, (rule, _, message, _) in zip(findings, expected):
+                    self.assertIn(message, finding.message)
+                    seen.add(rule)
+        self.assertEqual(seen, set(RULES))
+
+    def test_older_drafts(self):
+        """A keyword of the document's own dialect is none that can't act; one of a later dialect is."""
+        for dialect, keyword in (("http://json-schema.org/draft-07/schema#", "dependencies"),
+                                 ("http://json-schema.org/draft-04/schema", "id"),
+                                 ("https://json-schema.org/draft/2019-09/schema", "$recursiveRef")):
+            rules = [it.rule for it in found({"$schema": dialect, keyword: {} if keyword == "dependencies" else "#"})]
+            self.assertNotIn("inactive-keyword", rules)
+        findings = found({"$schema": "http://json-schema.org/draft-07/schema#", "prefixItems": [{}]})
+        self.assertIn("`prefixItems` is of 2020-12, and can't act in draft-07", [it.message for it in findings])
+
+    def test_places(self):
+        text = '{\n "é": 1, "requierd": [],\n "properties": {"a": {"$ref": "gone"}}}'.encode()
+        note, typed, reference = lint(text, URI)
+        self.assertEqual((note.range.begin[1:], note.range.end[1:]), ((2, 2), (2, 5)))
+        self.assertEqual((typed.range.begin[1:], typed.range.end[1:]), ((2, 10), (2, 20)))
+        self.assertEqual((reference.range.begin[1:], reference.range.end[1:]), ((3, 31), (3, 37)))
+        self.assertEqual(typed.suggestion, "required")
+
+    def test_broken(self):
+        for text, kind, line, column in ((b'{"a":\n }', "json", 2, 2), (b"a: [", "yaml", 1, 5), (b"a =", "toml", 1, 4),
+                                         (b"a: 1\n---\nb: 1", "yaml", 3, 1)):
+            with self.subTest(text):
+                try:
+                    [finding] = lint(text, URI, kind=kind)
+                except ImportError as error:
+                    self.skipTest(str(error))
+                self.assertEqual((finding.rule, finding.severity), ("not-json", "error"))
+                self.assertEqual(finding.range.begin.line, line)
+
+    def test_other_documents(self):
+        schema = {"$ref": "other#/$defs/a"}
+        self.assertEqual(found(schema, others={"https://example.com/other": {"$defs": {"a": True}}}), [])
+        [finding] = found(schema, others={"https://example.com/other": {}})
+        self.assertEqual((finding.rule, finding.message[:22]), ("unresolved-reference", "no schema has the URI "))
+
+    def test_several(self):
+        """Each has its own findings, also where the validator refuses another one before."""
+        texts = [("https://a.example/1", b'{"type": 1}', "json"), ("https://a.example/2", b'{"pattern": "("}', "json"),
+                 ("https://a.example/3", b'{"$ref": "1"}', "json"), ("https://a.example/4", b"{", "json"),
+                 ("https://a.example/5", b'{"type": "array", "$defs": {"a": {}}}', "json"),
+                 ("https://a.example/6", b'{"$ref": "5#/$defs/a"}', "json")]
+        self.assertEqual([[it.rule for it in findings] for findings in lint_all(texts)],
+                         [["refused"], ["pattern"], [], ["not-json"], [], []])
+
+
+class Commands(Case):
+    def test_text(self):
+        self.write("lint/a.json", '{\n  "requierd": ["a"],\n  "$ref": "b.yaml"}')
+        self.write("lint/b.yaml", "type: string\nminimum: 1\n")
+        out, said, status = self.run_inside("lint", "lint/a.json")
+        self.assertEqual((said, status), ("0 errors, 1 warning, 0 notes\n", 1))
+        self.assertEqual(out, """warning[unknown-keyword]: no dialect knows the keyword `requierd`: is `required` meant?
+ --> lint/a.json:2:3
+  |
+2 |   "requierd": ["a"],
+  |   ^^^^^^^^^^ /requierd
+
+""")
+
+    def test_statuses(self):
+        for text, status in (("{}", 0), ('{"format": "date"}', 0), ('{"then": {}}', 1), ('{"type": 1}', 3), ("{", 3)):
+            self.write("status.json", text)
+            self.assertEqual(self.run_inside("lint", "--format", "short", "status.json")[2], status)
+        said = "failed: nowhere.json: No such file or directory\n\n0 errors, 0 warnings, 0 notes, 1 failed\n"
+        self.assertEqual(self.run_inside("lint", "nowhere.json"), ("", said, 4))
+
+    def test_formats(self):
+        self.write("f.json", '{"then": {}}')
+        problem = "`then` can't act without `if` (/then; inactive-keyword)\n"
+        self.assertEqual(self.run_inside("lint", "--format", "short", "f.json")[0], f"f.json:1:2: warning: {problem}")
+        self.assertEqual(self.run_inside("lint", "--format", "github", "f.json")[0],
+                         f"::warning file=f.json,line=1,col=2::{problem}")
+        [shown] = json.loads(self.run_inside("lint", "--format", "json", "f.json")[0])
+        self.assertEqual(shown, {"file": "f.json", "findings": [{
+            "rule": "inactive-keyword", "severity": "warning", "line": 1, "column": 2, "endLine": 1, "endColumn": 8,
+            "message": "`then` can't act without `if`", "place": "/then", "suggestion": None}]})
+
+    def test_folder(self):
+        self.write("many/a.json", '{"$ref": "b.json"}')
+        self.write("many/b.json", '{"type": "array", "$defs": {"x": {}}}')
+        self.write("many/c.json", '{"$ref": "b.json#/$defs/x"}')
+        self.assertEqual(self.run_inside("lint", "many"), ("", "0 errors, 0 warnings, 0 notes\n", 0))

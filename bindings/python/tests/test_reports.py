@@ -1,0 +1,249 @@
+"""The reports: the line of each problem, a page, and what other programs read."""
+import html.parser
+import json
+import os
+import re
+import shutil
+import subprocess
+import unittest
+from xml.etree import ElementTree
+
+from commands import AGE, NAME, Case
+from jschema.command.snippets import WIDTH, snippet, width
+from jschema.interface import MEANINGS
+from jschema.positions import Text
+from jschema.sources import JsonSource, Range
+
+ALL = ("two.json", "data/ada.json", "half.json", "none.json", "data/sub/bob.json")
+VOID = {"meta"}
+
+
+def run_browser(page, *words):
+    """What Chromium writes of a page without a window."""
+    with open(os.devnull, "wb") as nowhere:
+        return subprocess.run([shutil.which("chromium"), "--headless", "--no-sandbox", "--disable-gpu",
+                               "--virtual-time-budget=2000", *words, f"file://{page}"], check=True, stderr=nowhere,
+                              stdout=subprocess.PIPE, timeout=60).stdout.decode()
+
+
+class TextReport(Case):
+    def test_place(self):
+        out, said, status = self.run_inside("validate", "schema.json", "two.json")
+        self.assertEqual((said, status), ("0 valid, 1 invalid (2 errors)\n", 1))
+        self.assertEqual(out, f"""error[minimum]: less than 0
+ --> two.json:3:37
+  |
+3 |   "friends": [{{"name": "Bé", "age": -2}}],
+  |                                     ^^ /friends/0/age
+  = schema.json:4:54: minimum
+  = {AGE}
+
+error[minimum]: less than 0
+ --> two.json:2:10
+  |
+2 |   "age": -1,
+  |          ^^ /age
+  = schema.json:4:54: minimum
+  = {AGE}
+
+""")
+
+    def test_refusals_and_failures(self):
+        out, said, status = self.run_inside("validate", "schema.json", "half.json", "none.json")
+        self.assertEqual((out, status), ("", 4))
+        self.assertEqual(said, f"""refused[NotWhole]: {MEANINGS['NotWhole']}
+ --> half.json:2:9
+  |
+2 |  "age": 0.5}}
+  |         ^^^ /age
+
+failed: none.json: No such file or directory
+
+0 valid, 0 invalid, 1 refused, 1 failed
+""")
+
+    def test_refused_schema(self):
+        out, said, status = self.run_inside("validate", "bad.json", "two.json")
+        self.assertEqual((out, status), ("", 3))
+        self.assertIn('--> bad.json:3:14\n  |\n3 |     {"type": 1}]}\n  |              ^ /allOf/1/type\n', said)
+
+    def test_lines_and_yaml(self):
+        """Lines are those of the file, and what is underlined is what stands there."""
+        self.write("rows.jsonl", '\n{"name": "A"}\n{"name": "A", "age": -1}\n')
+        out = self.run_inside("validate", "--lines", "schema.json", "rows.jsonl")[0]
+        self.assertIn('\n --> rows.jsonl:3:22\n  |\n3 | {"name": "A", "age": -1}\n'
+                      '  |                      ^^ /age\n', out)
+        self.write("rows.yaml", "name: A\n---\nname: B\nfriends:\n- age: 1\n  é: 1\n")
+        try:
+            out = self.run_inside("validate", "schema.json", "rows.yaml")[0]
+        except ImportError as error:
+            self.skipTest(str(error))
+        self.assertIn("\n --> rows.yaml:5:3\n  |\n5 | - age: 1\n  |   ^^^^^^ /friends/0\n", out)
+
+
+class Snippets(unittest.TestCase):
+    def shown(self, text, begin, end):
+        data = text.encode()
+        lines = Text(data)
+        at = [lines.at(len(text[:index].encode())) for index in (begin, end)]
+        return snippet(data, Range(*at))
+
+    def test_short(self):
+        self.assertEqual(self.shown("a\nbcd\ne", 3, 4), ("b", "c", "d"))
+        self.assertEqual(self.shown("a\nbcd\ne", 3, 7), ("b", "cd", ""))
+        self.assertEqual(self.shown("", 0, 0), ("", "", ""))
+        self.assertEqual(self.shown("ab\r\nc", 1, 4), ("a", "b", ""))
+        self.assertEqual(self.shown("é日\tx", 1, 2), ("é", "日", "    x"))
+        self.assertEqual(self.shown("a\x1b[2Jb\u202ec", 5, 6), ("a\\u001b[2J", "b", "\\u202ec"))
+
+    def test_long(self):
+        """Of a long line no more is looked at than is shown."""
+        for character in "x", "é", "日", "😀", "\t":
+            for begin, end in ((0, 1), (500_000, 500_003), (10, 900_000), (999_999, 1_000_000)):
+                before, meant, after = self.shown(character * 1_000_000, begin, end)
+                self.assertLessEqual(width(before + meant + after), WIDTH + 2)
+                self.assertEqual(before.startswith("…"), begin > 10, (character, begin))
+                self.assertEqual((meant + after).endswith("…"), begin < 999_999)
+
+    def test_width(self):
+        self.assertEqual([width(it) for it in ("", "abc", "é", "e\u0301", "日本")], [0, 3, 1, 1, 4])
+
+
+class Page(html.parser.HTMLParser):
+    """Reads a page; whatever is open must be closed, in order."""
+
+    def __init__(self):
+        super().__init__()
+        self.open, self.names, self.attributes = [], [], []
+
+    def handle_starttag(self, tag, attrs):
+        self.names.append(tag)
+        self.attributes += attrs
+        if tag not in VOID:
+            self.open.append(tag)
+
+    def handle_endtag(self, tag):
+        assert self.open.pop() == tag, tag
+
+
+class Html(Case):
+    def page(self, *words):
+        out, _, _ = self.run_inside("validate", "--format", "html", *words)
+        page = Page()
+        page.feed(out)
+        self.assertEqual(page.open, [])
+        return out, page
+
+    def test_self_contained(self):
+        out, page = self.page("schema.json", *ALL)
+        self.assertFalse({"script", "link", "img", "iframe", "object"} & set(page.names))
+        self.assertFalse({"src", "href", "onclick"} & {name for name, _ in page.attributes})
+        self.assertNotIn("url(", out)
+        self.assertEqual(page.attributes.count(("class", "file")), len(ALL))
+
+    def test_escapes(self):
+        self.write("<b>&.json", '{"name": "</pre><script>alert(1)</script>", "age": -1}')
+        out, page = self.page("schema.json", "<b>&.json")
+        self.assertNotIn("script", page.names)
+        self.assertIn("&lt;b&gt;&amp;.json", out)
+
+    def test_tree(self):
+        self.write("any.json", '{"anyOf": [{"type": "string"}, {"allOf": [{"minimum": 2}, {"maximum": 0}]}]}')
+        self.write("one.json", "1")
+        out, _ = self.page("any.json", "one.json")
+        keywords = re.findall('<span class="keyword">(.*?)</span>', out)
+        self.assertEqual(keywords, ["anyOf", "type", "allOf", "minimum", "maximum"])
+        self.assertEqual(out.count("<mark>1</mark>"), 4)
+
+    @unittest.skipUnless(shutil.which("chromium"), "needs chromium")
+    def test_browser(self):
+        """What a browser makes of the page: the counts come first, and a problem is below its file."""
+        out, _ = self.page("schema.json", *ALL)
+        page = self.write("page.html", out)
+        shown = run_browser(self.folder / page, "--dump-dom")
+        self.assertIn("1 valid, 2 invalid (3 errors), 1 refused, 1 failed", shown)
+        self.assertEqual(shown.count('<details class="file"'), len(ALL))
+        picture = self.folder / "page.png"
+        run_browser(self.folder / page, f"--screenshot={picture}", "--window-size=900,1200")
+        self.assertEqual(picture.read_bytes()[:8], b"\x89PNG\r\n\x1a\n")
+        self.assertGreater(picture.stat().st_size, 20_000)
+
+
+class Sarif(Case):
+    def test_results(self):
+        out, _, status = self.run_inside("validate", "--format", "sarif", "schema.json", *ALL)
+        log = json.loads(out)
+        [run] = log["runs"]
+        self.assertEqual((log["version"], status), ("2.1.0", 4))
+        driver = run["tool"]["driver"]
+        self.assertEqual((driver["name"], [it["id"] for it in driver["rules"]]),
+                         ("jschema", ["minimum", "refused/NotWhole", "type"]))
+        places = []
+        for it in run["results"]:
+            self.assertEqual(driver["rules"][it["ruleIndex"]]["id"], it["ruleId"])
+            self.assertEqual((it["level"], len(it["locations"])), ("error", 1))
+            place = it["locations"][0]["physicalLocation"]
+            places.append((place["artifactLocation"]["uri"], *place["region"].values()))
+        self.assertEqual(places, [("two.json", 3, 37, 3, 39), ("two.json", 2, 10, 2, 12), ("half.json", 2, 9, 2, 12),
+                                  ("data/sub/bob.json", 2, 2, 2, 3)])
+        related = run["results"][0]["relatedLocations"][0]["physicalLocation"]
+        self.assertEqual((related["artifactLocation"]["uri"], related["region"]),
+                         ("schema.json", {"startLine": 4, "startColumn": 54}))
+        [invocation] = run["invocations"]
+        self.assertFalse(invocation["executionSuccessful"])
+        self.assertEqual([it["message"]["text"] for it in invocation["toolExecutionNotifications"]],
+                         ["No such file or directory"])
+        self.assertEqual(run["columnKind"], "unicodeCodePoints")
+
+    def test_names(self):
+        self.write("é x.json", "1")
+        out, _, _ = self.run_inside("validate", "--format", "sarif", "string.json", "é x.json",
+                                    str(self.folder / "torn.json"))
+        uris = [it["locations"][0]["physicalLocation"]["artifactLocation"]["uri"]
+                for it in json.loads(out)["runs"][0]["results"]]
+        self.assertEqual(uris, ["%C3%A9%20x.json", (self.folder / "torn.json").as_uri()])
+
+    def test_nothing(self):
+        for words in (("validate", "schema.json", "data/ada.json"), ("lint", "schema.json")):
+            out, _, status = self.run_inside(words[0], "--format", "sarif", *words[1:])
+            [run] = json.loads(out)["runs"]
+            self.assertEqual((run["results"], run["invocations"][0]["executionSuccessful"], status), ([], True, 0))
+
+
+class Junit(Case):
+    def test_cases(self):
+        out, _, _ = self.run_inside("validate", "--format", "junit", "schema.json", *ALL)
+        [suite] = ElementTree.fromstring(out)
+        self.assertEqual([suite.get(name) for name in ("tests", "failures", "errors")], ["5", "2", "2"])
+        self.assertEqual([(case.get("name"), [it.tag for it in case]) for case in suite],
+                         list(zip(ALL, (["failure"], [], ["error"], ["error"], ["failure"]))))
+        self.assertEqual(suite[4][0].text, f"data/sub/bob.json:2:2: error: type is integer (/name; type; {NAME})\n")
+        self.assertEqual((suite[0][0].get("type"), suite[0][0].get("message")), ("minimum", "less than 0"))
+
+    def test_escapes(self):
+        self.write("<&\">.json", json.dumps({"\x00\x1b<&]]>\ufffe\n\t": 1}))
+        out, _, _ = self.run_inside("validate", "--format", "junit", "no_names.json", "<&\">.json")
+        [[case]] = ElementTree.fromstring(out)
+        self.assertEqual(case.get("name"), "<&\">.json")
+        self.assertIn("(/\ufffd\ufffd<&]]>\ufffd\n\t; propertyNames; ", case[0].text)
+
+
+class RefusedSchema(Case):
+    def test_reports(self):
+        """Whoever reads a report gets it whole, also where the schema is refused."""
+        for format, reads in (("json", json.loads), ("sarif", json.loads), ("junit", ElementTree.fromstring)):
+            out, said, status = self.run_inside("validate", "--format", format, "bad.json", "two.json")
+            reads(out)
+            self.assertIn("BadKeyword", out)
+            self.assertEqual((said.count("\n"), status), (1, 3))
+        out, _, _ = self.run_inside("validate", "--format", "html", "bad.json", "two.json")
+        Page().feed(out)
+        self.assertIn("BadKeyword", out)
+
+
+class Sources(unittest.TestCase):
+    def test_place_of_a_document(self):
+        """A refusal of a document that was never read is at its beginning."""
+        from jschema import Refused
+        source = JsonSource("json", b" no JSON", b" no JSON")
+        self.assertEqual(source.refusal(Refused("document", "BadUri", "", 0, "x")).begin[1:], (1, 2))
