@@ -13,6 +13,7 @@ from .documents import Document
 from .hover import shown
 from .keywords import names_of_keywords, values_of_keyword
 from .references import targets
+from .schemas import value_of
 from .workspace import Choice, Workspace
 
 #: The most items that are sent.
@@ -64,7 +65,7 @@ def _of_instance(workspace: Workspace, document: Document, context: Context) -> 
     if context.is_name and isinstance(present, dict) and member is not None:
         present.pop(str(member.key), None)
     for it in applied(choice, context.text, node, present):
-        schema = choice.set.resources.schema(it.location)
+        schema = choice.set.schema(it.location)
         if isinstance(schema, dict):
             yield from _names(choice, schema, it.location, present) if context.is_name else _values(schema)
 
@@ -86,9 +87,10 @@ def _names(choice: Choice, schema: dict[str, Any], location: str, present: Any) 
 def _described(choice: Choice, schema: Any, location: str) -> Any:
     """A schema; one that only refers to another with what that says."""
     if isinstance(schema, dict) and isinstance(schema.get("$ref"), str) and not {"title", "description"} & set(schema):
-        target = choice.set.resources.referred(location, schema["$ref"])
-        if isinstance(target, dict):
-            return {**target, **schema}
+        target = choice.set.referred(location, schema["$ref"])
+        referred = None if target is None else value_of(target)
+        if isinstance(referred, dict):
+            return {**referred, **schema}
     return schema
 
 

@@ -9,6 +9,7 @@ from ..locations import schema_steps
 from ..outputs import parse
 from .applied import applied
 from .documents import Document
+from .schemas import value_of
 from .tree import Node
 from .workspace import Choice, Workspace
 
@@ -45,7 +46,7 @@ def _notes(workspace: Workspace, document: Document, index: int, node: Node) -> 
             answer = None
         if answer is not None and answer.valid:
             return _annotations(parse(answer.text), node.pointer())
-    schemas = [choice.set.resources.schema(it.location) for it in applied(choice, document.text, node)]
+    schemas = [choice.set.schema(it.location) for it in applied(choice, document.text, node)]
     return [it for it in schemas if isinstance(it, dict)]
 
 
@@ -67,7 +68,7 @@ def _of_reference(workspace: Workspace, document: Document, node: Node) -> list[
     if found is None:
         return []
     target = found.target(node.pointer())
-    value = None if target is None else found.resources.value(target)
+    value = None if target is None else value_of(target)
     return [value] if isinstance(value, dict) else []
 
 

@@ -175,6 +175,7 @@ class Server:
         self._connection.notify("textDocument/publishDiagnostics", {"uri": uri, "diagnostics": []})
 
     def _files_changed(self, params: Message) -> None:
+        self._workspace.store.forget()
         self._all_pending()
 
     def _changed(self, document: Document) -> None:

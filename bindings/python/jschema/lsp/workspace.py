@@ -66,7 +66,7 @@ class Workspace:
         if named is not None:
             return _DIALECT.fullmatch(named) is not None
         path = document.path
-        return path is not None and (_SCHEMA_NAME.fullmatch(path.lower()) is not None or bool(self.store.using(path)))
+        return path is not None and (_SCHEMA_NAME.fullmatch(path.lower()) is not None or self.store.using(path))
 
     def name_of(self, document: Document) -> Optional[str]:
         """The schema that a document names itself. Of one that can't be read it is that of before."""
@@ -125,7 +125,7 @@ class Workspace:
         if path := path_of(name):
             return path
         if urlsplit(name).scheme:
-            return self.store.path_of_id(name)
+            return self.store.path_of_uri(name)
         return os.path.normpath(os.path.join(folder, unquote(name)))
 
     def _opened(self, path: str) -> Optional[Document]:
