@@ -17,7 +17,7 @@ class Client:
 
     def __init__(self, folder, *arguments):
         self.process = subprocess.Popen([sys.executable, "-m", "jschema.lsp", *arguments], cwd=folder,
-                                        stdin=subprocess.PIPE, stdout=subprocess.PIPE)
+                                        stdin=subprocess.PIPE, stdout=subprocess.PIPE, stderr=subprocess.DEVNULL)
         self.received = queue.Queue()
         self.kept = []
         self.number = 0

@@ -31,7 +31,7 @@ class Instances(Session):
     def test_missing_member(self):
         self.start()
         self.assertEqual(shown(self.open("a.person.json", ' {"friends": [{"age": 1}]}')),
-                         [(0, 14, 15, "required"), (0, 1, 2, "required")])
+                         [(0, 1, 2, "required"), (0, 14, 15, "required")])
         self.assertEqual(shown(self.open("b.person.json", '{"name": "A", "friends": {}}')), [(0, 14, 23, "type")])
 
     def test_typing(self):

@@ -51,8 +51,10 @@ def completion(workspace: Workspace, document: Document, offset: int, client: Cl
     for context in contexts(document, offset):
         found = _of_schema(workspace, document, context) if workspace.is_schema(document) \
             else _of_instance(workspace, document, context)
-        unique = {json.dumps(it.value, sort_keys=True): it for it in reversed(list(found))}
-        items += [_item(document, context, it, client) for it in reversed(unique.values())]
+        unique: dict[str, Suggestion] = {}
+        for it in found:
+            unique.setdefault(json.dumps(it.value, sort_keys=True), it)
+        items += [_item(document, context, it, client) for it in unique.values()]
     return {"isIncomplete": len(items) > MOST, "items": items[:MOST]}
 
 
@@ -60,14 +62,17 @@ def _of_instance(workspace: Workspace, document: Document, context: Context) -> 
     choice = workspace.choice_of(document)
     if not isinstance(choice, Choice):
         return
-    node, member = context.node, context.member
-    present: Any = shallow(context.text, node)
-    if context.is_name and isinstance(present, dict) and member is not None:
-        present.pop(str(member.key), None)
-    for it in applied(choice, context.text, node, present):
+    present = _present(context) if context.is_name else ...
+    for it in applied(choice, context.text, context.node, present):
         schema = choice.set.schema(it.location)
         if isinstance(schema, dict):
             yield from _names(choice, schema, it.location, present) if context.is_name else _values(schema)
+
+
+def _present(context: Context) -> dict[str, Any]:
+    """What there is of an object, without the member that is being named."""
+    named = str(context.member.key) if context.member is not None else None
+    return {name: value for name, value in shallow(context.text, context.node).items() if name != named}
 
 
 def _names(choice: Choice, schema: dict[str, Any], location: str, present: Any) -> Iterator[Suggestion]:

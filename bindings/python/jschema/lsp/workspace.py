@@ -16,6 +16,9 @@ _DIALECT = re.compile(r"https?://json-schema\.org/.*schema#?")
 _SCHEMA_NAME = re.compile(r".*[.-]schema\.(?:json|jsonc|ya?ml)")
 #: The comment in which a YAML file names its schema.
 _COMMENT = re.compile(r"^#[ \t]*(?:yaml-language-server:[ \t]*)?\$schema[=:][ \t]*(\S+)[ \t]*$", re.MULTILINE)
+# The member in which a file that can't be read names its schema, near its beginning.
+_MEMBER = re.compile(r"[\"']?\$schema[\"']?[ \t]*[:=][ \t]*[\"']?([^\"'\s,}]+)")
+_NEAR = 4096
 
 
 class Choice(NamedTuple):
@@ -69,15 +72,14 @@ class Workspace:
         return path is not None and (_SCHEMA_NAME.fullmatch(path.lower()) is not None or self.store.using(path))
 
     def name_of(self, document: Document) -> Optional[str]:
-        """The schema that a document names itself. Of one that can't be read it is that of before."""
+        """The schema that a document names itself. Of one that can't be read it is that of before, or what stands
+        where it should."""
         if document.reading().fault is None:
-            value = document.reading().value
-            named = value.get("$schema") if isinstance(value, dict) else None
-            if not isinstance(named, str):
-                found = _COMMENT.search(document.text) if document.kind in ("yaml", "toml") else None
-                named = found[1] if found else None
-            self._named[document.uri] = named
-        return self._named.get(document.uri)
+            self._named[document.uri] = _name_in(document)
+        elif self._named.get(document.uri) is None:
+            found = _MEMBER.search(document.text, 0, _NEAR)
+            self._named[document.uri] = found[1] if found else None
+        return self._named[document.uri]
 
     def choice_of(self, document: Document) -> Optional[Choice | Unknown]:
         """The schema of a document; None where nothing says which."""
@@ -130,6 +132,15 @@ class Workspace:
 
     def _opened(self, path: str) -> Optional[Document]:
         return next((it for it in self.documents.values() if it.path == path), None)
+
+
+def _name_in(document: Document) -> Optional[str]:
+    value = document.reading().value
+    named = value.get("$schema") if isinstance(value, dict) else None
+    if isinstance(named, str):
+        return named
+    found = _COMMENT.search(document.text) if document.kind in ("yaml", "toml") else None
+    return found[1] if found else None
 
 
 def place_of_name(document: Document) -> Span:
