@@ -1,0 +1,78 @@
+"""What editors of `test_editors.py` run: the page's own lines, then what a person would do."""
+
+NEOVIM = r"""
+-- (Before 0.8 there is no vim.lsp.start; it starts a client and attaches the buffer.)
+vim.lsp.start = vim.lsp.start or function(config)
+  vim.lsp.buf_attach_client(0, vim.lsp.start_client(config))
+end
+dofile("page.lua")
+local function line(name, value)
+  io.stdout:write(vim.fn.json_encode({ name, value }) .. "\n")
+end
+local function codes()
+  return vim.tbl_map(function(it) return { it.lnum, it.col, it.end_col, it.code or it.user_data.lsp.code } end,
+    vim.diagnostic.get(0))
+end
+local function wait(count)
+  vim.wait(20000, function() return #vim.diagnostic.get(0) == count end, 20)
+end
+local function ask(method)
+  local answers = vim.lsp.buf_request_sync(0, "textDocument/" .. method, vim.lsp.util.make_position_params(), 20000)
+  local _, answer = next(answers or {})
+  return answer and answer.result
+end
+vim.cmd("filetype on")
+vim.cmd("edit ada.person.json")
+wait(2)
+line("opened", codes())
+vim.api.nvim_win_set_cursor(0, { 2, 0 })
+vim.api.nvim_feedkeys(vim.api.nvim_replace_termcodes('A<BS><BS>"Ada",<Esc>', true, false, true), "xt", false)
+wait(1)
+line("typed", codes())
+vim.api.nvim_win_set_cursor(0, { 2, 3 })
+line("hover", ask("hover").contents.value)
+line("definition", #ask("definition"))
+vim.api.nvim_win_set_cursor(0, { 3, 0 })
+vim.api.nvim_feedkeys(vim.api.nvim_replace_termcodes('A, "<Esc>', true, false, true), "xt", false)
+vim.api.nvim_win_set_cursor(0, { 3, 12 })
+line("completion", vim.tbl_map(function(it) return it.label end, ask("completion").items))
+vim.cmd("qa!")
+"""
+
+EMACS = r"""
+(require 'package)
+(package-initialize)
+(require 'eglot)
+(require 'json)
+(load-file "page.el")
+(defun line (name value)
+  (princ (concat (json-encode (vector name value)) "\n")))
+(defun wait (count)
+  (let ((end (+ (float-time) 20)))
+    (while (and (< (float-time) end) (/= (length (flymake-diagnostics)) count))
+      (accept-process-output nil 0.05))))
+(defun found ()
+  (vconcat (mapcar (lambda (it) (vector (line-number-at-pos (flymake-diagnostic-beg it)) (flymake-diagnostic-text it)))
+                   (flymake-diagnostics))))
+(defun ask (method)
+  (eglot--signal-textDocument/didChange)
+  (jsonrpc-request (eglot-current-server) method (eglot--TextDocumentPositionParams)))
+(find-file "ada.person.json")
+(js-mode)
+(eglot-ensure)
+(run-hooks 'post-command-hook)
+(wait 2)
+(line "opened" (found))
+(goto-char (point-min))
+(search-forward "5")
+(replace-match "\"Ada\"")
+(eglot--signal-textDocument/didChange)
+(wait 1)
+(line "typed" (found))
+(search-backward "name")
+(line "hover" (plist-get (plist-get (ask :textDocument/hover) :contents) :value))
+(search-forward "-1")
+(insert ", \"\"")
+(backward-char)
+(line "completion" (vconcat (mapcar (lambda (it) (plist-get it :label)) (plist-get (ask :textDocument/completion) :items))))
+"""
