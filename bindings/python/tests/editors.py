@@ -74,5 +74,6 @@ EMACS = r"""
 (search-forward "-1")
 (insert ", \"\"")
 (backward-char)
-(line "completion" (vconcat (mapcar (lambda (it) (plist-get it :label)) (plist-get (ask :textDocument/completion) :items))))
+(line "completion" (vconcat (mapcar (lambda (it) (plist-get it :label))
+                                    (plist-get (ask :textDocument/completion) :items))))
 """

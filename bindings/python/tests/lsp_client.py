@@ -206,5 +206,5 @@ def position(line, character):
 
 def shown(diagnostics):
     """Diagnostics as they are compared, by their places: line, first and last character, code."""
-    return sorted((it["range"]["start"]["line"], it["range"]["start"]["character"], it["range"]["end"]["character"], it["code"])
-                  for it in diagnostics)
+    return sorted((it["range"]["start"]["line"], it["range"]["start"]["character"], it["range"]["end"]["character"],
+                   it["code"]) for it in diagnostics)

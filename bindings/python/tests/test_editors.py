@@ -91,8 +91,9 @@ class Editors(unittest.TestCase):
         self.write("page.el", block("elisp"))
         self.write("test.el", EMACS)
         said = self.run_editor("emacs", "--batch", "-l", "test.el")
-        self.assertEqual(said["opened"], [[2, "jschema [type]: type is integer"], [3, "jschema [minimum]: less than 0"]])
-        self.assertEqual(said["typed"], [[3, "jschema [minimum]: less than 0"]])
+        minimum = [3, "jschema [minimum]: less than 0"]
+        self.assertEqual(said["opened"], [[2, "jschema [type]: type is integer"], minimum])
+        self.assertEqual(said["typed"], [minimum])
         self.assertIn("As *written*.", said["hover"])
         self.assertEqual(said["completion"], ["colour", "address", "friends"])
 

@@ -56,14 +56,16 @@ class Hover(Session):
     def test_names_are_not_values(self):
         """A schema of names doesn't say what the value is."""
         self.start()
-        self.write("names.json", json.dumps({"propertyNames": {"title": "A name"}, "properties": {"a": {"title": "A"}}}))
+        schema = {"propertyNames": {"title": "A name"}, "properties": {"a": {"title": "A"}}}
+        self.write("names.json", json.dumps(schema))
         self.assertEqual(self.hover('{"$schema": "names.json", "a|": 1}', "b.json"), "**A**")
 
     def test_reference(self):
         self.start()
-        self.open("person.schema.json", PERSON)
-        self.assertEqual(self.hover(PERSON.replace("#/$defs/age", "#/$d|efs/age"), "person.schema.json"), AGE)
-        self.assertEqual(self.hover(PERSON.replace('"address.s', '"|address.s'), "person.schema.json"), "Where a letter goes")
+        name = "person.schema.json"
+        self.open(name, PERSON)
+        self.assertEqual(self.hover(PERSON.replace("#/$defs/age", "#/$d|efs/age"), name), AGE)
+        self.assertEqual(self.hover(PERSON.replace('"address.s', '"|address.s'), name), "Where a letter goes")
 
     @unittest.skipUnless(yaml, "PyYAML isn't installed")
     def test_yaml(self):
@@ -104,7 +106,8 @@ class Completion(Session):
     def test_values(self):
         self.start()
         for text, labels in (('{"colour": |}', ["red", "green", "null"]), ('{"colour": "r|', ["red", "green", "null"]),
-                             ('{"address": {"city": |', ["Łódź"]), ('{"age": |}', ["1"]), ('{"name": |', ["Ada", "Bob"]),
+                             ('{"address": {"city": |', ["Łódź"]), ('{"age": |}', ["1"]),
+                             ('{"name": |', ["Ada", "Bob"]),
                              ('{"colour": "red"|}', ["red", "green", "null"]), ('{"friends": [|]}', []),
                              ('{"x": |}', [])):
             with self.subTest(text):
@@ -113,9 +116,11 @@ class Completion(Session):
     def test_what_is_inserted(self):
         self.start()
         for text, label, after in (
-                ("{|}", "name", '{"name": "$1"}'), ('{"na|"}', "name", '{"name": "$1"}'), ("{na|}", "name", '{"name": "$1"}'),
+                ("{|}", "name", '{"name": "$1"}'), ('{"na|"}', "name", '{"name": "$1"}'),
+                ("{na|}", "name", '{"name": "$1"}'),
                 ('{| "age": 1}', "friends", '{"friends": [$1], "age": 1}'), ('{"n|": 5}', "name", '{"name": 5}'),
-                ("{|}", "age", '{"age": 1}'), ("{|}", "address", '{"address": {$1}}'), ("{|}", "colour", '{"colour": $1}'),
+                ("{|}", "age", '{"age": 1}'), ("{|}", "address", '{"address": {$1}}'),
+                ("{|}", "colour", '{"colour": $1}'),
                 ('{"colour": "r|"}', "green", '{"colour": "green"}'), ('{"colour": nu|}', "red", '{"colour": "red"}')):
             with self.subTest(text, label=label):
                 self.assertEqual(self.inserted(text, label), after)
@@ -165,8 +170,10 @@ class Completion(Session):
         self.start()
         others = ["age", "colour", "address", "friends"]
         for text, labels in (("|", ["name", *others]), ("name: A\n|", others), ("name: A\nag|", others),
-                             ("name: A\ncolour: |\nage: 1", ["red", "green", "null"]), ("colour: r|ed # x", ["red", "green", "null"]),
-                             ("name: A\naddress:\n  |\nage: 1\n", ["street", "city"]), ("friends:\n  - na|\n", ["name", *others]),
+                             ("name: A\ncolour: |\nage: 1", ["red", "green", "null"]),
+                             ("colour: r|ed # x", ["red", "green", "null"]),
+                             ("name: A\naddress:\n  |\nage: 1\n", ["street", "city"]),
+                             ("friends:\n  - na|\n", ["name", *others]),
                              ("friends:\n  - name: B\n    |\n", others), ("name: |", ["Ada", "Bob"])):
             with self.subTest(text):
                 self.assertEqual(self.labels(text, "a.person.yaml"), labels)
@@ -218,7 +225,8 @@ class Symbols(Session):
     def test_json(self):
         self.start()
         found = self.symbols("a.json", '{"a": [1, true],\n "é\U0001f600": {"": null}, "c": "x"')
-        self.assertEqual(self.outline(found), [("a", 18, [("0", 16), ("1", 17)]), ("é\U0001f600", 19, [('""', 21)]), ("c", 15)])
+        self.assertEqual(self.outline(found),
+                         [("a", 18, [("0", 16), ("1", 17)]), ("é\U0001f600", 19, [('""', 21)]), ("c", 15)])
         self.assertEqual(found[1]["range"], {"start": position(1, 1), "end": position(1, 18)})
         self.assertEqual(found[1]["selectionRange"], {"start": position(1, 1), "end": position(1, 6)})
         self.assertEqual(found[2]["detail"], '"x"')
@@ -226,6 +234,7 @@ class Symbols(Session):
     @unittest.skipUnless(yaml, "PyYAML isn't installed")
     def test_yaml(self):
         self.start()
-        self.assertEqual(self.outline(self.symbols("a.yaml", "a:\n- 1\n- x\n", "yaml")), [("a", 18, [("0", 16), ("1", 15)])])
+        self.assertEqual(self.outline(self.symbols("a.yaml", "a:\n- 1\n- x\n", "yaml")),
+                         [("a", 18, [("0", 16), ("1", 15)])])
         self.assertEqual(self.outline(self.symbols("b.yaml", "a: 1\n---\n2\n", "yaml")),
                          [("document 1", 19, [("a", 16)]), ("document 2", 16)])

@@ -36,7 +36,8 @@ class Associations(Session):
             {"fileMatch": ["bool.*"], "schema": False}])
         for name, codes in (("config/a.json", ["type"]), ("x/config/a.json", ["type"]), ("config/b/a.json", []),
                             ("config/not.json", []), ("deep/x.json", ["type"]), ("deep/a/b/x.json", ["type"]),
-                            ("a1.txt", ["type"]), ("c1.txt", ["additionalProperties"]), ("bool.x", ["false"]), ("none.json", [])):
+                            ("a1.txt", ["type"]), ("c1.txt", ["additionalProperties"]),
+                            ("bool.x", ["false"]), ("none.json", [])):
             with self.subTest(name):
                 self.assertEqual(self.codes(name), codes)
 
@@ -75,7 +76,8 @@ class SettingsFile(Session):
     def test_file(self):
         """Its paths start from its folder, and the client's settings count before it."""
         self.write("config/lsp.json", json.dumps({"schemas": [
-            {"fileMatch": ["*.a.json"], "schema": "../person.schema.json"}, {"fileMatch": ["*.b.json"], "schema": False}]}))
+            {"fileMatch": ["*.a.json"], "schema": "../person.schema.json"},
+            {"fileMatch": ["*.b.json"], "schema": False}]}))
         self.start(schemas=[{"fileMatch": ["*.b.json"], "schema": True}])
         self.assertEqual([it["code"] for it in self.open("x.a.json", "{}")], ["required"])
         self.assertEqual(self.open("x.b.json", "{}"), [])

@@ -1,5 +1,5 @@
-"""Which schemas apply at a value, by the validator's `verbose` output: also in a document that is invalid, or that isn't
-finished."""
+"""Which schemas apply at a value, by the validator's `verbose` output; also where a document is invalid, or isn't whole.
+"""
 from __future__ import annotations
 
 import json

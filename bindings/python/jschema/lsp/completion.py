@@ -20,6 +20,8 @@ from .workspace import Choice, Workspace
 MOST = 500
 _PROPERTY, _VALUE, _REFERENCE = 10, 12, 18
 _PLAIN, _SNIPPET = 1, 2
+# The values of types that have few.
+_OF_TYPES: dict[str, tuple[Any, ...]] = {"boolean": (True, False), "null": (None,)}
 _DEPRECATED = 1
 # A scalar that YAML reads as the string that it looks like.
 _BARE = re.compile(r"(?!(?:null|Null|NULL|true|True|TRUE|false|False|FALSE)$)[A-Za-z_/$][\w./$-]*(?: [\w./$-]+)*")
@@ -112,7 +114,7 @@ def _values(schema: dict[str, Any]) -> Iterator[Suggestion]:
     if "const" not in schema and "enum" not in schema:
         types = schema.get("type")
         for kind in types if isinstance(types, list) else [types]:
-            yield from (Suggestion(it, _VALUE, schema) for it in {"boolean": (True, False), "null": (None,)}.get(kind, ()))
+            yield from (Suggestion(it, _VALUE, schema) for it in _OF_TYPES.get(str(kind), ()))
 
 
 def _of_schema(workspace: Workspace, document: Document, context: Context) -> Iterator[Suggestion]:
@@ -134,7 +136,9 @@ def _item(document: Document, context: Context, it: Suggestion, client: Client) 
     """A suggestion as the protocol has it."""
     is_yaml = document.kind == "yaml"
     label = it.value if isinstance(it.value, str) else json.dumps(it.value, ensure_ascii=False)
-    text, is_snippet = _name_text(document, context, it, client) if context.is_name else (_written(it.value, is_yaml), False)
+    text, is_snippet = _written(it.value, is_yaml), False
+    if context.is_name:
+        text, is_snippet = _name_text(document, context, it, client)
     item: dict[str, Any] = {
         "label": label, "kind": it.kind, "filterText": _written(it.value, is_yaml),
         "sortText": ("0" if it.is_required else "1") + label,

@@ -55,7 +55,7 @@ def _annotations(output: dict[str, Any], location: str) -> list[dict[str, Any]]:
     found: dict[str, dict[str, Any]] = {}
     for unit in output.get("annotations", ()):
         steps = schema_steps(unit["keywordLocation"])
-        names = [step.token for step in steps if step.is_keyword]
+        names = [str(step.token) for step in steps if step.is_keyword]
         if unit["instanceLocation"] == location and names and names[-1] in _WORDS and "propertyNames" not in names:
             schema = unit["keywordLocation"].rpartition("/")[0]
             found.setdefault(schema, {})[names[-1]] = unit["annotation"]

@@ -2,6 +2,7 @@
 from __future__ import annotations
 
 from collections.abc import Sequence
+from typing import Union
 
 from ..dialects import KEYWORDS, LATEST
 from ..locations import LISTS, OBJECTS
@@ -9,8 +10,10 @@ from ..resources import SCHEMAS
 
 DIALECT = "https://json-schema.org/draft/2020-12/schema"
 TYPES = ("array", "boolean", "integer", "null", "number", "object", "string")
-_VALUES = {"type": TYPES, "$schema": (DIALECT,), "uniqueItems": (True, False), "deprecated": (True, False),
-           "readOnly": (True, False), "writeOnly": (True, False)}
+_EITHER = (True, False)
+_VALUES: dict[str, Sequence[Union[str, bool]]] = {
+    "type": TYPES, "$schema": (DIALECT,), "uniqueItems": _EITHER, "deprecated": _EITHER, "readOnly": _EITHER,
+    "writeOnly": _EITHER}
 
 
 def is_schema(tokens: Sequence[str]) -> bool:

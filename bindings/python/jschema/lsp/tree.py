@@ -21,8 +21,7 @@ _TOKEN = re.compile(
 _OPENINGS = {"{": "object", "[": "array"}
 _CLOSINGS = {"}": "object", "]": "array"}
 _WORDS = {"true": "boolean", "false": "boolean", "null": "null"}
-# The kinds of values by their content, and of scalars by how their JSON text begins.
-_KINDS = {dict: "object", list: "array"}
+# The kinds of scalars by how their JSON text begins.
 _SCALARS = {'"': "string", "t": "boolean", "f": "boolean", "n": "null"}
 
 
@@ -123,11 +122,13 @@ def _converted(root: sources.Node, characters: Characters) -> Node:
 
 
 def _begun(source: sources.Node, characters: Characters, key: Key, name: Optional[Span]) -> Node:
-    kind = _KINDS.get(type(source.content)) or _SCALARS.get(str(source.content)[:1], "number")
-    node = Node(kind, characters.at(source.begin), characters.at(source.end), key, name)
-    if isinstance(source.content, str):
-        node.scalar = source.content
-    return node
+    content = source.content
+    if isinstance(content, str):
+        node = Node(_SCALARS.get(content[:1], "number"), characters.at(source.begin), characters.at(source.end), key, name)
+        node.scalar = content
+        return node
+    kind = "object" if isinstance(content, dict) else "array"
+    return Node(kind, characters.at(source.begin), characters.at(source.end), key, name)
 
 
 class _Reader:
