@@ -50,8 +50,8 @@ class Recipes(unittest.TestCase):
 
     def run_words(self, *words, cwd="."):
         """What a command writes, and its exit status."""
-        done = subprocess.run(words, cwd=self.folder / cwd, check=False, env=self.environment, encoding="utf-8",
-                              stdin=subprocess.DEVNULL, stdout=subprocess.PIPE, stderr=subprocess.STDOUT, timeout=SECONDS)
+        done = subprocess.run(words, cwd=self.folder / cwd, check=False, env=self.environment, stdin=subprocess.DEVNULL,
+                              stdout=subprocess.PIPE, stderr=subprocess.STDOUT, encoding="utf-8", timeout=SECONDS)
         return done.stdout, done.returncode
 
     def run_all(self, lines):
@@ -97,7 +97,8 @@ class Recipes(unittest.TestCase):
         out += self.run_words("jschema-lint", "--format", "short", "schemas/odd.schema.json")[0]
         found = [[it[pattern[name]] for name in ("file", "line", "column", "severity")] for line in out.splitlines()
                  if (it := re.match(pattern["regexp"], line))]
-        self.assertEqual(found, [["people/ada.json", "1", "24", None], ["schemas/odd.schema.json", "2", "2", "warning"]])
+        self.assertEqual(found, [["people/ada.json", "1", "24", None],
+                                 ["schemas/odd.schema.json", "2", "2", "warning"]])
 
     @installed("pre-commit")
     @installed("git")
@@ -109,7 +110,8 @@ class Recipes(unittest.TestCase):
         for words in (["init", "-q"], ["add", "-A"], ["commit", "-qm", "hooks"], ["tag", "v0.1.0"]):
             self.assertEqual(self.run_words("git", *words, cwd="hooks"), ("", 0))
         config = next(it for it in blocks("yaml") if it.startswith("repos:"))
-        self.write(".pre-commit-config.yaml", config.replace("https://example.com/jschema.git", str(self.folder / "hooks")))
+        hooks = str(self.folder / "hooks")
+        self.write(".pre-commit-config.yaml", config.replace("https://example.com/jschema.git", hooks))
         self.run_words("git", "init", "-q")
         self.run_words("git", "add", "people", "schemas", ".pre-commit-config.yaml")
         out, status = self.run_words("pre-commit", "run", "--all-files")

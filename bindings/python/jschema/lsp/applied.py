@@ -1,5 +1,4 @@
-"""Which schemas apply at a value, by the validator's `verbose` output; also where a document is invalid, or isn't whole.
-"""
+"""Which schemas apply at a value, by the `verbose` output: also where a document is invalid, or unfinished."""
 from __future__ import annotations
 
 import json

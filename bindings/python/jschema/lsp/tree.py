@@ -123,12 +123,12 @@ def _converted(root: sources.Node, characters: Characters) -> Node:
 
 def _begun(source: sources.Node, characters: Characters, key: Key, name: Optional[Span]) -> Node:
     content = source.content
-    if isinstance(content, str):
-        node = Node(_SCALARS.get(content[:1], "number"), characters.at(source.begin), characters.at(source.end), key, name)
-        node.scalar = content
-        return node
-    kind = "object" if isinstance(content, dict) else "array"
-    return Node(kind, characters.at(source.begin), characters.at(source.end), key, name)
+    begin, end = characters.at(source.begin), characters.at(source.end)
+    if not isinstance(content, str):
+        return Node("object" if isinstance(content, dict) else "array", begin, end, key, name)
+    node = Node(_SCALARS.get(content[:1], "number"), begin, end, key, name)
+    node.scalar = content
+    return node
 
 
 class _Reader:
