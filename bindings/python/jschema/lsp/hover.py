@@ -54,11 +54,11 @@ def _annotations(output: dict[str, Any], location: str) -> list[dict[str, Any]]:
     """The annotations at a location, of each schema together."""
     found: dict[str, dict[str, Any]] = {}
     for unit in output.get("annotations", ()):
-        steps = schema_steps(unit["keywordLocation"])
-        names = [str(step.token) for step in steps if step.is_keyword]
-        if unit["instanceLocation"] == location and names and names[-1] in _WORDS and "propertyNames" not in names:
-            schema = unit["keywordLocation"].rpartition("/")[0]
-            found.setdefault(schema, {})[names[-1]] = unit["annotation"]
+        schema, _, name = unit["keywordLocation"].rpartition("/")
+        if unit["instanceLocation"] == location and name in _WORDS:
+            names = [step.token for step in schema_steps(unit["keywordLocation"]) if step.is_keyword]
+            if names[-1:] == [name] and "propertyNames" not in names:
+                found.setdefault(schema, {})[name] = unit["annotation"]
     return list(found.values())
 
 

@@ -15,7 +15,7 @@ Key = Union[str, int, None]
 
 _TOKEN = re.compile(
     r'(?P<mark>[{}\[\],:])'
-    r'|(?P<string>"(?:[^"\\\n\r]|\\[^\n\r])*(?P<close>"?))'
+    r'|(?P<string>"(?:[^"\\\n\r]|\\[^\n\r]?)*(?P<close>"?))'
     r'|(?P<comment>//[^\n\r]*|/\*.*?(?:\*/|\Z))'
     r'|(?P<word>[^\s{}\[\],:"]+)', re.DOTALL)
 _OPENINGS = {"{": "object", "[": "array"}
@@ -214,6 +214,8 @@ class _Reader:
 
 def string_value(token: str) -> str:
     """The string of a token, which may lack its last quote, or have escapes that JSON doesn't."""
+    if "\\" not in token:
+        return token.strip('"')
     whole = token if len(token) > 1 and token.endswith('"') else token + '"'
     try:
         value = json.loads(whole, strict=False)
