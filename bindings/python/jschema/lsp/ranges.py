@@ -86,5 +86,8 @@ class Lines:
 
 def path_of(uri: str) -> Optional[str]:
     """The path of a file URL; None for any other."""
-    split = urlsplit(uri)
+    try:
+        split = urlsplit(uri)
+    except ValueError:
+        return None
     return os.path.normpath(unquote(split.path)) if split.scheme == "file" and split.path else None

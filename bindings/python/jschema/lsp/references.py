@@ -34,7 +34,10 @@ def targets(workspace: Workspace, document: Document, context: Context) -> Itera
         root = root.parent
     found = workspace.set_of_schema(document)
     uri = document.uri if found is None else found.entry
-    typed = resources.document(uri, read(json.dumps(whole(context.text, root)).encode(), "json")[0])
+    try:
+        typed = resources.document(uri, read(json.dumps(whole(context.text, root)).encode(), "json")[0])
+    except (ValueError, RecursionError):
+        return
     tokens = tuple(context.node.tokens()[:-1])
     base = next((it.base for it in typed.schemas if it.tokens == tokens), uri)
     for it in [typed, *(found.resources[1:] if found is not None else ())]:

@@ -81,7 +81,7 @@ class SchemaSet:
     def target(self, place: str) -> Optional[Target]:
         """What the reference that stands at a pointer of the first document leads to."""
         tokens = tuple(steps(place))
-        for schema in self.resources[0].schemas if self.resources else ():
+        for schema in self.resources[0].schemas if self.resources and tokens else ():
             if schema.tokens == tokens[:-1]:
                 reference = dict(schema.references()).get(tokens[-1])
                 return None if reference is None else self.find(joined(schema.base, reference))

@@ -5,13 +5,14 @@ import os
 import re
 from collections.abc import Iterable
 from typing import NamedTuple, Optional
-from urllib.parse import unquote, urldefrag, urlsplit
+from urllib.parse import unquote
 
 from .documents import Document
 from .ranges import Span, path_of
 from .schemas import SchemaSet, Store
 from .settings import Named, Settings
 
+_SCHEME = re.compile("[A-Za-z][A-Za-z0-9+.-]+:")
 _DIALECT = re.compile(r"https?://json-schema\.org/.*schema#?")
 _SCHEMA_NAME = re.compile(r".*[.-]schema\.(?:json|jsonc|ya?ml)")
 #: The comment in which a YAML file names its schema.
@@ -97,12 +98,12 @@ class Workspace:
         if not isinstance(named, str):
             made = self.store.set_of_value(named, folder)
             return Choice(made, made.entry)
-        name, fragment = urldefrag(named)
+        name, mark, fragment = named.partition("#")
         path = self._path(name, folder)
         found = None if path is None else self.store.set_of(path)
         if found is None:
             return Unknown(named)
-        return Choice(found, f"{urldefrag(found.entry).url}#{fragment}" if fragment else found.entry)
+        return Choice(found, f"{found.entry.partition('#')[0]}#{fragment}" if mark else found.entry)
 
     def set_of_schema(self, document: Document) -> Optional[SchemaSet]:
         """The set of a document that is a schema itself."""
@@ -126,7 +127,7 @@ class Workspace:
     def _path(self, name: str, folder: str) -> Optional[str]:
         if path := path_of(name):
             return path
-        if urlsplit(name).scheme:
+        if _SCHEME.match(name):
             return self.store.path_of_uri(name)
         return os.path.normpath(os.path.join(folder, unquote(name)))
 
