@@ -69,6 +69,7 @@ RUN_BY = {
     "(cd bindings/javascript && npm pack)": Step("bindings/javascript/test --build"),
     "tools/install ~/.local": Step("tests/scripts/test_install"),
     "pip install ./bindings/python": Step("bindings/python/test"),
+    "pip install './bindings/python[yaml]'": Step("bindings/python/test"),
     "PYTHONPATH=bindings/python python3 examples/dask_validate.py --schema examples/person.schema.json --workers 2 "
     "examples/ada.json": Step("bindings/python/test"),
 }

@@ -17,7 +17,7 @@ class Client:
 
     def __init__(self, folder, *arguments):
         self.process = subprocess.Popen([sys.executable, "-m", "jschema.lsp", *arguments], cwd=folder,
-                                        stdin=subprocess.PIPE, stdout=subprocess.PIPE)
+                                        stdin=subprocess.PIPE, stdout=subprocess.PIPE, stderr=subprocess.DEVNULL)
         self.received = queue.Queue()
         self.kept = []
         self.number = 0
@@ -205,6 +205,6 @@ def position(line, character):
 
 
 def shown(diagnostics):
-    """Diagnostics as they are compared: line, first and last character, code."""
-    return [(it["range"]["start"]["line"], it["range"]["start"]["character"], it["range"]["end"]["character"], it["code"])
-            for it in diagnostics]
+    """Diagnostics as they are compared, by their places: line, first and last character, code."""
+    return sorted((it["range"]["start"]["line"], it["range"]["start"]["character"], it["range"]["end"]["character"],
+                   it["code"]) for it in diagnostics)

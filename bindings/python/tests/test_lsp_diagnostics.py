@@ -11,16 +11,19 @@ except ImportError:
 
 TWO = '{"name": "\U0001f600", "age": -1,\n "address": {"street": 1, "zip": "é"}}'
 
+STREET = [(1, 23, 24, "type"), (1, 26, 31, "additionalProperties")]
+
 
 class Instances(Session):
     def test_errors(self):
         """Scalars are underlined; of arrays and objects the name, or where they begin; columns count UTF-16 units."""
         self.start()
         found = self.open("a.person.json", TWO)
-        self.assertEqual(shown(found), [(1, 23, 24, "type"), (1, 26, 31, "false"), (0, 23, 25, "minimum")])
+        self.assertEqual(shown(found), [(0, 22, 24, "minimum"), *STREET])
         self.assertEqual({it["source"] for it in found}, {"jschema"})
-        self.assertEqual(found[2]["message"], "less than 0")
-        [related] = found[2]["relatedInformation"]
+        [found] = [it for it in found if it["code"] == "minimum"]
+        self.assertEqual(found["message"], "less than 0")
+        [related] = found["relatedInformation"]
         self.assertEqual(related["location"]["uri"], self.uri("person.schema.json"))
         line = PERSON.split("\n")[related["location"]["range"]["start"]["line"]]
         self.assertEqual(line[related["location"]["range"]["start"]["character"]:][:9], '"minimum"')
@@ -28,30 +31,27 @@ class Instances(Session):
     def test_missing_member(self):
         self.start()
         self.assertEqual(shown(self.open("a.person.json", ' {"friends": [{"age": 1}]}')),
-                         [(0, 14, 15, "required"), (0, 1, 2, "required")])
+                         [(0, 1, 2, "required"), (0, 14, 15, "required")])
         self.assertEqual(shown(self.open("b.person.json", '{"name": "A", "friends": {}}')), [(0, 14, 23, "type")])
 
     def test_typing(self):
         self.start()
         self.open("a.person.json", TWO)
-        self.assertEqual(shown(self.replace("a.person.json", (0, 24), (0, 25), "5")),
-                         [(1, 23, 24, "type"), (1, 26, 31, "false"), (0, 23, 25, "minimum")])
-        self.assertEqual(shown(self.replace("a.person.json", (0, 23), (0, 24), "")),
-                         [(1, 23, 24, "type"), (1, 26, 31, "false")])
-        self.assertEqual(shown(self.replace("a.person.json", (1, 0), (1, 0), "\n\n")),
-                         [(3, 23, 24, "type"), (3, 26, 31, "false")])
+        self.assertEqual(shown(self.replace("a.person.json", (0, 23), (0, 24), "5")), [(0, 22, 24, "minimum"), *STREET])
+        self.assertEqual(shown(self.replace("a.person.json", (0, 22), (0, 23), "")), STREET)
+        self.assertEqual(shown(self.replace("a.person.json", (0, 9), (0, 9), "\n\n")),
+                         [(line + 2, *others) for line, *others in STREET])
 
     def test_broken(self):
         """A text that isn't JSON has the place of that, and the last diagnostics, which move with the text."""
         self.start()
         self.open("a.person.json", TWO)
-        self.assertEqual(shown(self.replace("a.person.json", (0, 0), (0, 1), "\n [")),
-                         [(1, 8, 9, "syntax"), (2, 23, 24, "type"), (2, 26, 31, "false"), (1, 24, 26, "minimum")])
-        self.assertEqual(shown(self.replace("a.person.json", (1, 1), (1, 2), "{")),
-                         [(2, 23, 24, "type"), (2, 26, 31, "false"), (1, 24, 26, "minimum")])
+        moved = [(1, 23, 25, "minimum"), *((line + 1, *others) for line, *others in STREET)]
+        self.assertEqual(shown(self.replace("a.person.json", (0, 0), (0, 1), "\n [")), [(1, 8, 9, "syntax"), *moved])
+        self.assertEqual(shown(self.replace("a.person.json", (1, 1), (1, 2), "{")), moved)
         found = self.replace("a.person.json", (2, 0), (2, 0), "{")
-        self.assertEqual((shown(found)[0], found[0]["message"]),
-                         ((2, 0, 1, "syntax"), "expecting property name enclosed in double quotes"))
+        self.assertEqual(found[0]["message"], "expecting property name enclosed in double quotes")
+        self.assertEqual((len(found), shown(found[:1])), (4, [(2, 0, 1, "syntax")]))
 
     def test_not_json(self):
         """What only the validator refuses, and what Python reads beyond JSON."""
@@ -89,7 +89,7 @@ class Yaml(Session):
     def test_errors(self):
         self.start()
         found = self.open("a.person.yaml", "name: é\nage: -1\naddress:\n  street: 1\n  zip: é\n", "yaml")
-        self.assertEqual(shown(found), [(3, 10, 11, "type"), (4, 2, 5, "false"), (1, 5, 7, "minimum")])
+        self.assertEqual(shown(found), [(1, 5, 7, "minimum"), (3, 10, 11, "type"), (4, 2, 5, "additionalProperties")])
 
     def test_documents(self):
         self.start()
@@ -99,8 +99,8 @@ class Yaml(Session):
     def test_broken(self):
         self.start()
         self.open("a.person.yaml", "name: A\nage: -1\n", "yaml")
-        found = shown(self.replace("a.person.yaml", (0, 0), (0, 0), "x\n"))
-        self.assertEqual((found[0][-1], found[1:]), ("syntax", [(2, 5, 7, "minimum")]))
+        found = self.replace("a.person.yaml", (0, 0), (0, 0), "x\n")
+        self.assertEqual((found[0]["code"], shown(found[1:])), ("syntax", [(2, 5, 7, "minimum")]))
 
     def test_schema_in_a_comment(self):
         self.start()

@@ -4,7 +4,8 @@ import time
 
 from lsp_client import SECONDS, Session
 
-CANCELLED, NO_METHOD, BAD_PARAMS, BAD_REQUEST, NOT_INITIALIZED, NOT_JSON = -32800, -32601, -32602, -32600, -32002, -32700
+CANCELLED, NOT_INITIALIZED, NOT_JSON = -32800, -32002, -32700
+BAD_REQUEST, NO_METHOD, BAD_PARAMS = -32600, -32601, -32602
 LARGE = json.dumps({"rows": [{"id": number, "tags": ["a", {"b": None}]} for number in range(5000)]}, indent=1)
 
 
@@ -63,7 +64,8 @@ class Requests(Session):
         self.open("large.json", LARGE)
         document = {"textDocument": {"uri": self.uri("large.json")}}
         method = "textDocument/documentSymbol"
-        messages = [{"id": "a", "method": method, "params": document}, {"id": "b", "method": method, "params": document},
+        messages = [{"id": "a", "method": method, "params": document},
+                    {"id": "b", "method": method, "params": document},
                     {"method": "$/cancelRequest", "params": {"id": "b"}}]
         self.client.send_bytes(b"".join(self.client.framed(it) for it in messages))
         self.assertEqual(self.client.response("b")["error"]["code"], CANCELLED)

@@ -1,5 +1,4 @@
-"""Which schemas apply at a value, by the validator's `verbose` output: also in a document that is invalid, or that isn't
-finished."""
+"""Which schemas apply at a value, by the `verbose` output: also where a document is invalid, or unfinished."""
 from __future__ import annotations
 
 import json
@@ -29,21 +28,25 @@ class Applied(NamedTuple):
     valid: bool
 
 
-def applied(choice: Choice, text: str, node: Node, value: Any = ...) -> list[Applied]:
-    """The schemas that apply at a value of a text. `value` is what is to stand there instead."""
+def applied(choice: Choice, text: str, node: Node, present: Any = ...) -> list[Applied]:
+    """The schemas that apply at a value of a text. Of alternatives that what stands elsewhere rules out there are none.
+
+    `present` is what there is of an object that is being written: then it rules alternatives out too.
+    """
     schemas = choice.set.schemas
     if schemas is None:
         return []
-    sketch, location = _sketch(text, node, value)
+    sketch, location = _sketch(text, node, present)
     try:
         answer = schemas.check(choice.entry, json.dumps(sketch).encode(), "verbose")
     except Refused:
         return []
-    return list(dict.fromkeys(_walk(parse(answer.text), location)))
+    return list(dict.fromkeys(_walk(parse(answer.text), location, present is ...)))
 
 
-def _walk(root: dict[str, Any], location: str) -> Iterator[Applied]:
-    """The schemas that apply at a location. In a result nodes of schemas and of keywords take turns."""
+def _walk(root: dict[str, Any], location: str, is_open: bool) -> Iterator[Applied]:
+    """The schemas that apply at a location, whose value is open if it may be another. In a result nodes of schemas and
+    of keywords take turns."""
     waiting = [root]
     while waiting:
         schema = waiting.pop()
@@ -53,7 +56,7 @@ def _walk(root: dict[str, Any], location: str) -> Iterator[Applied]:
             name = _name(keyword)
             below = [it for it in _nodes(keyword) if _leads_to(it["instanceLocation"], location)]
             if name in _CHOICES:
-                below = [it for it in below if not _contradicts(it, location)] or below
+                below = [it for it in below if not _is_ruled_out(it, location, is_open)] or below
             if name not in _CONDITIONS:
                 waiting += reversed(below)
 
@@ -72,16 +75,15 @@ def _leads_to(above: str, location: str) -> bool:
     return location == above or location.startswith(above + "/")
 
 
-def _contradicts(schema: dict[str, Any], location: str) -> bool:
-    """Whether what stands beside the location rules a schema out, whatever is added at it."""
+def _is_ruled_out(schema: dict[str, Any], location: str, is_open: bool) -> bool:
+    """Whether a schema can't be met, whatever is added at a location, or stands there if that is open."""
     waiting = [schema]
     while waiting:
         node = waiting.pop()
-        if node["valid"] and node is not schema:
-            continue
-        if "error" in node and _name(node) not in _ADDABLE and not _leads_to(location, node["instanceLocation"]):
+        at = node["instanceLocation"]
+        if "error" in node and not (is_open and _leads_to(location, at)) and _name(node) not in _ADDABLE:
             return True
-        waiting += _nodes(node)
+        waiting += node.get("errors", ())
     return False
 
 

@@ -13,12 +13,15 @@ from .documents import Document
 from .hover import shown
 from .keywords import names_of_keywords, values_of_keyword
 from .references import targets
+from .schemas import value_of
 from .workspace import Choice, Workspace
 
 #: The most items that are sent.
 MOST = 500
 _PROPERTY, _VALUE, _REFERENCE = 10, 12, 18
 _PLAIN, _SNIPPET = 1, 2
+# The values of types that have few.
+_OF_TYPES: dict[str, tuple[Any, ...]] = {"boolean": (True, False), "null": (None,)}
 _DEPRECATED = 1
 # A scalar that YAML reads as the string that it looks like.
 _BARE = re.compile(r"(?!(?:null|Null|NULL|true|True|TRUE|false|False|FALSE)$)[A-Za-z_/$][\w./$-]*(?: [\w./$-]+)*")
@@ -50,8 +53,10 @@ def completion(workspace: Workspace, document: Document, offset: int, client: Cl
     for context in contexts(document, offset):
         found = _of_schema(workspace, document, context) if workspace.is_schema(document) \
             else _of_instance(workspace, document, context)
-        unique = {json.dumps(it.value, sort_keys=True): it for it in reversed(list(found))}
-        items += [_item(document, context, it, client) for it in reversed(unique.values())]
+        unique: dict[str, Suggestion] = {}
+        for it in found:
+            unique.setdefault(json.dumps(it.value, sort_keys=True), it)
+        items += [_item(document, context, it, client) for it in unique.values()]
     return {"isIncomplete": len(items) > MOST, "items": items[:MOST]}
 
 
@@ -59,14 +64,17 @@ def _of_instance(workspace: Workspace, document: Document, context: Context) -> 
     choice = workspace.choice_of(document)
     if not isinstance(choice, Choice):
         return
-    node, member = context.node, context.member
-    present: Any = shallow(context.text, node)
-    if context.is_name and isinstance(present, dict) and member is not None:
-        present.pop(str(member.key), None)
-    for it in applied(choice, context.text, node, present):
-        schema = choice.set.resources.schema(it.location)
+    present = _present(context) if context.is_name else ...
+    for it in applied(choice, context.text, context.node, present):
+        schema = choice.set.schema(it.location)
         if isinstance(schema, dict):
             yield from _names(choice, schema, it.location, present) if context.is_name else _values(schema)
+
+
+def _present(context: Context) -> dict[str, Any]:
+    """What there is of an object, without the member that is being named."""
+    named = str(context.member.key) if context.member is not None else None
+    return {name: value for name, value in shallow(context.text, context.node).items() if name != named}
 
 
 def _names(choice: Choice, schema: dict[str, Any], location: str, present: Any) -> Iterator[Suggestion]:
@@ -86,9 +94,10 @@ def _names(choice: Choice, schema: dict[str, Any], location: str, present: Any) 
 def _described(choice: Choice, schema: Any, location: str) -> Any:
     """A schema; one that only refers to another with what that says."""
     if isinstance(schema, dict) and isinstance(schema.get("$ref"), str) and not {"title", "description"} & set(schema):
-        target = choice.set.resources.referred(location, schema["$ref"])
-        if isinstance(target, dict):
-            return {**target, **schema}
+        target = choice.set.referred(location, schema["$ref"])
+        referred = None if target is None else value_of(target)
+        if isinstance(referred, dict):
+            return {**referred, **schema}
     return schema
 
 
@@ -105,7 +114,7 @@ def _values(schema: dict[str, Any]) -> Iterator[Suggestion]:
     if "const" not in schema and "enum" not in schema:
         types = schema.get("type")
         for kind in types if isinstance(types, list) else [types]:
-            yield from (Suggestion(it, _VALUE, schema) for it in {"boolean": (True, False), "null": (None,)}.get(kind, ()))
+            yield from (Suggestion(it, _VALUE, schema) for it in _OF_TYPES.get(str(kind), ()))
 
 
 def _of_schema(workspace: Workspace, document: Document, context: Context) -> Iterator[Suggestion]:
@@ -127,7 +136,9 @@ def _item(document: Document, context: Context, it: Suggestion, client: Client) 
     """A suggestion as the protocol has it."""
     is_yaml = document.kind == "yaml"
     label = it.value if isinstance(it.value, str) else json.dumps(it.value, ensure_ascii=False)
-    text, is_snippet = _name_text(document, context, it, client) if context.is_name else (_written(it.value, is_yaml), False)
+    text, is_snippet = _written(it.value, is_yaml), False
+    if context.is_name:
+        text, is_snippet = _name_text(document, context, it, client)
     item: dict[str, Any] = {
         "label": label, "kind": it.kind, "filterText": _written(it.value, is_yaml),
         "sortText": ("0" if it.is_required else "1") + label,

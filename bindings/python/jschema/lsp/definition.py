@@ -36,6 +36,6 @@ def _of_value(workspace: Workspace, document: Document, node: Node) -> list[dict
         locations = [choice.entry]
     else:
         locations = [it.location for it in applied(choice, document.text, node)]
-    places = [found.resources.find(it) for it in locations]
-    shown = [found.location(it) for it in dict.fromkeys(places) if it is not None]
+    targets = [found.find(it) for it in dict.fromkeys(locations)]
+    shown = [found.location(it) for it in targets if it is not None]
     return [it for it in shown if it is not None]

@@ -105,7 +105,7 @@ class Diagnoses:
         found = self._workspace.set_of_schema(document)
         if found is None:
             return
-        texts = [(uri, file.reading.characters.data, file.kind) for uri, file in found.documents]
+        texts = [(uri, text.reading.characters.data, text.kind) for uri, text in found.documents]
         of_lint = [_of_lint(document, it) for it in lint_all(texts)[0]]
         if found.refused is not None and not any(it.severity == ERROR for it in of_lint):
             yield _refused_schema(document, found, found.refused)
@@ -146,10 +146,8 @@ def _is_of_name(error: ValidationError) -> bool:
 
 def _related(found: SchemaSet, error: ValidationError) -> Optional[Related]:
     """Where the keyword stands."""
-    place = found.resources.find(error.absolute_keyword_location)
-    if place is None:
-        return None
-    at = found.location(place)
+    target = found.find(error.absolute_keyword_location)
+    at = None if target is None else found.location(target)
     return None if at is None else Related(at["uri"], at["range"], error.absolute_keyword_location)
 
 
@@ -165,7 +163,6 @@ def _refused_schema(document: Document, found: SchemaSet, refused: Refused) -> D
     index = refused.index or 0
     if index == 0:
         return Diagnostic(reading.refusal(reading.sources[0], refused), ERROR, refused.kind, refused.meaning)
-    uri = found.documents[index][0]
-    first = next((it for it in found.resources.references if it.place.document == 0 and it.uri.startswith(uri)), None)
-    span = Span(0, 1) if first is None else reading.place(reading.sources[0], first.place.pointer)
+    place = found.first_reference_to(found.documents[index][0])
+    span = Span(0, 1) if place is None else reading.place(reading.sources[0], place)
     return Diagnostic(span, ERROR, refused.kind, str(refused))

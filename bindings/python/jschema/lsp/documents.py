@@ -2,7 +2,6 @@
 from __future__ import annotations
 
 from typing import Any, Optional
-from urllib.parse import urlsplit
 
 from ..sources import kind_of
 from .ranges import Edit, Lines, path_of
@@ -37,8 +36,7 @@ class Document:
     @property
     def kind(self) -> str:
         """What it is written in: by the client's word, or else by its name."""
-        known = _KINDS.get(self.language)
-        return kind_of(urlsplit(self.uri).path) if known is None else known
+        return _KINDS.get(self.language) or kind_of(self.path or self.uri)
 
     def reading(self) -> Reading:
         """The text, read."""

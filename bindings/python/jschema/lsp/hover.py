@@ -9,6 +9,7 @@ from ..locations import schema_steps
 from ..outputs import parse
 from .applied import applied
 from .documents import Document
+from .schemas import value_of
 from .tree import Node
 from .workspace import Choice, Workspace
 
@@ -45,7 +46,7 @@ def _notes(workspace: Workspace, document: Document, index: int, node: Node) -> 
             answer = None
         if answer is not None and answer.valid:
             return _annotations(parse(answer.text), node.pointer())
-    schemas = [choice.set.resources.schema(it.location) for it in applied(choice, document.text, node)]
+    schemas = [choice.set.schema(it.location) for it in applied(choice, document.text, node)]
     return [it for it in schemas if isinstance(it, dict)]
 
 
@@ -53,11 +54,11 @@ def _annotations(output: dict[str, Any], location: str) -> list[dict[str, Any]]:
     """The annotations at a location, of each schema together."""
     found: dict[str, dict[str, Any]] = {}
     for unit in output.get("annotations", ()):
-        steps = schema_steps(unit["keywordLocation"])
-        names = [step.token for step in steps if step.is_keyword]
-        if unit["instanceLocation"] == location and names and names[-1] in _WORDS and "propertyNames" not in names:
-            schema = unit["keywordLocation"].rpartition("/")[0]
-            found.setdefault(schema, {})[names[-1]] = unit["annotation"]
+        schema, _, name = unit["keywordLocation"].rpartition("/")
+        if unit["instanceLocation"] == location and name in _WORDS:
+            names = [step.token for step in schema_steps(unit["keywordLocation"]) if step.is_keyword]
+            if names[-1:] == [name] and "propertyNames" not in names:
+                found.setdefault(schema, {})[name] = unit["annotation"]
     return list(found.values())
 
 
@@ -67,7 +68,7 @@ def _of_reference(workspace: Workspace, document: Document, node: Node) -> list[
     if found is None:
         return []
     target = found.target(node.pointer())
-    value = None if target is None else found.resources.value(target)
+    value = None if target is None else value_of(target)
     return [value] if isinstance(value, dict) else []
 
 

@@ -2,22 +2,25 @@
 from __future__ import annotations
 
 from collections.abc import Sequence
+from typing import Union
 
-from ..lint.dialects import KEYWORDS, LATEST
+from ..dialects import KEYWORDS, LATEST
 from ..locations import LISTS, OBJECTS
-from .resources import ALONE
+from ..resources import SCHEMAS
 
 DIALECT = "https://json-schema.org/draft/2020-12/schema"
 TYPES = ("array", "boolean", "integer", "null", "number", "object", "string")
-_VALUES = {"type": TYPES, "$schema": (DIALECT,), "uniqueItems": (True, False), "deprecated": (True, False),
-           "readOnly": (True, False), "writeOnly": (True, False)}
+_EITHER = (True, False)
+_VALUES: dict[str, Sequence[Union[str, bool]]] = {
+    "type": TYPES, "$schema": (DIALECT,), "uniqueItems": _EITHER, "deprecated": _EITHER, "readOnly": _EITHER,
+    "writeOnly": _EITHER}
 
 
 def is_schema(tokens: Sequence[str]) -> bool:
     """Whether a schema stands where tokens lead to from the root of a schema document."""
     index = 0
     while index < len(tokens):
-        if tokens[index] in ALONE:
+        if tokens[index] in SCHEMAS:
             index += 1
         elif tokens[index] in LISTS or tokens[index] in OBJECTS:
             index += 2

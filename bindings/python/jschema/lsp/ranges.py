@@ -42,9 +42,12 @@ class Lines:
 
     def position(self, offset: int) -> dict[str, int]:
         """The position of an offset."""
-        starts = self._line_starts()
+        starts = self._starts or self._line_starts()
         line = bisect_right(starts, offset) - 1
-        return {"line": line, "character": self._units(self.text[starts[line]:offset])}
+        if self._is_ascii:
+            return {"line": line, "character": offset - starts[line]}
+        units = self.text[starts[line]:offset].encode("utf-16-le", "surrogatepass")
+        return {"line": line, "character": len(units) // 2}
 
     def range(self, begin: int, end: int) -> dict[str, dict[str, int]]:
         """The range between two offsets."""
@@ -71,9 +74,6 @@ class Lines:
         end = starts[line + 1] if line + 1 < len(starts) else len(self.text)
         return starts[line], starts[line] + len(self.text[starts[line]:end].rstrip("\r\n"))
 
-    def _units(self, text: str) -> int:
-        return len(text) if self._is_ascii else len(text.encode("utf-16-le", "surrogatepass")) // 2
-
     def _line_starts(self) -> list[int]:
         if self._starts is None:
             if "\r" in self.text:
@@ -86,5 +86,8 @@ class Lines:
 
 def path_of(uri: str) -> Optional[str]:
     """The path of a file URL; None for any other."""
-    split = urlsplit(uri)
+    try:
+        split = urlsplit(uri)
+    except ValueError:
+        return None
     return os.path.normpath(unquote(split.path)) if split.scheme == "file" and split.path else None

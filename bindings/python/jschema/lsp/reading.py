@@ -86,7 +86,12 @@ class Reading:
 
     def refusal(self, source: Source, refused: Refused) -> Span:
         """Where a source is refused."""
-        if refused.place and refused.kind != "NotJson":
+        if refused.kind == "NotJson" and isinstance(source, JsonSource):
+            try:
+                scan(source.json)
+            except NotJson as error:
+                return self.characters.span(error.offset, error.offset)
+        if refused.place:
             try:
                 return self.place(source, refused.place)
             except LookupError:

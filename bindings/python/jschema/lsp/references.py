@@ -1,19 +1,26 @@
 """What a reference that is being written can lead to."""
 from __future__ import annotations
 
+import json
 from collections.abc import Iterator
 from typing import Any, NamedTuple
-from urllib.parse import urldefrag
+from urllib.parse import quote, urldefrag
 
+from .. import resources
+from ..locations import pointer
+from ..sources import read
+from ..uris import document_of
 from .applied import whole
 from .context import Context
 from .documents import Document
-from .resources import Place, Resources
 from .workspace import Workspace
+
+# What isn't escaped in a fragment.
+_SAFE = "/!$&'()*+,;=:@~"
 
 
 class Target(NamedTuple):
-    """A schema that a reference can lead to: how it is written, its absolute location, and the schema."""
+    """A schema that a reference can lead to: how it is written, its URI, and the schema."""
 
     written: str
     uri: str
@@ -22,28 +29,36 @@ class Target(NamedTuple):
 
 def targets(workspace: Workspace, document: Document, context: Context) -> Iterator[Target]:
     """The schemas of the document, as it is being written, and of those that it refers to."""
-    found = workspace.set_of_schema(document)
-    documents = [] if found is None else [(uri, file.reading.value) for uri, file in found.documents]
-    uri = documents[0][0] if documents else document.uri
     root = context.node
     while root.parent is not None:
         root = root.parent
-    value = whole(context.text, root)
-    resources = Resources([(uri, value), *documents[1:]])
-    base = resources.base(Place(0, context.node.pointer()))
-    for location, place in resources.places.items():
-        yield Target(_relative(location, base), location, resources.value(place))
-    for location, place in resources.anchors():
-        yield Target(_relative(location, base), location, resources.value(place))
+    found = workspace.set_of_schema(document)
+    uri = document.uri if found is None else found.entry
+    try:
+        typed = resources.document(uri, read(json.dumps(whole(context.text, root)).encode(), "json")[0])
+    except (ValueError, RecursionError):
+        return
+    tokens = tuple(context.node.tokens()[:-1])
+    base = next((it.base for it in typed.schemas if it.tokens == tokens), uri)
+    for it in [typed, *(found.resources[1:] if found is not None else ())]:
+        yield from _of_document(it, base)
 
 
-def _relative(location: str, base: str) -> str:
+def _of_document(document: resources.Document, base: str) -> Iterator[Target]:
+    for schema in document.schemas:
+        root = document.targets.get(document_of(schema.base), ())
+        fragment = quote(pointer([*schema.tokens[len(root):]]), safe=_SAFE)
+        anchors = [schema.value[it] for it in resources.ANCHORS if isinstance(schema.value.get(it), str)]
+        for name in [fragment, *anchors]:
+            yield Target(_relative(schema.base, name, base), f"{urldefrag(schema.base).url}#{name}", schema.value)
+
+
+def _relative(resource: str, fragment: str, base: str) -> str:
     """A location as it is written where a base URI holds: as short as it can be read."""
-    resource, fragment = urldefrag(location)
     mark = f"#{fragment}" if fragment else ""
-    if resource == base:
+    if document_of(resource) == document_of(base):
         return mark or "#"
     folder = base.rpartition("/")[0] + "/"
-    if len(folder) > len("https://a/") and resource.startswith(folder):
+    if not folder.endswith("//") and resource.startswith(folder):
         return resource[len(folder):] + mark
     return resource + mark

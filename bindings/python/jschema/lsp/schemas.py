@@ -4,28 +4,27 @@ from __future__ import annotations
 
 import json
 import os
-import re
-from collections.abc import Iterable
-from typing import Any, Callable, Hashable, Optional
-from urllib.parse import quote, unquote, urldefrag, urlsplit
+from collections.abc import Hashable, Iterable
+from typing import Any, Callable, Optional
 
+from .. import resources
 from ..errors import Refused
 from ..limits import LARGEST_TEXT
+from ..locations import pointer, steps
+from ..lookup import Lookup, SchemaFile, file_url, is_absolute, schema_file, schemas_in, walked
+from ..resources import Target
 from ..schemas import Schemas
-from ..sources import kind_of
+from ..sources import Source, kind_of
+from ..uris import document_of, joined
 from .documents import Document
-from .ranges import Lines, path_of
+from .ranges import Lines
 from .reading import Reading
-from .resources import Place, Reference, Resources
-
-_ABSOLUTE = re.compile(r"[A-Za-z][A-Za-z0-9+.-]*:[^#\0\ud800-\udfff]*#?")
-_SUFFIXES = (".json", ".yaml", ".yml")
 
 
-class SchemaFile:
-    """A schema document: a file, or a schema that stands in a setting."""
+class SchemaText:
+    """The text of a schema document: of a file, or of a setting."""
 
-    def __init__(self, path: Optional[str], uri: str, text: str, kind: str, stamp: Hashable) -> None:
+    def __init__(self, path: str, uri: str, text: str, kind: str, stamp: Hashable) -> None:
         self.path, self.kind = path, kind
         #: The client's name of the file; empty for a schema that stands in a setting.
         self.uri = uri
@@ -35,69 +34,102 @@ class SchemaFile:
         self.stamp = stamp
 
     @property
-    def json(self) -> bytes:
-        """The JSON text; of what can't be read, the text itself, which the validator then refuses."""
-        sources = self.reading.sources
-        return sources[0].json if sources else self.reading.characters.data
+    def source(self) -> Optional[Source]:
+        """The JSON text, if it can be read."""
+        return self.reading.sources[0] if self.reading.sources else None
 
     @property
-    def own_uri(self) -> Optional[str]:
-        """The `$id` of the schema, if it is an absolute URI."""
+    def json(self) -> bytes:
+        """The JSON text; of what can't be read the text itself, which the validator then refuses."""
+        return self.reading.characters.data if self.source is None else self.source.json
+
+    def registered(self) -> str:
+        """The URI to register it under: its `$id`, if that is absolute, else its file's URL."""
         value = self.reading.value
-        uri = value.get("$id") if isinstance(value, dict) else None
-        return uri if isinstance(uri, str) and _ABSOLUTE.fullmatch(uri) else None
+        own = value.get("$id") if isinstance(value, dict) else None
+        return own if isinstance(own, str) and is_absolute(own) else file_url(self.path)
 
 
 class SchemaSet:
     """A schema with the documents that it refers to, registered with the validator."""
 
-    def __init__(self, documents: list[tuple[str, SchemaFile]], missing: dict[str, list[str]]) -> None:
+    def __init__(self, documents: list[tuple[str, SchemaText]]) -> None:
         self.documents = documents
-        #: URIs that no document was found for, with the paths at which one was looked for.
-        self.missing = missing
         self.schemas: Optional[Schemas] = None
         self.refused: Optional[Refused] = None
         try:
-            self.schemas = Schemas((uri, file.json) for uri, file in documents)
+            self.schemas = Schemas((uri, text.json) for uri, text in documents)
         except Refused as refused:
             self.refused = refused
-        listed = None if self.schemas is None else self.schemas.places()
-        self.resources = Resources([(uri, file.reading.value) for uri, file in documents], listed)
+        found = [walked(SchemaFile(text.path, uri, text.source)) for uri, text in documents if text.source is not None]
+        #: The documents that can be read, with their schemas.
+        self.resources = [it for it in found if it is not None]
 
     @property
     def entry(self) -> str:
         """The URI of the schema."""
         return self.documents[0][0]
 
-    @property
-    def file(self) -> SchemaFile:
-        """The file of the schema."""
-        return self.documents[0][1]
+    def find(self, uri: str) -> Optional[Target]:
+        """What a URI names: an absolute location, also of a keyword, or an anchor."""
+        return resources.target(uri, self.resources)
 
-    def file_at(self, place: Place) -> SchemaFile:
-        """The file in which a place stands."""
-        return self.documents[place.document][1]
+    def referred(self, location: str, reference: str) -> Optional[Target]:
+        """What a reference leads to from the schema at an absolute location."""
+        return self.find(joined(location, reference))
 
-    def target(self, pointer: str) -> Optional[Place]:
+    def target(self, place: str) -> Optional[Target]:
         """What the reference that stands at a pointer of the first document leads to."""
-        at = Place(0, pointer)
-        uri = next((it.uri for it in self.resources.references if it.place == at), None)
-        return None if uri is None else self.resources.find(uri)
+        tokens = tuple(steps(place))
+        for schema in self.resources[0].schemas if self.resources and tokens else ():
+            if schema.tokens == tokens[:-1]:
+                reference = dict(schema.references()).get(tokens[-1])
+                return None if reference is None else self.find(joined(schema.base, reference))
+        return None
 
-    def location(self, place: Place) -> Optional[dict[str, Any]]:
+    def first_reference_to(self, uri: str) -> Optional[str]:
+        """The pointer of the first document's first reference to another document."""
+        for schema in self.resources[0].schemas if self.resources else ():
+            for keyword, reference in schema.references():
+                if document_of(joined(schema.base, reference)) == document_of(uri):
+                    return pointer([*schema.tokens, keyword])
+        return None
+
+    def schema(self, uri: str) -> Any:
+        """The value at a URI; None where there is nothing."""
+        found = self.find(uri)
+        return None if found is None else value_of(found)
+
+    def location(self, target: Target) -> Optional[dict[str, Any]]:
         """A place as the protocol has it; None if it isn't in a file."""
-        file = self.file_at(place)
-        if not file.uri or not file.reading.sources:
+        text = next(it for uri, it in self.documents if uri == target.document.uri)
+        if not text.uri or text.source is None:
             return None
         try:
-            span = file.reading.place(file.reading.sources[0], place.pointer, is_name=True)
+            span = text.reading.place(text.source, pointer([*target.tokens]), is_name=True)
         except LookupError:
             return None
-        return {"uri": file.uri, "range": file.lines.range(*span)}
+        return {"uri": text.uri, "range": text.lines.range(*span)}
 
     def paths(self) -> list[str]:
         """The files that it was made of."""
-        return [file.path for _, file in self.documents if file.path is not None]
+        return [text.path for _, text in self.documents if text.uri]
+
+    @property
+    def is_complete(self) -> bool:
+        """Whether all documents were found that it refers to."""
+        return self.refused is None or self.refused.kind != "Unresolved"
+
+
+def value_of(target: Target) -> Any:
+    """The value at a place; None where there is nothing."""
+    value = target.document.value
+    try:
+        for token in target.tokens:
+            value = value[int(token)] if isinstance(value, list) else value[token]
+    except (LookupError, TypeError, ValueError):
+        return None
+    return value
 
 
 class Store:
@@ -106,103 +138,87 @@ class Store:
     def __init__(self, opened: Callable[[str], Optional[Document]]) -> None:
         # The open document of a path, if there is one.
         self._opened = opened
-        self._files: dict[str, SchemaFile] = {}
+        self._folders: list[str] = []
+        self._texts: dict[str, SchemaText] = {}
         self._sets: dict[str, SchemaSet] = {}
-        self._by_id: dict[str, str] = {}
+        self._lookup = Lookup([], beside=True)
+        self._by_uri: Optional[dict[str, str]] = None
 
-    def refer_to(self, paths: Iterable[str]) -> None:
-        """Takes files, and those in folders, as documents that schemas refer to by their `$id`."""
+    def refer_to(self, folders: Iterable[str]) -> None:
+        """Takes folders in which documents are found by their URI."""
+        self._folders = [*folders]
+        self.forget()
+
+    def forget(self) -> None:
+        """Forgets which documents were found, since files have changed."""
         self._sets.clear()
-        self._by_id.clear()
-        for path in paths:
-            for name in _files_in(path):
-                file = self.file(name)
-                if file is not None and file.own_uri is not None:
-                    self._by_id.setdefault(urldefrag(file.own_uri).url, name)
+        self._lookup = Lookup(self._folders, beside=True)
+        self._by_uri = None
 
-    def path_of_id(self, uri: str) -> Optional[str]:
-        """The file of the schema with an `$id`, among those that were taken."""
-        return self._by_id.get(urldefrag(uri).url)
-
-    def file(self, path: str) -> Optional[SchemaFile]:
-        """The file of a schema as it is now, or as it was when it could last be read. None if there is none."""
-        stamp = self._stamp(path)
-        if stamp is None:
-            return None
-        found = self._files.get(path)
-        if found is not None and found.stamp == stamp:
-            return found
-        made = self._read(path, stamp)
-        if made is not None and made.reading.fault is not None and found is not None and found.reading.fault is None:
-            found.stamp = stamp
-        elif made is not None:
-            found = self._files[path] = made
-        return found
-
-    def _read(self, path: str, stamp: Hashable) -> Optional[SchemaFile]:
-        document = self._opened(path)
-        if document is not None:
-            return SchemaFile(path, document.uri, document.text, document.kind, stamp)
-        text = _text(path)
-        return None if text is None else SchemaFile(path, file_url(path), text, kind_of(path), stamp)
+    def path_of_uri(self, uri: str) -> Optional[str]:
+        """The file with a schema of a URI, in the folders."""
+        if self._by_uri is None:
+            self._by_uri = {known: path for folder in self._folders for path, known in _uris_in(folder)}
+        return self._by_uri.get(document_of(uri))
 
     def set_of(self, path: str) -> Optional[SchemaSet]:
         """The schema in a file, as it is now; None if the file can't be read."""
-        file = self.file(path)
-        return None if file is None else self._fresh(path, file)
+        text = self._text(path)
+        return None if text is None else self._fresh(path, text)
 
     def set_of_value(self, value: Any, folder: str) -> SchemaSet:
         """A schema that stands in a setting. Its references start from a folder."""
         text = json.dumps(value)
-        path = os.path.join(folder, "setting.schema.json")
-        return self._fresh(text, SchemaFile(None, "", text, "json", text), path)
+        return self._fresh(text, SchemaText(os.path.join(folder, "setting.schema.json"), "", text, "json", text))
 
-    def using(self, path: str) -> list[str]:
-        """The names of the sets that a file is part of."""
-        return [name for name, found in self._sets.items() if path in found.paths()]
+    def using(self, path: str) -> bool:
+        """Whether a file is part of a set that was made."""
+        return any(path in found.paths() for found in self._sets.values())
 
-    def _fresh(self, name: str, file: SchemaFile, path: Optional[str] = None) -> SchemaSet:
+    def _text(self, path: str) -> Optional[SchemaText]:
+        """The text of a file as it is now, or as it was when it could last be read. None if there is none."""
+        stamp = self._stamp(path)
+        found = self._texts.get(path)
+        if stamp is None or found is not None and found.stamp == stamp:
+            return None if stamp is None else found
+        made = self._read(path, stamp)
+        if made is None:
+            return None
+        if made.reading.fault is not None and found is not None and found.reading.fault is None:
+            found.stamp = stamp
+            return found
+        self._texts[path] = made
+        return made
+
+    def _read(self, path: str, stamp: Hashable) -> Optional[SchemaText]:
+        document = self._opened(path)
+        if document is not None:
+            return SchemaText(path, document.uri, document.text, document.kind, stamp)
+        try:
+            with open(path, "rb") as file:
+                text = file.read(LARGEST_TEXT + 1).decode("utf-8", "replace")
+        except OSError:
+            return None
+        return SchemaText(path, file_url(path), text, kind_of(path), stamp)
+
+    def _fresh(self, name: str, text: SchemaText) -> SchemaSet:
         found = self._sets.get(name)
-        if found is None or not self._is_fresh(found):
-            found = self._sets[name] = self._made(file, path or name)
+        if found is None or not found.is_complete or not self._is_fresh(found):
+            found = self._sets[name] = self._made(text)
         return found
 
     def _is_fresh(self, found: SchemaSet) -> bool:
-        for _, file in found.documents:
-            if file.path is not None and self._stamp(file.path) != file.stamp:
-                return False
-        return not any(self._stamp(path) for paths in found.missing.values() for path in paths)
+        return all(self._stamp(text.path) == text.stamp for _, text in found.documents if text.uri)
 
-    def _made(self, file: SchemaFile, path: str) -> SchemaSet:
+    def _made(self, first: SchemaText) -> SchemaSet:
         """The set of a schema: its document, and those that it, or one of them, refers to."""
-        documents = [(file.own_uri or file_url(path), file)]
-        missing: dict[str, list[str]] = {}
-        known: set[str] = set()
-        taken = {path}
-        for uri, holder in documents:
-            resources = Resources([(uri, holder.reading.value)])
-            known |= resources.uris()
-            for reference in resources.references:
-                wanted = urldefrag(reference.uri).url
-                if wanted in known or wanted in missing:
-                    continue
-                candidates = [it for it in self._candidates(reference, wanted, holder.path or path) if it not in taken]
-                found = next((it for it in map(self.file, candidates) if it is not None), None)
-                if found is None or found.path is None:
-                    missing[wanted] = candidates
-                else:
-                    known.add(wanted)
-                    taken.add(found.path)
-                    documents.append((wanted, found))
-        return SchemaSet(documents, missing)
-
-    def _candidates(self, reference: Reference, wanted: str, path: str) -> list[str]:
-        """Where the document of a reference may be: its own file, that of an `$id`, or one beside the referring file."""
-        found = [path_of(wanted), self.path_of_id(wanted)]
-        written = urldefrag(reference.written).url
-        if written and not urlsplit(written).scheme and not written.startswith("//"):
-            found.append(os.path.normpath(os.path.join(os.path.dirname(path), unquote(urlsplit(written).path))))
-        return [it for it in found if it is not None]
+        documents = [(first.registered(), first)]
+        if first.source is not None:
+            for taken in self._lookup.taken([SchemaFile(first.path, first.registered(), first.source)]):
+                text = self._text(os.path.normpath(taken.file.path))
+                if text is not None:
+                    documents.append((taken.file.uri, text))
+        return SchemaSet(documents)
 
     def _stamp(self, path: str) -> Optional[Hashable]:
         document = self._opened(path)
@@ -215,22 +231,13 @@ class Store:
         return found.st_mtime_ns, found.st_size, found.st_ino
 
 
-def _text(path: str) -> Optional[str]:
-    try:
-        with open(path, "rb") as file:
-            return file.read(LARGEST_TEXT + 1).decode("utf-8", "replace")
-    except OSError:
-        return None
-
-
-def _files_in(path: str) -> list[str]:
-    """A file; of a folder, the files in it at any depth that may be schemas."""
-    if not os.path.isdir(path):
-        return [path]
-    return sorted(os.path.join(folder, name) for folder, _, names in os.walk(path) for name in names
-                  if name.lower().endswith(_SUFFIXES))
-
-
-def file_url(path: str) -> str:
-    """The URL of a file, as the URL standard writes it."""
-    return "file://" + quote(os.fsencode(os.path.abspath(path)), safe="/!$&'()*+,;=:@[]|^")
+def _uris_in(folder: str) -> Iterable[tuple[str, str]]:
+    """Each file in a folder that is a schema, with the URIs of its schemas."""
+    for path in schemas_in(folder):
+        try:
+            document = walked(schema_file(path))
+        except (OSError, Refused, ImportError, ValueError):
+            continue
+        for uri in document.targets if document is not None else ():
+            if "#" not in uri:
+                yield path, uri

@@ -175,6 +175,7 @@ class Server:
         self._connection.notify("textDocument/publishDiagnostics", {"uri": uri, "diagnostics": []})
 
     def _files_changed(self, params: Message) -> None:
+        self._workspace.store.forget()
         self._all_pending()
 
     def _changed(self, document: Document) -> None:
@@ -256,8 +257,8 @@ _REQUESTS: dict[str, Callable[[Server, Id, Document, Message], Any]] = {
 
 def main(words: Optional[list[str]] = None) -> int:
     """Serves a client over standard input and output. The arguments are by default those of the process."""
-    parser = argparse.ArgumentParser(prog="jschema-lsp", description="Serves an editor, by the Language Server Protocol "
-                                     "3.17 over standard input and output: JSON and YAML files with schemas, and schemas.")
+    parser = argparse.ArgumentParser(prog="jschema-lsp", description="Serves an editor by the Language Server Protocol "
+                                     "3.17, over standard input and output: files with a schema, and schemas.")
     parser.add_argument("--settings", metavar="FILE", help="a JSON file of settings; a relative path starts from the "
                                                            "editor's folder (see docs/EDITORS.md)")
     # (Many clients add it.)

@@ -15,14 +15,13 @@ Key = Union[str, int, None]
 
 _TOKEN = re.compile(
     r'(?P<mark>[{}\[\],:])'
-    r'|(?P<string>"(?:[^"\\\n\r]|\\[^\n\r])*(?P<close>"?))'
+    r'|(?P<string>"(?:[^"\\\n\r]|\\[^\n\r]?)*(?P<close>"?))'
     r'|(?P<comment>//[^\n\r]*|/\*.*?(?:\*/|\Z))'
     r'|(?P<word>[^\s{}\[\],:"]+)', re.DOTALL)
 _OPENINGS = {"{": "object", "[": "array"}
 _CLOSINGS = {"}": "object", "]": "array"}
 _WORDS = {"true": "boolean", "false": "boolean", "null": "null"}
-# The kinds of values by their content, and of scalars by how their JSON text begins.
-_KINDS = {dict: "object", list: "array"}
+# The kinds of scalars by how their JSON text begins.
 _SCALARS = {'"': "string", "t": "boolean", "f": "boolean", "n": "null"}
 
 
@@ -123,10 +122,12 @@ def _converted(root: sources.Node, characters: Characters) -> Node:
 
 
 def _begun(source: sources.Node, characters: Characters, key: Key, name: Optional[Span]) -> Node:
-    kind = _KINDS.get(type(source.content)) or _SCALARS.get(str(source.content)[:1], "number")
-    node = Node(kind, characters.at(source.begin), characters.at(source.end), key, name)
-    if isinstance(source.content, str):
-        node.scalar = source.content
+    content = source.content
+    begin, end = characters.at(source.begin), characters.at(source.end)
+    if not isinstance(content, str):
+        return Node("object" if isinstance(content, dict) else "array", begin, end, key, name)
+    node = Node(_SCALARS.get(content[:1], "number"), begin, end, key, name)
+    node.scalar = content
     return node
 
 
@@ -213,6 +214,8 @@ class _Reader:
 
 def string_value(token: str) -> str:
     """The string of a token, which may lack its last quote, or have escapes that JSON doesn't."""
+    if "\\" not in token:
+        return token.strip('"')
     whole = token if len(token) > 1 and token.endswith('"') else token + '"'
     try:
         value = json.loads(whole, strict=False)

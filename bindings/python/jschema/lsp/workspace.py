@@ -5,17 +5,21 @@ import os
 import re
 from collections.abc import Iterable
 from typing import NamedTuple, Optional
-from urllib.parse import unquote, urldefrag, urlsplit
+from urllib.parse import unquote
 
 from .documents import Document
 from .ranges import Span, path_of
 from .schemas import SchemaSet, Store
 from .settings import Named, Settings
 
+_SCHEME = re.compile("[A-Za-z][A-Za-z0-9+.-]+:")
 _DIALECT = re.compile(r"https?://json-schema\.org/.*schema#?")
 _SCHEMA_NAME = re.compile(r".*[.-]schema\.(?:json|jsonc|ya?ml)")
 #: The comment in which a YAML file names its schema.
 _COMMENT = re.compile(r"^#[ \t]*(?:yaml-language-server:[ \t]*)?\$schema[=:][ \t]*(\S+)[ \t]*$", re.MULTILINE)
+# The member in which a file that can't be read names its schema, near its beginning.
+_MEMBER = re.compile(r"[\"']?\$schema[\"']?[ \t]*[:=][ \t]*[\"']?([^\"'\s,}]+)")
+_NEAR = 4096
 
 
 class Choice(NamedTuple):
@@ -66,18 +70,17 @@ class Workspace:
         if named is not None:
             return _DIALECT.fullmatch(named) is not None
         path = document.path
-        return path is not None and (_SCHEMA_NAME.fullmatch(path.lower()) is not None or bool(self.store.using(path)))
+        return path is not None and (_SCHEMA_NAME.fullmatch(path.lower()) is not None or self.store.using(path))
 
     def name_of(self, document: Document) -> Optional[str]:
-        """The schema that a document names itself. Of one that can't be read it is that of before."""
+        """The schema that a document names itself. Of one that can't be read it is that of before, or what stands
+        where it should."""
         if document.reading().fault is None:
-            value = document.reading().value
-            named = value.get("$schema") if isinstance(value, dict) else None
-            if not isinstance(named, str):
-                found = _COMMENT.search(document.text) if document.kind in ("yaml", "toml") else None
-                named = found[1] if found else None
-            self._named[document.uri] = named
-        return self._named.get(document.uri)
+            self._named[document.uri] = _name_in(document)
+        elif self._named.get(document.uri) is None:
+            found = _MEMBER.search(document.text, 0, _NEAR)
+            self._named[document.uri] = found[1] if found else None
+        return self._named[document.uri]
 
     def choice_of(self, document: Document) -> Optional[Choice | Unknown]:
         """The schema of a document; None where nothing says which."""
@@ -95,12 +98,12 @@ class Workspace:
         if not isinstance(named, str):
             made = self.store.set_of_value(named, folder)
             return Choice(made, made.entry)
-        name, fragment = urldefrag(named)
+        name, mark, fragment = named.partition("#")
         path = self._path(name, folder)
         found = None if path is None else self.store.set_of(path)
         if found is None:
             return Unknown(named)
-        return Choice(found, f"{urldefrag(found.entry).url}#{fragment}" if fragment else found.entry)
+        return Choice(found, f"{found.entry.partition('#')[0]}#{fragment}" if mark else found.entry)
 
     def set_of_schema(self, document: Document) -> Optional[SchemaSet]:
         """The set of a document that is a schema itself."""
@@ -124,12 +127,21 @@ class Workspace:
     def _path(self, name: str, folder: str) -> Optional[str]:
         if path := path_of(name):
             return path
-        if urlsplit(name).scheme:
-            return self.store.path_of_id(name)
+        if _SCHEME.match(name):
+            return self.store.path_of_uri(name)
         return os.path.normpath(os.path.join(folder, unquote(name)))
 
     def _opened(self, path: str) -> Optional[Document]:
         return next((it for it in self.documents.values() if it.path == path), None)
+
+
+def _name_in(document: Document) -> Optional[str]:
+    value = document.reading().value
+    named = value.get("$schema") if isinstance(value, dict) else None
+    if isinstance(named, str):
+        return named
+    found = _COMMENT.search(document.text) if document.kind in ("yaml", "toml") else None
+    return found[1] if found else None
 
 
 def place_of_name(document: Document) -> Span:
