@@ -73,6 +73,36 @@ def refusals(interface):
     yield "interface.toml", "the checks of documents", set(kinds), given
 
 
+def numbers_of_refusals(interface):
+    """Where the library for C has the numbers of refusals, and of what is refused."""
+    numbers = {it["name"]: it["number"] for it in interface["refusal"]}
+    kinds = found("js_bundle/src/refusal.rt", r"\n    (\w+),", r"pub enum RefusalKind \{.*?\n\}")[1:]
+    own = {"Memory": 0, **{name: numbers[name] for name in kinds}}
+    others = {name.upper(): number for name, number in numbers.items() if name not in kinds}
+    subjects = {it["name"]: it["number"] for it in interface["subject"]}
+    code, definition = "jschema_c/src/refusal.rt", "jschema_c/specs/Refusal.antt"
+    yield code, "kind_number", own, as_numbers(found(code, r"RefusalKind::(\w+) => (\d+)"))
+    yield definition, "kind_number", own, as_numbers(found(definition, r"kind_number kind\.(\w+) = (\d+)"))
+    constants = as_numbers((name.replace("_", ""), number)
+                           for name, number in found(code, r"const (\w+): u32 = (\d+);"))
+    yield (code, "the other numbers", others, {name: number for name, number in constants.items() if name in others})
+    yield (code, "the numbers of some kinds", {"NOTJSON": numbers["NotJson"], "NOTWHOLE": numbers["NotWhole"]},
+           {name: constants[name] for name in ("NOTJSON", "NOTWHOLE")})
+    yield (code, "the subjects", {name.upper(): number for name, number in subjects.items()},
+           {name: number for name, number in constants.items() if name.lower() in subjects})
+    yield (definition, "the other numbers", others,
+           {name.replace("_", "").upper(): int(number) for name, number in
+            found(definition, r"\n(input_too_large|too_large|bad_suite) = (\d+)")})
+    variants = {"InputTooLarge": "input", "Refused": "document", "Entry": "entry", "Instance": "instance",
+                "TooLarge": "walk", "Suite": "suite"}
+    yield (definition, "subject_number", {variant: subjects[name] for variant, name in variants.items()},
+           as_numbers(found(definition, r"subject_number \(?fault\.(\w+)[^=]*= (\d+)")))
+
+
+def as_numbers(pairs):
+    return {name: int(number) for name, number in pairs}
+
+
 def limits(interface):
     """Where the crates have the limits: as a constant, a definition, a field, or what a function returns."""
     for limit in interface["limit"]:
@@ -113,6 +143,7 @@ def versions(number):
 def faults(interface, usage, version):
     """How many comparisons there are, and of each that fails what it finds."""
     compared = [*versions(version), *formats(interface), *statuses(interface), *usages(interface, usage),
-                *refusals(interface), *limits(interface), *reference_limits(interface)]
+                *refusals(interface), *numbers_of_refusals(interface), *limits(interface),
+                *reference_limits(interface)]
     return len(compared), [f"{path}: {name}: {there}, and interface.toml has {wanted}"
                            for path, name, wanted, there in compared if wanted != there]

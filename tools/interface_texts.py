@@ -155,11 +155,28 @@ def c_formats(interface):
     return c_enum([(it["name"].upper(), it["number"], it.get("c")) for it in by_number(interface["format"])])
 
 
+def c_name(name):
+    """The name of a refusal as one of C's constants."""
+    return re.sub(r"\B(?=[A-Z])", "_", name).upper()
+
+
+def c_refusals(interface):
+    return c_enum([(c_name(it["name"]), it["number"], it.get("c", it["meaning"]))
+                   for it in by_number(interface["refusal"])])
+
+
+def c_subjects(interface):
+    return c_enum([(f"SUBJECT_{it['name'].upper()}", it["number"], it["c"]) for it in by_number(interface["subject"])])
+
+
 def python_tables(interface):
     """The tables of the Python package."""
     formats = ", ".join(f'"{it["name"]}": {it["number"]}' for it in by_number(interface["format"]))
     statuses = by_number(interface["status"])
     names = ", ".join(f'"{it["c_name"]}"' for it in statuses)
+    subjects = "".join(f'    {it["number"]}: ("{it["name"]}", {it["placed"]}),\n'
+                       for it in by_number(interface["subject"]))
+    kinds = "".join(f'    {it["number"]}: "{it["name"]}",\n' for it in by_number(interface["refusal"]))
     limits = "".join(f'    "{it["name"]}": {it["value"]:_},\n' for it in interface["limit"])
     meanings = "".join(f'    "{it["name"]}": {json.dumps(it["meaning"])},\n'
                        for it in sorted(interface["refusal"], key=lambda it: it["name"]))
@@ -168,6 +185,9 @@ def python_tables(interface):
             f"#: Each format, and its number in the library.\nFORMATS = {{{formats}}}\n\n"
             f"#: What a call of the library answers, and the program's exit statuses, by their numbers from 0.\n"
             f"STATUSES = ({names})\n\n"
+            f"#: What is refused, by its number in the library, and whether the refusal has a place in it.\n"
+            f"SUBJECTS = {{\n{subjects}}}\n\n"
+            f"#: Each kind of refusal, by its number in the library.\nKINDS = {{\n{kinds}}}\n\n"
             f"#: The limits of the validator.\nLIMITS = {{\n{limits}}}\n\n"
             f"#: What each kind of refusal means.\nMEANINGS = {{\n{meanings}}}\n")
 
@@ -230,7 +250,8 @@ TEXTS = {
     "tools/installed/jschema.bash": {"words": bash_words},
     "tools/installed/jschema.zsh": {"words": zsh_words},
     "bindings/c/jschema.pc": {"version": package_version},
-    "bindings/c/jschema.h": {"version": c_version, "statuses": c_statuses, "formats": c_formats},
+    "bindings/c/jschema.h": {"version": c_version, "statuses": c_statuses, "formats": c_formats,
+                             "refusals": c_refusals, "subjects": c_subjects},
     "bindings/python/pyproject.toml": {"version": project_version},
     "bindings/python/jschema/interface.py": {"tables": python_tables},
     "README.md": {"commands": page_commands, "statuses": page_statuses},

@@ -13,12 +13,12 @@
        jschema_free(&schemas);
 
    Texts (URIs, documents, instances, output) are bytes with a length; no zero ends them. The library reads a text that
-   you pass during the call only, so it stays yours. A text of length 0 may have a null pointer, and so may the room of
-   jschema_text. No other pointer may be null.
+   you pass during the call only, so it stays yours. A text of length 0 may have a null pointer, and so may the room for
+   a text. No other pointer may be null. A URI is UTF-8 without a zero byte, as an argument of the program.
 
-   After each call except jschema_text and jschema_share the handle has the text of that call: the output of a check,
-   the list of jschema_places; for JSCHEMA_REFUSED the line that says what is refused; otherwise none. jschema_text
-   copies it out.
+   After each call except jschema_text, jschema_refusal and jschema_share the handle has the text of that call: the
+   output of a check, the list of jschema_places; for JSCHEMA_REFUSED the line that says what is refused; otherwise
+   none. jschema_text copies it out, and jschema_refusal has what a line of a refusal says in numbers.
 
    Stack: a call needs at most 32 KB, 100 KB if it searches with a regular expression, and more for what is nested: 1 KB
    for each level of a JSON text (128 at most), 2 KB for each level of nesting in a regular expression (groups,
@@ -75,6 +75,45 @@ enum {
 };
 /* interface: end */
 
+/* Why an input is refused. interface: refusals */
+enum {
+    JSCHEMA_NOT_JSON = 1,           /* not a JSON text, or nested deeper than 127 */
+    JSCHEMA_NOT_WHOLE = 2,          /* a number that isn't whole, or is beyond 64 bits */
+    JSCHEMA_BAD_URI = 3,            /* not an absolute URI, or its fragment can't be used here */
+    JSCHEMA_TOO_MANY_DOCUMENTS = 4, /* more than 1,000 schema documents */
+    JSCHEMA_URI_TOO_LONG = 5,       /* a URI of more than 65,536 bytes */
+    JSCHEMA_NOT_A_SCHEMA = 6,       /* a schema is an object or a boolean */
+    JSCHEMA_BAD_KEYWORD = 7,        /* the keyword's value has the wrong form */
+    JSCHEMA_BAD_PATTERN = 8,        /* not a regular expression of the Rust crate regex */
+    JSCHEMA_PATTERN_TOO_LARGE = 9,  /* the regular expression takes too much memory */
+    JSCHEMA_BAD_ID = 10,            /* $id can't be joined with the base URI, or has a fragment */
+    JSCHEMA_BAD_ANCHOR = 11,        /* an anchor is an ASCII letter or _, then letters, digits, -, _ and . */
+    JSCHEMA_UNKNOWN_DIALECT = 12,   /* $schema isn't https://json-schema.org/draft/2020-12/schema */
+    JSCHEMA_DUPLICATE_URI = 13,     /* another schema has the same URI */
+    JSCHEMA_DUPLICATE_ANCHOR = 14,  /* another schema of this resource has the same anchor */
+    JSCHEMA_TOO_MANY_PLACES = 15,   /* more than 100,000 schemas */
+    JSCHEMA_BAD_REFERENCE = 16,     /* the reference isn't a URI, or its fragment isn't a JSON Pointer */
+    JSCHEMA_UNRESOLVED = 17,        /* no schema has this URI; give its document too */
+    JSCHEMA_INPUT_TOO_LARGE = 18,   /* more than 16,777,216 bytes */
+    JSCHEMA_TOO_LARGE = 19,         /* more nested schema applications or result nodes than the handle's limits */
+    JSCHEMA_BAD_SUITE = 20          /* a member of the suite is missing or has the wrong type */
+};
+/* interface: end */
+
+/* What is refused. interface: subjects */
+enum {
+    JSCHEMA_SUBJECT_INPUT = 1,    /* an input, which is too large */
+    JSCHEMA_SUBJECT_DOCUMENT = 2, /* a schema document */
+    JSCHEMA_SUBJECT_ENTRY = 3,    /* the URI of the schema to apply */
+    JSCHEMA_SUBJECT_INSTANCE = 4, /* the instance */
+    JSCHEMA_SUBJECT_WALK = 5,     /* the result of a check */
+    JSCHEMA_SUBJECT_SUITE = 6     /* a suite of tests: by the program alone */
+};
+/* interface: end */
+
+/* The number of a refusal's document if what is refused is no document. */
+#define JSCHEMA_NO_DOCUMENT SIZE_MAX
+
 /* Begins anew, without documents. What the handle held is freed first.
    JSCHEMA_FAILED: the handle is empty. */
 uint32_t jschema_new(jschema *handle);
@@ -87,7 +126,7 @@ uint32_t jschema_new(jschema *handle);
 uint32_t jschema_limit(jschema *handle, size_t applications, size_t nodes);
 
 /* Adds a schema document (a JSON text) under an absolute URI without a fragment.
-   JSCHEMA_MISUSED: the handle is empty or finished, or the URI isn't UTF-8.
+   JSCHEMA_MISUSED: the handle is empty or finished, or the URI isn't UTF-8 or has a zero byte.
    JSCHEMA_REFUSED: the document has more than 16,777,216 bytes; or it is refused, or its URI.
    After anything but JSCHEMA_DONE the documents are as before. */
 uint32_t jschema_add(jschema *handle, const uint8_t *uri, size_t uri_length,
@@ -106,7 +145,7 @@ uint32_t jschema_places(jschema *handle);
 /* Looks up the schema that a URI names, and puts its number into *entry: 0 for the first that is looked up in this
    handle, then 1, and so on. The URI is that of a document, an `$id`, or one of these with a fragment. The handle keeps
    each number until it is freed, eight bytes for each call: look an entry up once.
-   JSCHEMA_MISUSED: the handle is empty or not finished, or the URI isn't UTF-8.
+   JSCHEMA_MISUSED: the handle is empty or not finished, or the URI isn't UTF-8 or has a zero byte.
    JSCHEMA_REFUSED: the URI is refused, or names no schema.
    After anything but JSCHEMA_DONE, *entry and the handle's numbers are as before. */
 uint32_t jschema_entry(jschema *handle, const uint8_t *uri, size_t uri_length, size_t *entry);
@@ -119,7 +158,8 @@ uint32_t jschema_entry(jschema *handle, const uint8_t *uri, size_t uri_length, s
 uint32_t jschema_share(jschema *handle, jschema *other);
 
 /* Checks an instance (a JSON text) against the schema with this number. The text is the output in the format: a JSON
-   text in UTF-8 with a line feed at its end.
+   text in UTF-8 with a line feed at its end. That of JSCHEMA_FLAG is written only where jschema_text asks for it, so a
+   check for the verdict alone makes no text.
    JSCHEMA_DONE: it is valid. JSCHEMA_INVALID: it is invalid.
    JSCHEMA_MISUSED: the handle is empty or not finished, there is no such number, or no such format.
    JSCHEMA_REFUSED: the instance is refused, or the result would go beyond the handle's limits.
@@ -129,6 +169,15 @@ uint32_t jschema_check(jschema *handle, size_t entry, const uint8_t *instance, s
 /* Copies the text of the last call into out, as many of its bytes as fit, and returns the length of the whole text.
    The handle keeps the text, so the call can be repeated with more room. An empty handle has no text: 0. */
 size_t jschema_text(jschema *handle, uint8_t *out, size_t out_length);
+
+/* What the last call refused, if it answered JSCHEMA_REFUSED: why and what, as numbers of the enumerations above; of a
+   document its number in the order of adding, 0 for the first (one that jschema_add refuses has the number that it
+   would have had), else JSCHEMA_NO_DOCUMENT; and the place in the document or in the instance, the text of a JSON
+   Pointer ("", the root, for other subjects). As many bytes of the place as fit are copied into `place`; *place_length
+   is the length of the whole. The handle keeps all this and its text, so the call can be repeated with more room.
+   JSCHEMA_MISUSED: the last call answered something else. What the pointers name is as before. */
+uint32_t jschema_refusal(jschema *handle, uint32_t *kind, uint32_t *subject, size_t *document, uint8_t *place,
+                         size_t place_room, size_t *place_length);
 
 /* Frees all that the handle holds. It is then empty, and can be freed again or used for jschema_new. */
 void jschema_free(jschema *handle);

@@ -30,6 +30,41 @@ static void expect_that(const char *what, int holds) {
     if (!holds) printf("FAILED %s\n", what);
 }
 
+/* What jschema_refusal tells, and the place. */
+typedef struct {
+    uint32_t status, kind, subject;
+    size_t document, place_length;
+    char place[64];
+} told;
+
+static told told_of(jschema *handle) {
+    told is = {0, 77, 78, 79, 80, ""};
+    memset(is.place, 'x', sizeof is.place);
+    is.status = jschema_refusal(handle, &is.kind, &is.subject, &is.document, (uint8_t *)is.place, sizeof is.place,
+                                &is.place_length);
+    return is;
+}
+
+/* The last call refused this. */
+static void expect_refusal(const char *what, jschema *handle, uint32_t kind, uint32_t subject, size_t document,
+                           const char *place) {
+    told is = told_of(handle);
+    size_t length = strlen(place);
+    int holds = is.status == JSCHEMA_DONE && is.kind == kind && is.subject == subject && is.document == document
+        && is.place_length == length && memcmp(is.place, place, length) == 0;
+    for (size_t i = length; i < sizeof is.place; i++) holds = holds && is.place[i] == 'x';
+    expect_that(what, holds);
+}
+
+/* The last call refused nothing: what is asked for stays. */
+static void expect_no_refusal(const char *what, jschema *handle) {
+    told is = told_of(handle);
+    int holds = is.status == JSCHEMA_MISUSED && is.kind == 77 && is.subject == 78 && is.document == 79
+        && is.place_length == 80;
+    for (size_t i = 0; i < sizeof is.place; i++) holds = holds && is.place[i] == 'x';
+    expect_that(what, holds);
+}
+
 /* Every call but `jschema_new` and `jschema_free` is misuse of a handle in this state, and leaves no text. */
 static void expect_only_new(const char *state, jschema *handle) {
     size_t entry = 7;
@@ -45,6 +80,7 @@ static void expect_only_new(const char *state, jschema *handle) {
     expect(state, handle, jschema_share(handle, &other), JSCHEMA_MISUSED, "");
     expect("nothing is shared", &other, jschema_finish(&other), JSCHEMA_MISUSED, "");
     expect_that("an empty handle has no text", jschema_text(handle, out, 1) == 0 && out[0] == 'x');
+    expect_no_refusal(state, handle);
 }
 
 static void test_empty(void) {
@@ -251,6 +287,9 @@ static void test_longest_document(void) {
            JSCHEMA_REFUSED, "refused: input: InputTooLarge");
     expect("too large, and no UTF-8", &handle, jschema_add(&handle, TEXT("a:\xff"), document, longest + 1),
            JSCHEMA_MISUSED, "");
+    expect("too large", &handle, jschema_add(&handle, URI, document, longest + 1), JSCHEMA_REFUSED,
+           "refused: input: InputTooLarge");
+    expect_refusal("too large", &handle, JSCHEMA_INPUT_TOO_LARGE, JSCHEMA_SUBJECT_INPUT, JSCHEMA_NO_DOCUMENT, "");
     expect("the longest", &handle, jschema_add(&handle, URI, document, longest), JSCHEMA_DONE, "");
     expect("finish", &handle, jschema_finish(&handle), JSCHEMA_DONE, "");
     expect("it alone was added", &handle, jschema_places(&handle), JSCHEMA_DONE, "https://example.com/s#\n");
@@ -278,8 +317,104 @@ static void test_text(void) {
     jschema_free(&handle);
 }
 
+/* A refusal in numbers, for each subject: until the next call that isn't jschema_text, jschema_refusal or
+   jschema_share. */
+static void test_refusals(void) {
+    const size_t no_document = JSCHEMA_NO_DOCUMENT;
+    jschema handle = JSCHEMA_EMPTY, other = JSCHEMA_EMPTY;
+    size_t entry;
+    jschema_new(&handle);
+    expect_no_refusal("new", &handle);
+    jschema_add(&handle, TEXT("s"), TEXT("true"));
+    expect_refusal("a bad URI", &handle, JSCHEMA_BAD_URI, JSCHEMA_SUBJECT_DOCUMENT, 0, "");
+    expect_refusal("asked again", &handle, JSCHEMA_BAD_URI, JSCHEMA_SUBJECT_DOCUMENT, 0, "");
+    jschema_add(&handle, OTHER, TEXT("true"));
+    expect_no_refusal("added", &handle);
+    jschema_add(&handle, URI, TEXT("[{\"~a/\": 1.5}]"));
+    expect_refusal("not whole", &handle, JSCHEMA_NOT_WHOLE, JSCHEMA_SUBJECT_DOCUMENT, 1, "/0/~0a~1");
+    jschema_add(&handle, TEXT("a:\xff"), TEXT("true"));
+    expect_no_refusal("misused", &handle);
+    jschema_add(&handle, URI, TEXT("{\"not\": {\"minimum\": \"0\"}}"));
+    jschema_finish(&handle);
+    expect_refusal("a bad keyword", &handle, JSCHEMA_BAD_KEYWORD, JSCHEMA_SUBJECT_DOCUMENT, 1, "/not/minimum");
+    jschema_share(&handle, &other);
+    expect_refusal("as before", &handle, JSCHEMA_BAD_KEYWORD, JSCHEMA_SUBJECT_DOCUMENT, 1, "/not/minimum");
+    jschema_new(&handle);
+    expect_no_refusal("new again", &handle);
+    jschema_add(&handle, URI, TEXT("{\"$ref\": \"#/$defs/a\", \"$defs\": {\"a\": true}}"));
+    jschema_finish(&handle);
+    expect_no_refusal("finished", &handle);
+    jschema_entry(&handle, TEXT("https://example.com/s#b"), &entry);
+    expect_refusal("no schema", &handle, JSCHEMA_UNRESOLVED, JSCHEMA_SUBJECT_ENTRY, no_document, "");
+    jschema_places(&handle);
+    expect_no_refusal("listed", &handle);
+    jschema_entry(&handle, URI, &entry);
+    expect_no_refusal("an entry", &handle);
+    jschema_check(&handle, entry, TEXT("["), JSCHEMA_BASIC);
+    expect_refusal("not JSON", &handle, JSCHEMA_NOT_JSON, JSCHEMA_SUBJECT_INSTANCE, no_document, "");
+    jschema_check(&handle, entry, TEXT("1"), JSCHEMA_FLAG);
+    expect_no_refusal("checked", &handle);
+    jschema_check(&handle, entry, TEXT("{\"a\": [0.5]}"), JSCHEMA_FLAG);
+    expect_refusal("not whole", &handle, JSCHEMA_NOT_WHOLE, JSCHEMA_SUBJECT_INSTANCE, no_document, "/a/0");
+    jschema_share(&handle, &other);
+    expect_no_refusal("another handle", &other);
+    jschema_limit(&handle, 1, 0);
+    expect_no_refusal("limits", &handle);
+    jschema_check(&handle, entry, TEXT("1"), JSCHEMA_BASIC);
+    expect_refusal("too large", &handle, JSCHEMA_TOO_LARGE, JSCHEMA_SUBJECT_WALK, no_document, "");
+    jschema_free(&other);
+    jschema_free(&handle);
+    expect_no_refusal("freed", &handle);
+}
+
+/* As much of a place as fits is copied, and the rest of the room stays. */
+static void test_place_room(void) {
+    const char *place = "/properties/age/minimum";
+    const size_t length = strlen(place);
+    jschema handle = JSCHEMA_EMPTY;
+    uint32_t kind, subject;
+    size_t document, said;
+    char out[32];
+    jschema_new(&handle);
+    jschema_add(&handle, URI, TEXT("{\"properties\": {\"age\": {\"minimum\": \"0\"}}}"));
+    jschema_finish(&handle);
+    for (size_t room = 0; room <= sizeof out; room++) {
+        size_t fits = room < length ? room : length;
+        memset(out, 'x', sizeof out);
+        expect_that("a refusal", jschema_refusal(&handle, &kind, &subject, &document, (uint8_t *)(room ? out : NULL),
+                                                 room, &said) == JSCHEMA_DONE);
+        expect_that("the length of the place", said == length);
+        expect_that("the place", memcmp(out, place, fits) == 0);
+        for (size_t i = fits; i < sizeof out; i++) expect_that("the rest", out[i] == 'x');
+    }
+    jschema_free(&handle);
+}
+
+/* A URI with a zero byte, wherever it stands, is no argument of the program, and none of these calls. */
+static void test_zero_bytes(void) {
+    jschema handle = JSCHEMA_EMPTY;
+    size_t entry = 7;
+    jschema_new(&handle);
+    expect("a zero byte alone", &handle, jschema_add(&handle, TEXT("\0"), TEXT("true")), JSCHEMA_MISUSED, "");
+    expect("at the beginning", &handle, jschema_add(&handle, TEXT("\0a:b"), TEXT("true")), JSCHEMA_MISUSED, "");
+    expect("within", &handle, jschema_add(&handle, TEXT("a:\0b"), TEXT("true")), JSCHEMA_MISUSED, "");
+    expect("at the end", &handle, jschema_add(&handle, TEXT("a:b\0"), TEXT("true")), JSCHEMA_MISUSED, "");
+    expect("with no text", &handle, jschema_add(&handle, TEXT("a:b\0"), TEXT("")), JSCHEMA_MISUSED, "");
+    expect("an escape", &handle, jschema_add(&handle, TEXT("a:%00"), TEXT("true")), JSCHEMA_DONE, "");
+    expect("in a document", &handle, jschema_add(&handle, URI, TEXT("\0")), JSCHEMA_REFUSED,
+           "refused: document 1 at \"\": NotJson");
+    expect("finish", &handle, jschema_finish(&handle), JSCHEMA_DONE, "");
+    expect("one was added", &handle, jschema_places(&handle), JSCHEMA_DONE, "a:%00#\n");
+    expect("an entry", &handle, jschema_entry(&handle, TEXT("a:%00\0"), &entry), JSCHEMA_MISUSED, "");
+    expect_that("no number", entry == 7);
+    jschema_free(&handle);
+}
+
 int main(void) {
     test_empty();
+    test_refusals();
+    test_place_room();
+    test_zero_bytes();
     test_adding();
     test_finished();
     test_shared();

@@ -70,6 +70,12 @@ size_t jschema_text(jschema *handle, uint8_t *out, size_t out_length) {
     return (void)handle, act(), length;
 }
 
+uint32_t jschema_refusal(jschema *handle, uint32_t *kind, uint32_t *subject, size_t *document, uint8_t *place,
+                         size_t place_room, size_t *place_length) {
+    *kind = JSCHEMA_BAD_KEYWORD, *subject = JSCHEMA_SUBJECT_WALK, *document = JSCHEMA_NO_DOCUMENT, *place_length = 0;
+    return (void)handle, (void)place, (void)place_room, act();
+}
+
 void jschema_free(jschema *handle) { (void)handle, act(); }
 
 uint32_t jschema_version(void) { return act(); }

@@ -123,6 +123,11 @@ start:
   ret i64 16
 }
 
+define noundef i32 @jschema_refusal(ptr noundef %handle, ptr noundef %kind, ptr noundef %subject, ptr noundef %document, ptr noundef %place, i64 noundef %room, ptr noundef %length) #0 {
+start:
+  ret i32 2
+}
+
 define void @jschema_free(ptr noundef %handle) #0 {
 start:
   ret void

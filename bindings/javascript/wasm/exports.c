@@ -1,6 +1,6 @@
 /* What the module exports: the calls of jschema.h over those of the compiled library (proved_...), with pointers
-   and lengths of 32 bits, as the memory has them. The handle and the number that jschema_entry writes have 64 bits in
-   each field: 16 bytes, and 8. */
+   and lengths of 32 bits, as the memory has them. The handle, the number that jschema_entry writes, and the document
+   and the length that jschema_refusal writes have 64 bits in each field: 16 bytes, and 8. */
 typedef unsigned long long usize;
 typedef unsigned int u32;
 
@@ -15,6 +15,7 @@ u32 proved_jschema_entry(void *, const void *, usize, void *);
 u32 proved_jschema_share(void *, void *);
 u32 proved_jschema_check(void *, usize, const void *, usize, u32);
 usize proved_jschema_text(void *, void *, usize);
+u32 proved_jschema_refusal(void *, void *, void *, void *, void *, usize, void *);
 void proved_jschema_free(void *);
 u32 proved_jschema_version(void);
 
@@ -44,6 +45,10 @@ u32 jschema_check(u32 handle, u32 entry, u32 instance, u32 instance_length, u32 
 
 u32 jschema_text(u32 handle, u32 out, u32 length) {
     return proved_jschema_text(AT(handle), AT(out), length);
+}
+
+u32 jschema_refusal(u32 handle, u32 kind, u32 subject, u32 document, u32 place, u32 room, u32 place_length) {
+    return proved_jschema_refusal(AT(handle), AT(kind), AT(subject), AT(document), AT(place), room, AT(place_length));
 }
 
 void jschema_free(u32 handle) { proved_jschema_free(AT(handle)); }

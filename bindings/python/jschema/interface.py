@@ -10,6 +10,40 @@ FORMATS = {"flag": 0, "basic": 1, "detailed": 2, "verbose": 3, "merged": 4}
 #: What a call of the library answers, and the program's exit statuses, by their numbers from 0.
 STATUSES = ("DONE", "INVALID", "MISUSED", "REFUSED", "FAILED")
 
+#: What is refused, by its number in the library, and whether the refusal has a place in it.
+SUBJECTS = {
+    1: ("input", False),
+    2: ("document", True),
+    3: ("entry", False),
+    4: ("instance", True),
+    5: ("walk", False),
+    6: ("suite", True),
+}
+
+#: Each kind of refusal, by its number in the library.
+KINDS = {
+    1: "NotJson",
+    2: "NotWhole",
+    3: "BadUri",
+    4: "TooManyDocuments",
+    5: "UriTooLong",
+    6: "NotASchema",
+    7: "BadKeyword",
+    8: "BadPattern",
+    9: "PatternTooLarge",
+    10: "BadId",
+    11: "BadAnchor",
+    12: "UnknownDialect",
+    13: "DuplicateUri",
+    14: "DuplicateAnchor",
+    15: "TooManyPlaces",
+    16: "BadReference",
+    17: "Unresolved",
+    18: "InputTooLarge",
+    19: "TooLarge",
+    20: "BadSuite",
+}
+
 #: The limits of the validator.
 LIMITS = {
     "applications": 512,

@@ -11,9 +11,8 @@ from pathlib import Path
 from typing import Any, Callable, Optional, TypeVar, cast
 
 from .engine import Answer
-from .errors import EngineError, EngineNotFound
-from .interface import FORMATS, STATUSES, VERSION
-from .lines import fault_of
+from .errors import EngineError, EngineNotFound, Refused
+from .interface import FORMATS, KINDS, STATUSES, SUBJECTS, VERSION
 from .stacks import on_large_stack
 
 _Result = TypeVar("_Result")
@@ -86,6 +85,8 @@ def _load(path: str) -> ctypes.CDLL:
                 ("share", c_uint32, (handle, handle)),
                 ("check", c_uint32, (handle, c_size_t, c_char_p, c_size_t, c_uint32)),
                 ("text", c_size_t, (handle, c_char_p, c_size_t)),
+                ("refusal", c_uint32, (handle, POINTER(c_uint32), POINTER(c_uint32), POINTER(c_size_t), c_char_p,
+                                       c_size_t, POINTER(c_size_t))),
                 ("free", None, (handle,))):
             call = getattr(library, f"jschema_{name}")
             call.restype, call.argtypes = result, arguments
@@ -175,9 +176,27 @@ class _Schemas:
             return
         if status == _FAILED:
             raise MemoryError("failed: Memory")
-        line = self._text().decode()
-        raise fault_of(line, self.uris) or EngineError(
-            f"the library answered status {status}: {line.strip() or 'no message'}")
+        if status == _REFUSED:
+            raise self._refusal()
+        raise EngineError(f"the library answered status {status}")
+
+    def _refusal(self) -> Refused:
+        """What the last call refused."""
+        kind, subject, document, length = c_uint32(), c_uint32(), c_size_t(), c_size_t()
+        room: Any = self._room
+        while True:
+            status = self._library.jschema_refusal(self._handle, byref(kind), byref(subject), byref(document), room,
+                                                   len(room), byref(length))
+            if status != _DONE:
+                raise EngineError(f"the library answered status {status} when it was asked what it refused")
+            if length.value <= len(room):
+                break
+            room = ctypes.create_string_buffer(length.value)
+        self.is_worn = self.is_worn or length.value > _LARGE_TEXT
+        name, has_place = SUBJECTS[subject.value]
+        place: Optional[str] = room[:length.value].decode() if has_place else None
+        index = document.value if name == "document" else None
+        return Refused(name, KINDS[kind.value], place, index, None if index is None else self.uris[index])
 
     def free(self) -> None:
         self._library.jschema_free(self._handle)

@@ -31,6 +31,8 @@ def padded(length):
 
 
 BAD = "document", "BadUri", "", 0
+# A place that is longer than the room that the engine of the library has at first.
+LONG = "a/" * 5000
 # The documents, the entry, the instance, and what must come of them with each engine.
 RULES = (
     ({URI: padded(LARGEST)}, URI, b"1", True),
@@ -50,6 +52,21 @@ RULES = (
     ({URI: '{"title": "\ud800"}'}, URI, b"1", ("document", "NotJson", "", 0, URI)),
     ({URI: {"title": "\ud800"}}, URI, b"1", ("document", "NotJson", "", 0, URI)),
     ({"a:b": True, URI: {"minimum": 1.0}}, URI, b"1", ("document", "NotWhole", "/minimum", 1, URI)),
+    ({"a:b": True, URI: {"properties": {LONG: 1}}}, URI, b"1",
+     ("document", "NotASchema", f"/properties/{LONG.replace('/', '~1')}", 1, URI)),
+    ({URI: True}, URI, json.dumps({LONG: [0, 0.5]}).encode(),
+     ("instance", "NotWhole", f"/{LONG.replace('/', '~1')}/1", None, None)),
+    ({URI: True}, URI, b"{", ("instance", "NotJson", "", None, None)),
+    ({URI: {"$ref": "#"}}, URI, b"1", ("walk", "TooLarge", None, None, None)),
+    ({URI: True}, "a:b", b"1", ("entry", "Unresolved", None, None, None)),
+)
+# Documents and an entry whose URIs no engine takes: `Schemas` refuses them before.
+ZERO_BYTES = (
+    (["a:\0"], "a:b"),
+    (["\0a:b"], "a:b"),
+    (["a:b", "a:\0c"], "a:b"),
+    ([URI], URI + "\0"),
+    ([URI], f"{URI}#\0"),
 )
 
 
@@ -59,6 +76,17 @@ class Rules(unittest.TestCase):
             for number, (documents, entry, instance, expected) in enumerate(RULES):
                 with self.subTest(number, engine=name):
                     self.assertEqual(outcome(documents, entry, instance, engine), expected)
+
+
+    def test_zero_bytes(self):
+        for name, engine in engines():
+            for number, (uris, entry) in enumerate(ZERO_BYTES):
+                with self.subTest(number, engine=name), self.assertRaises(jschema.EngineError):
+                    asked = engine()
+                    for uri in uris:
+                        asked.add(uri, b"true")
+                    asked.finish()
+                    asked.is_valid(entry, b"1")
 
 
 class Values(unittest.TestCase):

@@ -1,5 +1,6 @@
 pub mod CauseLists
 pub mod BundleCauses
+pub mod Roots
 pub mod Sites
 pub mod Recorded
 pub mod RowsThere

@@ -6,8 +6,9 @@ ghost use Rattle.js_output.specs.Outcome.{UsesSource};
 ghost use Rattle.js_output.specs.Suite.{ReadLines, SuiteOutcome, lines_report, SendsLines, IsSuiteLate};
 ghost use Rattle.js_output.specs.SuiteText.{suite_reading};
 ghost use Rattle.js_output.specs.Report.{Answers, Reports};
+ghost use Rattle.js_output.specs.code.Roots.{AreRoots};
 
-use crate::documents::finished;
+use crate::documents::checked_roots;
 use crate::fault::Fault;
 use crate::input::{LIMIT, read_all};
 use crate::sink::Sink;
@@ -15,6 +16,7 @@ use crate::source::Source;
 use crate::suite_judging::judged_lines;
 use crate::suite_lines::{Counts, TestLine, counts_of, lines_text};
 use crate::suite_text::suite_from;
+use js_doc::Doc;
 use std::alloc::Global;
 use std::io::{Read, Write};
 
@@ -55,9 +57,9 @@ pub fn run_suite<R: Read, W: Write>(
     ensures unflushed { Unflushed out.old out.new }
     ensures sink_stays { out.old.failed ≡ true → out.new ≡ out.old }
 {
-    finished(alloc, docs)?;
+    let roots = checked_roots(alloc, docs)?;
     let bytes = read_all(alloc, suite)?;
-    write_suite(alloc, docs, bytes.as_slice(), out)
+    write_suite(alloc, docs, roots.as_slice(), bytes.as_slice(), out)
 }
 
 /// [`run_suite`] of a suite that has been read.
@@ -79,20 +81,22 @@ pub fn run_suite_text<W: Write>(
     ensures unflushed { Unflushed out.old out.new }
     ensures sink_stays { out.old.failed ≡ true → out.new ≡ out.old }
 {
-    finished(alloc, docs)?;
+    let roots = checked_roots(alloc, docs)?;
     if LIMIT < suite.len() {
         return Err(Fault::InputTooLarge);
     }
-    write_suite(alloc, docs, suite, out)
+    write_suite(alloc, docs, roots.as_slice(), suite, out)
 }
 
-// Runs the suite with this text.
+// Runs the suite with this text over documents with these values.
 fn write_suite<W: Write>(
     alloc: Global,
     docs: &[(&str, &[u8])],
+    roots: &[Doc],
     bytes: &[u8],
     out: &mut Sink<W>,
 ) -> Result<Counts, Fault>
+    requires { AreRoots docs.now roots.now }
     ensures answer { Reports lines_report
         (ReadLines (documents_of docs.now) (suite_reading bytes.now)) W.contents
         out.old out.new result }
@@ -102,7 +106,7 @@ fn write_suite<W: Write>(
     ensures sink_stays { out.old.failed ≡ true → out.new ≡ out.old }
 {
     let groups = suite_from(alloc, bytes)?;
-    let lines = judged_lines(alloc, docs, groups.as_slice())?;
+    let lines = judged_lines(alloc, docs, roots, groups.as_slice())?;
     write_lines(alloc, lines.as_slice(), out)
 }
 

@@ -8,11 +8,12 @@ ghost use Rattle.js_output.specs.Entry.{IsEntry};
 ghost use Rattle.js_output.specs.Suite.{AreGroupLines, AreLines, AreTestLines, IsBasis, IsLine, IsStatusOn};
 ghost use Rattle.js_output.specs.Suite.{adding_causes_with, causes_with, documents_with, group_causes, group_uri};
 ghost use Rattle.js_output.specs.Suite.{whole_causes, with_root, with_schema};
+ghost use Rattle.js_output.specs.code.Roots.{AreRoots};
 ghost use Rattle.js_output.specs.code.SuiteJudging.{IsJudge, IsStatusAt, IsThere, IsNotMemory, basis_of, compared};
 ghost use Rattle.js_output.specs.SuiteText.{groups_seen, group_seen, tests_seen, test_seen};
 ghost use Rattle.js_output.specs.declared.suite_lines.TestLine.{TestLine};
 
-use crate::documents::{bundled, finish_bundle};
+use crate::documents::{bundle_again, finish_bundle};
 use crate::entry::{Entry, entry_place};
 use crate::fault::Fault;
 use crate::suite_lines::{TestLine, TestStatus};
@@ -22,18 +23,20 @@ use js_doc::{Doc, Memory};
 use js_eval::{WalkFault, verdict};
 use std::alloc::{AllocError, Global};
 
-/// A line for each test of the groups, in order. Each group has the documents to itself, with its
-/// schema as the last one, which is the entry.
+/// A line for each test of the groups, in order. Each group has the documents, of which these are the
+/// values, to itself, with its schema as the last one, which is the entry.
 pub(crate) fn judged_lines(
     alloc: Global,
     docs: &[(&str, &[u8])],
+    roots: &[Doc],
     groups: &[SuiteGroup],
 ) -> Result<Vec<TestLine>, Memory>
+    requires { AreRoots docs.now roots.now }
     ensures { IfOk result (λ v. AreLines (documents_of docs.now) 0 (groups_seen groups.now) v.items) }
 {
     let mut lines = Vec::new(alloc);
     for number in 0..groups.len() {
-        judge_group(alloc, docs, number, &groups[number], &mut lines)?;
+        judge_group(alloc, docs, roots, number, &groups[number], &mut lines)?;
     }
     Ok(lines)
 }
@@ -41,14 +44,16 @@ pub(crate) fn judged_lines(
 fn judge_group(
     alloc: Global,
     docs: &[(&str, &[u8])],
+    roots: &[Doc],
     number: usize,
     group: &SuiteGroup,
     lines: &mut Vec<TestLine>,
 ) -> Result<(), Memory>
+    requires { AreRoots docs.now roots.now }
     ensures { OnOk result ((these : List TestLine) × (lines.new.items ≡ lines.old.items ++ these)
         × AreGroupLines (documents_of docs.now) number (group_seen group.now) these) }
 {
-    let entry = group_entry(alloc, docs, number, &group.schema)?;
+    let entry = group_entry(alloc, docs, roots, number, &group.schema)?;
     judge_tests(alloc, &entry, number, group.tests.as_slice(), lines)
 }
 
@@ -94,9 +99,11 @@ fn judged_line(
 fn group_entry(
     alloc: Global,
     docs: &[(&str, &[u8])],
+    roots: &[Doc],
     number: usize,
     schema: &Option<Doc>,
 ) -> Result<Option<Entry>, Memory>
+    requires { AreRoots docs.now roots.now }
     ensures basis { IfOk result (λ o. IsBasis (documents_of docs.now) number
         (option_map value_of schema.now) (basis_of o)) }
     ensures entry { IfOk result (IsJudge number) }
@@ -104,7 +111,7 @@ fn group_entry(
     let Some(schema) = schema else {
         return Ok(None);
     };
-    match entry_with(alloc, docs, number, schema) {
+    match entry_with(alloc, docs, roots, number, schema) {
         Ok(entry) => Ok(Some(entry)),
         Err(fault) => without_entry(&fault),
     }
@@ -125,9 +132,11 @@ fn without_entry(fault: &Fault) -> Result<Option<Entry>, Memory>
 fn entry_with(
     alloc: Global,
     docs: &[(&str, &[u8])],
+    roots: &[Doc],
     number: usize,
     schema: &Doc,
 ) -> Result<Entry, Fault>
+    requires { AreRoots docs.now roots.now }
     ensures schemas { IfOk result
         (λ e. e.schemas ≡ with_schema (documents_of docs.now) number (value_of schema.now)) }
     ensures entry { IfOk result (λ e. IsEntry e.schemas (group_uri number) e) }
@@ -137,10 +146,17 @@ fn entry_with(
         (FailsBy (group_causes (documents_of docs.now) number (value_of schema.now))) }
 {
     let uri = group_uri(alloc, number)?;
-    entry_at(alloc, docs, uri.as_str(), schema)
+    entry_at(alloc, docs, roots, uri.as_str(), schema)
 }
 
-fn entry_at(alloc: Global, docs: &[(&str, &[u8])], uri: &str, schema: &Doc) -> Result<Entry, Fault>
+fn entry_at(
+    alloc: Global,
+    docs: &[(&str, &[u8])],
+    roots: &[Doc],
+    uri: &str,
+    schema: &Doc,
+) -> Result<Entry, Fault>
+    requires { AreRoots docs.now roots.now }
     ensures schemas { IfOk result
         (λ e. e.schemas ≡ documents_with (documents_of docs.now) uri.now (value_of schema.now)) }
     ensures entry { IfOk result (λ e. IsEntry e.schemas uri.now e) }
@@ -149,7 +165,7 @@ fn entry_at(alloc: Global, docs: &[(&str, &[u8])], uri: &str, schema: &Doc) -> R
     ensures err { IfErr result
         (FailsBy (causes_with (documents_of docs.now) uri.now (value_of schema.now))) }
 {
-    let bundle = bundle_with(alloc, docs, uri, schema)?;
+    let bundle = bundle_with(alloc, docs, roots, uri, schema)?;
     entry_in(alloc, bundle, uri)
 }
 
@@ -162,15 +178,17 @@ fn group_uri(alloc: Global, number: usize) -> Result<String, AllocError>
 fn bundle_with(
     alloc: Global,
     docs: &[(&str, &[u8])],
+    roots: &[Doc],
     uri: &str,
     schema: &Doc,
 ) -> Result<Bundle, Fault>
+    requires { AreRoots docs.now roots.now }
     ensures ok { IfOk result
         (λ b. b ≡ documents_with (documents_of docs.now) uri.now (value_of schema.now)) }
     ensures clear { OnOk result (MayGoOn (adding_causes_with (documents_of docs.now) uri.now)) }
     ensures err { IfErr result (FailsBy (adding_causes_with (documents_of docs.now) uri.now)) }
 {
-    let mut bundle = bundled(alloc, docs)?;
+    let mut bundle = bundle_again(alloc, docs, roots)?;
     let schema = schema.copy(alloc)?;
     add_doc(&mut bundle, uri, schema)?;
     Ok(bundle)

@@ -12,12 +12,14 @@ use Rattle.js_output.specs.declared.fault.Fault.{Fault}
 use Rattle.js_output.proofs.Answering.{after-clear}
 use Rattle.js_output.proofs.FinishedSchemas.{finished_are, outcome_over}
 use Rattle.js_output.proofs.Sites.{stands_named, stands_there}
+use Rattle.jschema_c.specs.declared.said.Said.{Said}
 use Rattle.jschema_c.specs.declared.session.Session.{Session}
 use Rattle.jschema_c.specs.declared.status.Status.{Status}
 use Rattle.jschema_c.specs.declared.status.Status.TheVariants as status
 use Rattle.jschema_c.specs.Exports.{SessionChecks}
 use Rattle.jschema_c.specs.Run.{IsReady, TellsOutcome}
-use Rattle.jschema_c.specs.Session.{Asked, Checks, IsOutput, Judges, Says}
+use Rattle.jschema_c.specs.Said.{Says}
+use Rattle.jschema_c.specs.Session.{Asked, Checks, IsOutput, Judges}
 use Rattle.jschema_c.specs.Status.{format_number}
 
 abbrev format_numbered : ℕ → Format
@@ -75,23 +77,23 @@ module _ (documents : DocumentTexts) (uri : List ℕ) (number : ℕ) (s : Sessio
       → IsOutput Expected valid text
   output valid text (it, comes, verdict, is) = (it, onto (Ok it) comes, verdict, is)
 
-  judged : (given : List ℕ) (came : Result Status Fault) (answered : Status) (text : List ℕ)
+  judged : (given : List ℕ) (came : Result Status Fault) (answered : Status) (said : Said)
       → Judges Here given came
-      → Says given came answered text → TellsOutcome Expected answered text
-  judged given (Ok status.Done) answered text h (is, same) =
-      subst (λ a. TellsOutcome Expected a text) (sym is)
-      (subst (λ t. IsOutput Expected true t) (sym same) (output true given h))
-  judged given (Ok status.Invalid) answered text h (is, same) =
-      subst (λ a. TellsOutcome Expected a text) (sym is)
-      (subst (λ t. IsOutput Expected false t) (sym same) (output false given h))
-  judged given (Ok status.Misused) answered text h says = absurd h
-  judged given (Ok status.Refused) answered text h says = absurd h
-  judged given (Ok status.Failed) answered text h says = absurd h
-  judged given (Err f) status.Done text h says = absurd says
-  judged given (Err f) status.Invalid text h says = absurd says
-  judged given (Err f) status.Misused text h says = absurd says
-  judged given (Err f) status.Refused text h (refusal, is) = (f, onto (Err f) (h refusal), refusal, is)
-  judged given (Err f) status.Failed text h says = says
+      → Says given came answered said → TellsOutcome Expected answered said
+  judged given (Ok status.Done) answered said h (is, same, none) =
+      subst (λ a. TellsOutcome Expected a said) (sym is)
+      (subst (λ t. IsOutput Expected true t) (sym same) (output true given h), none)
+  judged given (Ok status.Invalid) answered said h (is, same, none) =
+      subst (λ a. TellsOutcome Expected a said) (sym is)
+      (subst (λ t. IsOutput Expected false t) (sym same) (output false given h), none)
+  judged given (Ok status.Misused) answered said h says = absurd h
+  judged given (Ok status.Refused) answered said h says = absurd h
+  judged given (Ok status.Failed) answered said h says = absurd h
+  judged given (Err f) status.Done said h says = absurd says
+  judged given (Err f) status.Invalid said h says = absurd says
+  judged given (Err f) status.Misused said h says = absurd says
+  judged given (Err f) status.Refused said h says = (f, onto (Err f) (h says.refusal), says)
+  judged given (Err f) status.Failed said h says = says
 
   -- what was asked is what is ready
   there : (given : List ℕ) (came : Result Status Fault) (schemas : bundle.Documents) (place : ℕ) (other : Format)
@@ -105,21 +107,21 @@ module _ (documents : DocumentTexts) (uri : List ℕ) (number : ℕ) (s : Sessio
       (subst (λ p. Judges (At ready.schemas p other) given came) at
       (subst (λ d. Judges (At d place other) given came) same h))
 
-  checked : (given : List ℕ) (came : Result Status Fault) (answered : Status) (text : List ℕ)
+  checked : (given : List ℕ) (came : Result Status Fault) (answered : Status) (said : Said)
       → Checks s.phase s.limits s.entries.items number instance (format_number format) given came
-      → Says given came answered text → TellsOutcome Expected answered text
-  checked given (Ok status.Misused) answered text (none, empty) says =
+      → Says given came answered said → TellsOutcome Expected answered said
+  checked given (Ok status.Misused) answered said (none, empty) says =
       absurd (none ready.schemas ready.place format asked)
-  checked given (Ok status.Done) answered text (schemas, place, other, is, h) says =
-      judged given (Ok status.Done) answered text (there given (Ok status.Done) schemas place other is h) says
-  checked given (Ok status.Invalid) answered text (schemas, place, other, is, h) says =
-      judged given (Ok status.Invalid) answered text (there given (Ok status.Invalid) schemas place other is h) says
-  checked given (Ok status.Refused) answered text (schemas, place, other, is, h) says = absurd h
-  checked given (Ok status.Failed) answered text (schemas, place, other, is, h) says = absurd h
-  checked given (Err f) answered text (schemas, place, other, is, h) says =
-      judged given (Err f) answered text (there given (Err f) schemas place other is h) says
+  checked given (Ok status.Done) answered said (schemas, place, other, is, h) says =
+      judged given (Ok status.Done) answered said (there given (Ok status.Done) schemas place other is h) says
+  checked given (Ok status.Invalid) answered said (schemas, place, other, is, h) says =
+      judged given (Ok status.Invalid) answered said (there given (Ok status.Invalid) schemas place other is h) says
+  checked given (Ok status.Refused) answered said (schemas, place, other, is, h) says = absurd h
+  checked given (Ok status.Failed) answered said (schemas, place, other, is, h) says = absurd h
+  checked given (Err f) answered said (schemas, place, other, is, h) says =
+      judged given (Err f) answered said (there given (Err f) schemas place other is h) says
 
   pub check_tells : (after : Session) (answered : Status)
       → SessionChecks number instance (format_number format) s after answered
-      → TellsOutcome Expected answered after.text.items
-  check_tells after answered ((given, came, h, says), stays) = checked given came answered after.text.items h says
+      → TellsOutcome Expected answered after.said
+  check_tells after answered ((given, came, h, says), stays) = checked given came answered after.said h says

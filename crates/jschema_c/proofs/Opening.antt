@@ -15,6 +15,7 @@ use Rattle.js_output.specs.Documents.{DocumentTexts}
 use Rattle.js_output.specs.Entry.{entry_causes, entry_place}
 use Rattle.js_output.specs.Finished.{AreAddedInTurn}
 use Rattle.js_output.specs.declared.fault.Fault.{Fault}
+use Rattle.jschema_c.specs.declared.said.Said.{Said}
 use Rattle.jschema_c.specs.declared.session.Phase.{Phase}
 use Rattle.jschema_c.specs.declared.session.Phase.TheVariants as phase
 use Rattle.jschema_c.specs.declared.session.Session.{Session}
@@ -40,7 +41,7 @@ kept_last xs x =
 
 -- ---- calls that are done
 
-added_by : (old new : Phase) (uri text said : List ℕ) → AddCall uri text old new status.Done said
+added_by : (old new : Phase) (uri text : List ℕ) (said : Said) → AddCall uri text old new status.Done said
     → AddedTo old uri text new
 added_by old new uri text said (Ok status.Done, h, says) = h
 added_by old new uri text said (Ok status.Invalid, h, says) = absurd h
@@ -49,7 +50,7 @@ added_by old new uri text said (Ok status.Refused, h, says) = absurd h
 added_by old new uri text said (Ok status.Failed, h, says) = absurd h
 added_by old new uri text said (Err f, h, says) = absurd says
 
-finished_by : (old new : Phase) (said : List ℕ) → FinishCall old new status.Done said → FinishedAs old new
+finished_by : (old new : Phase) (said : Said) → FinishCall old new status.Done said → FinishedAs old new
 finished_by old new said (Ok status.Done, h, says) = h
 finished_by old new said (Ok status.Invalid, h, says) = absurd h
 finished_by old new said (Ok status.Misused, h, says) = absurd (cc (says.0))
@@ -57,7 +58,7 @@ finished_by old new said (Ok status.Refused, h, says) = absurd h
 finished_by old new said (Ok status.Failed, h, says) = absurd h
 finished_by old new said (Err f, h, says) = absurd says
 
-entered_by : (state : Phase) (uri : List ℕ) (old new : List ℕ × ℕ) (said : List ℕ)
+entered_by : (state : Phase) (uri : List ℕ) (old new : List ℕ × ℕ) (said : Said)
     → EntryCall state uri old new status.Done said → Entered state uri old.0 new.0 new.1
 entered_by state uri old new said (Ok status.Done, h, says) = h
 entered_by state uri old new said (Ok status.Invalid, h, says) = absurd h
@@ -82,7 +83,7 @@ all_added : (before : bundle.Documents) (documents : DocumentTexts) (s full : Se
 all_added before [] s full e same = (before, ap (λ x. x.phase) same ∙ e, refl)
 all_added before (d ∷ ds) s full e (more, call, rest) =
     let (next, at, added) = one_more before s.phase more.phase d.0 d.1 e
-    (added_by s.phase more.phase d.0 d.1 more.text.items call.0) in
+    (added_by s.phase more.phase d.0 d.1 more.said call.0) in
     let (all, there, later) = all_added next ds more full at rest in (all, there, (next, added, later))
 
 all_finished : (documents : bundle.Documents) (old new : Phase) → old ≡ phase.Adding documents → FinishedAs old new
@@ -118,9 +119,9 @@ pub opened : (documents : DocumentTexts) (uri : List ℕ) (number : ℕ) (s : Se
 opened documents uri number s is =
     let (all, adding, added) = all_added [] documents is.empty is.full is.is_new.none is.adds in
     let (held, clear) = all_finished all is.full.phase is.finished.phase adding
-    (finished_by is.full.phase is.finished.phase is.finished.text.items is.finishes.0) in
+    (finished_by is.full.phase is.finished.phase is.finished.said is.finishes.0) in
     let entry = found all is.finished.phase uri is.finished.entries.items s.entries.items number held
-    (entered_by is.finished.phase uri (is.finished.entries.items, is.earlier) (s.entries.items, number) s.text.items
+    (entered_by is.finished.phase uri (is.finished.entries.items, is.earlier) (s.entries.items, number) s.said
     is.enters.0) in record {
       schemas = all;
       place = entry.place;

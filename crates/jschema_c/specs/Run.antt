@@ -1,19 +1,20 @@
 -- Calls on a handle, one after another, and what a run over the same documents comes to.
-use Rattle.std.specs.Prelude.{◌≡◌, ℕ, List, [], ◌∷◌, slice_get, Option, Some, Result, Err, true, false}
+use Rattle.std.specs.Prelude.{◌≡◌, ℕ, List, [], ◌∷◌, slice_get, Option, Some, None, Result, Err, true, false}
 use Rattle.js_bundle.specs.Document as bundle
 use Rattle.js_bundle.specs.Schemas.{StandsFor}
 use Rattle.js_output.specs.Cause.{MayGoOn}
 use Rattle.js_output.specs.Documents.{DocumentTexts}
 use Rattle.js_output.specs.Entry.{entry_causes, entry_place}
 use Rattle.js_output.specs.Finished.{AreFinished}
-use Rattle.js_output.specs.Line.{fault_line}
 use Rattle.js_output.specs.Outcome.{Output}
 use Rattle.js_output.specs.declared.fault.Fault.{Fault}
+use Rattle.jschema_c.specs.declared.said.Said.{Said}
 use Rattle.jschema_c.specs.declared.session.Session.{Session}
 use Rattle.jschema_c.specs.declared.status.Status.{Status}
 use Rattle.jschema_c.specs.declared.status.Status.TheVariants as status
 use Rattle.jschema_c.specs.Exports.{IsNew, SessionAdds, SessionFinishes, SessionEnters}
-use Rattle.jschema_c.specs.Session.{finished_in, IsOutput, IsRefusal}
+use Rattle.jschema_c.specs.Said.{SaysFault, IsSilent, text_in}
+use Rattle.jschema_c.specs.Session.{finished_in, IsOutput}
 
 -- these documents were added, one after another
 abbrev pub AddsInTurn : Session → DocumentTexts → Session → Type 0
@@ -42,10 +43,10 @@ pub record IsReady (documents : DocumentTexts) (uri : List ℕ) (number : ℕ) (
   pub stands : StandsFor schemas place (entry_place schemas uri)
   pub kept : slice_get s.entries.items number ≡ Some place
 
--- the status and the text of a check are those of this outcome; or memory ran out
-abbrev pub TellsOutcome : (Result Output Fault → Type 0) → Status → List ℕ → Type 0
-TellsOutcome Expected status.Done text = IsOutput Expected true text
-TellsOutcome Expected status.Invalid text = IsOutput Expected false text
-TellsOutcome Expected status.Misused text = ⊥
-TellsOutcome Expected status.Refused text = (f : Fault) × Expected (Err f) × IsRefusal f × (text ≡ fault_line f)
-TellsOutcome Expected status.Failed text = text ≡ []
+-- the status of a check and what it says are those of this outcome; or memory ran out
+abbrev pub TellsOutcome : (Result Output Fault → Type 0) → Status → Said → Type 0
+TellsOutcome Expected status.Done said = IsOutput Expected true (text_in said) × (said.refusal ≡ None)
+TellsOutcome Expected status.Invalid said = IsOutput Expected false (text_in said) × (said.refusal ≡ None)
+TellsOutcome Expected status.Misused said = ⊥
+TellsOutcome Expected status.Refused said = (f : Fault) × Expected (Err f) × SaysFault f status.Refused said
+TellsOutcome Expected status.Failed said = IsSilent said

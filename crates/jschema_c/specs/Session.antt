@@ -1,6 +1,7 @@
--- What a session answers to each call, and what it and its text are afterwards.
+-- What a session answers to each call, and what it holds and says afterwards.
 use Rattle.std.specs.Prelude.{◌≡◌, ◌≤◌, ◌<◌, ◌⊎◌, ℕ, List, [], ◌∷◌, ◌++◌, length, slice_get, Option, Some}
-use Rattle.std.specs.Prelude.{None, Result, Ok, Err, Bool, true, false, ⊤}
+use Rattle.std.specs.Prelude.{None, Result, Ok, Err, Bool, true, false, ◌==◌, ⊤}
+use Rattle.std.specs.List.{list_any}
 use Rattle.std.specs.Str.{IsUtf8}
 use Rattle.js_tree.specs.declared.forms.Format.{Format}
 use Rattle.js_bundle.specs.Adding.{IsAdded, IsRefusedBy}
@@ -17,7 +18,6 @@ use Rattle.js_output.specs.Cause.{MayGoOn}
 use Rattle.js_output.specs.Device.{input_limit}
 use Rattle.js_output.specs.Documents.{fault_by}
 use Rattle.js_output.specs.Entry.{entry_causes, entry_fault_of, entry_place}
-use Rattle.js_output.specs.Line.{fault_line}
 use Rattle.js_output.specs.Outcome.{Output, InstanceOutcomeWithin}
 use Rattle.js_output.specs.Places.{lines_of}
 use Rattle.js_output.specs.declared.fault.Fault.{Fault}
@@ -26,6 +26,9 @@ use Rattle.jschema_c.specs.declared.session.Phase.{Phase}
 use Rattle.jschema_c.specs.declared.session.Phase.TheVariants as phase
 use Rattle.jschema_c.specs.declared.status.Status.{Status}
 use Rattle.jschema_c.specs.declared.status.Status.TheVariants as status
+use Rattle.jschema_c.specs.Refusal.{IsRefusal}
+use Rattle.jschema_c.specs.Said.{Says}
+use Rattle.jschema_c.specs.declared.said.Said.{Said}
 use Rattle.jschema_c.specs.Status.{format_number}
 
 -- the documents, once they are finished
@@ -33,36 +36,25 @@ abbrev pub finished_in : Phase → Option Documents
 finished_in (phase.Adding documents) = None
 finished_in (phase.Finished schemas) = Some schemas.value
 
--- ---- the status, and the text
+-- ---- URIs
 
--- a fault of an input, and not of memory or a device
-abbrev pub IsRefusal : Fault → Type 0
-IsRefusal fault.Memory = ⊥
-IsRefusal fault.Read = ⊥
-IsRefusal fault.Write = ⊥
-IsRefusal _ = ⊤
+abbrev pub has_zero : List ℕ → Bool
+has_zero bytes = list_any (λ b. b == 0) bytes
 
--- a refusal is answered with its line as the text, out of memory with none
-abbrev pub SaysFault : Fault → Status → List ℕ → Type 0
-SaysFault f status.Refused text = IsRefusal f × (text ≡ fault_line f)
-SaysFault f status.Failed text = text ≡ []
-SaysFault f _ text = ⊥
-
--- of what a call comes to: its own status with the text that it gave, or its fault
-abbrev pub Says : List ℕ → Result Status Fault → Status → List ℕ → Type 0
-Says given (Ok s) answered text = (answered ≡ s) × (text ≡ given)
-Says given (Err f) answered text = SaysFault f answered text
+-- UTF-8 without a zero byte: what can be an argument of the program
+abbrev pub IsUriText : List ℕ → Type 0
+IsUriText uri = IsUtf8 uri × (has_zero uri ≡ false)
 
 -- ---- adding
 
 abbrev pub AddedTo : Phase → List ℕ → List ℕ → Phase → Type 0
-AddedTo (phase.Adding before) uri text (phase.Adding after) = IsUtf8 uri × (length text ≤ input_limit)
+AddedTo (phase.Adding before) uri text (phase.Adding after) = IsUriText uri × (length text ≤ input_limit)
     × IsAdded before uri text after
 AddedTo _ uri text _ = ⊥
 
--- documents were finished before, or the URI isn't UTF-8
+-- documents were finished before, or the URI isn't such a text
 abbrev pub CannotAdd : Phase → List ℕ → Type 0
-CannotAdd (phase.Adding documents) uri = ¬ (IsUtf8 uri)
+CannotAdd (phase.Adding documents) uri = ¬ (IsUriText uri)
 CannotAdd (phase.Finished schemas) uri = ⊤
 
 -- the text is too large; or it isn't, and the document is refused beside the earlier ones
@@ -72,7 +64,7 @@ RefusesDocument documents uri text f = ((input_limit < length text) × (f ≡ fa
     × ((r : Refusal) × IsRefusedBy (length documents) uri text r × (f ≡ fault_by r.kind r)))
 
 abbrev pub RefusesText : Phase → List ℕ → List ℕ → Fault → Type 0
-RefusesText (phase.Adding documents) uri text f = IsUtf8 uri × RefusesDocument documents uri text f
+RefusesText (phase.Adding documents) uri text f = IsUriText uri × RefusesDocument documents uri text f
 RefusesText (phase.Finished schemas) uri text f = ⊥
 
 -- the document is added, or all is as it was
@@ -82,9 +74,9 @@ Adds uri text old new (Ok status.Misused) = (new ≡ old) × CannotAdd old uri
 Adds uri text old new (Ok _) = ⊥
 Adds uri text old new (Err f) = (new ≡ old) × RefusesText old uri text f
 
-abbrev pub AddCall : List ℕ → List ℕ → Phase → Phase → Status → List ℕ → Type 0
-AddCall uri document old new answered text = (came : Result Status Fault) × Adds uri document old new came
-    × Says [] came answered text
+abbrev pub AddCall : List ℕ → List ℕ → Phase → Phase → Status → Said → Type 0
+AddCall uri document old new answered said = (came : Result Status Fault) × Adds uri document old new came
+    × Says [] came answered said
 
 -- ---- finishing
 
@@ -108,8 +100,8 @@ Finishes old new (Ok status.Misused) = (new ≡ old) × IsFinished old
 Finishes old new (Ok _) = ⊥
 Finishes old new (Err f) = (new ≡ old) × RefusesDocuments old f
 
-abbrev pub FinishCall : Phase → Phase → Status → List ℕ → Type 0
-FinishCall old new answered text = (came : Result Status Fault) × Finishes old new came × Says [] came answered text
+abbrev pub FinishCall : Phase → Phase → Status → Said → Type 0
+FinishCall old new answered said = (came : Result Status Fault) × Finishes old new came × Says [] came answered said
 
 -- ---- the list of places
 
@@ -128,9 +120,9 @@ Lists state text (Ok status.Misused) = CannotList state × (text ≡ [])
 Lists state text (Ok _) = ⊥
 Lists state text (Err f) = IsFinished state × (f ≡ fault.Memory)
 
-abbrev pub ListCall : Phase → Status → List ℕ → Type 0
-ListCall state answered text = (given : List ℕ) × (came : Result Status Fault) × Lists state given came
-    × Says given came answered text
+abbrev pub ListCall : Phase → Status → Said → Type 0
+ListCall state answered said = (given : List ℕ) × (came : Result Status Fault) × Lists state given came
+    × Says given came answered said
 
 -- ---- entries
 
@@ -138,18 +130,18 @@ ListCall state answered text = (given : List ℕ) × (came : Result Status Fault
 -- were.
 abbrev pub Entered : Phase → List ℕ → List ℕ → List ℕ → ℕ → Type 0
 Entered (phase.Adding documents) uri old new number = ⊥
-Entered (phase.Finished schemas) uri old new number = IsUtf8 uri × MayGoOn (entry_causes schemas.value uri)
+Entered (phase.Finished schemas) uri old new number = IsUriText uri × MayGoOn (entry_causes schemas.value uri)
     × ((place : ℕ) × StandsFor schemas.value place (entry_place schemas.value uri) × (new ≡ old ++ place ∷ [])
     × (number ≡ length old))
 
--- documents aren't finished yet, or the URI isn't UTF-8
+-- documents aren't finished yet, or the URI isn't such a text
 abbrev pub CannotEnter : Phase → List ℕ → Type 0
 CannotEnter (phase.Adding documents) uri = ⊤
-CannotEnter (phase.Finished schemas) uri = ¬ (IsUtf8 uri)
+CannotEnter (phase.Finished schemas) uri = ¬ (IsUriText uri)
 
 abbrev pub RefusesEntry : Phase → List ℕ → Fault → Type 0
 RefusesEntry (phase.Adding documents) uri f = ⊥
-RefusesEntry (phase.Finished schemas) uri f = IsUtf8 uri
+RefusesEntry (phase.Finished schemas) uri f = IsUriText uri
     × ((e : EntryFault) × IsEntryFault schemas.value uri e × (f ≡ entry_fault_of e))
 
 -- of the entries and the number, before and after
@@ -159,9 +151,9 @@ Enters schemas uri old new (Ok status.Misused) = (new ≡ old) × CannotEnter sc
 Enters schemas uri old new (Ok _) = ⊥
 Enters schemas uri old new (Err f) = (new ≡ old) × RefusesEntry schemas uri f
 
-abbrev pub EntryCall : Phase → List ℕ → List ℕ × ℕ → List ℕ × ℕ → Status → List ℕ → Type 0
-EntryCall schemas uri old new answered text = (came : Result Status Fault) × Enters schemas uri old new came
-    × Says [] came answered text
+abbrev pub EntryCall : Phase → List ℕ → List ℕ × ℕ → List ℕ × ℕ → Status → Said → Type 0
+EntryCall schemas uri old new answered said = (came : Result Status Fault) × Enters schemas uri old new came
+    × Says [] came answered said
 
 -- ---- limits
 
@@ -204,7 +196,7 @@ Checks state limits entries entry instance number text came =
     (documents : Documents) × (place : ℕ) × (format : Format) × Asked state entries entry number documents place format
     × Judges (InstanceOutcomeWithin limits documents (place_at documents place) format instance) text came
 
-abbrev pub CheckCall : Phase → Limits → List ℕ → ℕ → List ℕ → ℕ → Status → List ℕ → Type 0
-CheckCall state limits entries entry instance number answered text =
+abbrev pub CheckCall : Phase → Limits → List ℕ → ℕ → List ℕ → ℕ → Status → Said → Type 0
+CheckCall state limits entries entry instance number answered said =
     (given : List ℕ) × (came : Result Status Fault) × Checks state limits entries entry instance number given came
-    × Says given came answered text
+    × Says given came answered said

@@ -10,15 +10,15 @@ ghost use Rattle.js_walk.specs.Result.{standard_limits};
 ghost use Rattle.jschema_c.specs.Run.{IsOpened, IsReady, TellsOutcome};
 ghost use Rattle.jschema_c.specs.Status.{format_number};
 
-/// A check is a run: after `jschema_new`, `jschema_add` for each document, `jschema_finish` and `jschema_entry`, the
-/// status and the text of `jschema_check` are the outcome that `js_output::run` has with the same documents, entry,
-/// format and instance.
+/// A check is a run: after `jschema_new`, `jschema_add` for each document, `jschema_finish` and `jschema_entry`, what
+/// `jschema_check` answers and leaves is the outcome that `js_output::run` has with the same documents, entry, format
+/// and instance.
 pub fn check_is_run()
     ensures { (documents : DocumentTexts) (uri : List ℕ) (number : ℕ) (s after : Session)
         (instance : List ℕ) (format : Format) (answered : Status)
         → IsOpened documents uri number s
         → SessionChecks number instance (format_number format) s after answered
-        → TellsOutcome (Outcome documents uri format instance) answered after.text.items }
+        → TellsOutcome (Outcome documents uri format instance) answered after.said }
 {
     opened_is_ready();
     ready_check_is_run();
@@ -38,7 +38,7 @@ pub fn ready_check_is_run()
         (instance : List ℕ) (format : Format) (answered : Status)
         → IsReady documents uri number s
         → SessionChecks number instance (format_number format) s after answered
-        → TellsOutcome (OutcomeWithin s.limits documents uri format instance) answered after.text.items }
+        → TellsOutcome (OutcomeWithin s.limits documents uri format instance) answered after.said }
 {}
 
 /// A ready handle stays so, whatever is checked, listed or looked up by it, and whatever its limits become; and a

@@ -4,18 +4,23 @@
 
 ghost use Rattle.std.specs.Prelude.{◌≡◌, ◌≢◌, None, IfSome, IsSomeAnd, length};
 ghost use Rattle.jschema_c.specs.Exports.{IsNew, OnHandle, SessionAdds, SessionFinishes, SessionLists, SessionEnters};
-ghost use Rattle.jschema_c.specs.Exports.{AnswersNumber, IsPut, SessionChecks, SessionLimits, Shares, copied};
+ghost use Rattle.jschema_c.specs.Exports.{AnswersNumber, IsPut, SessionChecks, SessionLimits, Shares, TellsRefusal};
+ghost use Rattle.jschema_c.specs.Exports.{refusal_in, room};
+ghost use Rattle.jschema_c.specs.Said.{copied, text_in};
 ghost use Rattle.jschema_c.specs.Status.{code};
 ghost use Rattle.jschema_c.specs.declared.status.Status.TheVariants as Status;
 
 mod handle;
 pub mod laws;
 mod loose;
+mod refusal;
+mod said;
 mod session;
 pub mod sharing_laws;
 mod status;
 
 use handle::Handle;
+use said::copy_text;
 use session::Session;
 use status::Status;
 use std::alloc::Global;
@@ -163,19 +168,43 @@ pub extern "C" fn jschema_check(
 #[unsafe(no_mangle)]
 pub extern "C" fn jschema_text(alloc: Global, handle: &mut Handle, out: &mut [u8]) -> usize
     ensures none { handle.old.value ≡ None → (result ≡ 0) × (out.new ≡ out.old) }
-    ensures text { IfSome handle.old.value (λ s. (result ≡ length s.text.items)
-        × (out.new ≡ copied s.text.items out.old)) }
+    ensures text { IfSome handle.old.value (λ s. (result ≡ length (text_in s.said))
+        × (out.new ≡ copied (text_in s.said) out.old)) }
     ensures stays { handle.new.value ≡ handle.old.value }
 {
     let Some(taken) = handle.take_session(alloc) else {
         return 0;
     };
-    let text = taken.session.text.as_slice();
-    let whole = text.len();
-    let fits = whole.min(out.len());
-    out[..fits].copy_from_slice(&text[..fits]);
+    let whole = copy_text(taken.session.said.text(), out);
     handle.put_back(alloc, taken);
     whole
+}
+
+/// What the last call refused: why, what, of which document, and where. As many bytes of the place as fit are copied.
+/// If nothing was refused, the caller's memory stays.
+#[unsafe(no_mangle)]
+pub extern "C" fn jschema_refusal(
+    alloc: Global,
+    handle: &mut Handle,
+    kind: &mut u32,
+    subject: &mut u32,
+    document: &mut usize,
+    place: &mut [u8],
+    place_length: &mut usize,
+) -> u32
+    ensures tells { AnswersNumber result (TellsRefusal (refusal_in handle.old.value)
+        (room kind.old subject.old document.old place.old place_length.old)
+        (room kind.new subject.new document.new place.new place_length.new)) }
+    ensures stays { handle.new.value ≡ handle.old.value }
+{
+    let Some(taken) = handle.take_session(alloc) else {
+        return Status::Misused.code();
+    };
+    let status = taken
+        .session
+        .tell_refusal(kind, subject, document, place, place_length);
+    handle.put_back(alloc, taken);
+    status.code()
 }
 
 /// Frees what the handle holds.

@@ -1,17 +1,22 @@
-//! What a handle holds: documents or schemas, the entries that were looked up, and a text.
-ghost use Rattle.std.specs.Prelude.{◌≡◌, [], None, true, IfOk, OnErr, MatchOption};
+//! What a handle holds: documents or schemas, the entries that were looked up, and what the last call left.
+ghost use Rattle.std.specs.Prelude.{◌≡◌, [], None, true, false, IfOk, IfSome, IfNone, OnErr, MatchOption};
+ghost use Rattle.std.specs.Str.{IsUtf8};
 ghost use Rattle.jschema_c.specs.Exports.{IsNew, SessionAdds, SessionFinishes, SessionLists, SessionEnters};
-ghost use Rattle.jschema_c.specs.Exports.{IsSharedBy, SessionChecks, SessionLimits};
+ghost use Rattle.jschema_c.specs.Exports.{IsSharedBy, SessionChecks, SessionLimits, TellsRefusal, room};
+ghost use Rattle.jschema_c.specs.Said.{text_in};
 ghost use Rattle.jschema_c.specs.Session.{finished_in, IsFinished};
-ghost use Rattle.jschema_c.specs.Session.{Adds, Finishes, Lists, Enters, Checks, Judges, Says, SaysFault};
+ghost use Rattle.jschema_c.specs.Session.{Adds, Finishes, IsUriText, has_zero, Lists, Enters, Checks, Judges};
 ghost use Rattle.js_bundle.specs.Schemas.{is_place, place_at};
 ghost use Rattle.js_output.specs.Outcome.{InstanceOutcomeWithin};
+ghost use Rattle.js_tree.specs.declared.forms.Format.TheVariants.{Flag};
 
+use crate::said::{Said, copy_text};
 use crate::status::{Status, format_numbered};
 use js_bundle::{Bundle, Place, Schemas};
-use js_output::{Fault, Limits, Sink, judge_within, list_places, refusal_line};
+use js_output::{Fault, Limits, Sink, judge_within, list_places};
 use js_tree::Format;
 use std::alloc::{AllocError, Global};
+use std::io;
 use std::mem::replace;
 use std::sync::Arc;
 
@@ -27,13 +32,13 @@ pub enum Phase {
     Finished(Arc<Schemas>),
 }
 
-/// A phase, the limits on results, the entries that were looked up, and the text of the last call.
+/// A phase, the limits on results, the entries that were looked up, and what the last call left.
 #[derive(Drop)]
 pub struct Session {
     pub phase: Phase,
     pub limits: Limits,
     pub entries: Vec<Place, Global>,
-    pub text: Vec<u8, Global>,
+    pub said: Said,
 }
 
 impl Session {
@@ -45,7 +50,7 @@ impl Session {
             phase: Phase::Adding(Bundle::new(alloc)),
             limits: Limits::standard(),
             entries: Vec::new(alloc),
-            text: Vec::new(alloc),
+            said: Said::nothing(alloc),
         }
     }
 
@@ -53,7 +58,7 @@ impl Session {
     pub(crate) fn set_limits(&mut self, applications: usize, nodes: usize) -> Status
         ensures { SessionLimits applications nodes self.old self.new result }
     {
-        self.text.clear();
+        self.said.clear();
         match Limits::at_most(applications, nodes) {
             Some(limits) => {
                 self.limits = limits;
@@ -68,7 +73,7 @@ impl Session {
         ensures { SessionAdds uri.now document.now self.old self.new result }
     {
         let came = added(&mut self.phase, uri, document);
-        answered(alloc, came, &mut self.text)
+        self.said.answer(alloc, came)
     }
 
     /// Finishes the documents.
@@ -76,17 +81,15 @@ impl Session {
         ensures { SessionFinishes self.old self.new result }
     {
         let came = finished(alloc, &mut self.phase);
-        answered(alloc, came, &mut self.text)
+        self.said.answer(alloc, came)
     }
 
     /// Lists the locations of all schemas as the text.
     pub(crate) fn list(&mut self, alloc: Global) -> Status
         ensures { SessionLists self.old self.new result }
     {
-        match listed(alloc, &self.phase, &mut self.text) {
-            Ok(status) => status,
-            Err(fault) => say(alloc, &fault, &mut self.text),
-        }
+        let came = listed(alloc, &self.phase, &mut self.said);
+        self.said.finish(alloc, came)
     }
 
     /// Looks an entry up, and numbers it.
@@ -94,7 +97,7 @@ impl Session {
         ensures { SessionEnters uri.now number.old number.new self.old self.new result }
     {
         let came = entered(alloc, &self.phase, uri, &mut self.entries, number);
-        answered(alloc, came, &mut self.text)
+        self.said.answer(alloc, came)
     }
 
     /// Another session over the same finished schemas, with the same numbered entries. `None` if the documents aren't
@@ -115,7 +118,7 @@ impl Session {
             phase: Phase::Finished(schemas.clone()?),
             limits: self.limits,
             entries,
-            text: Vec::new(alloc),
+            said: Said::nothing(alloc),
         }))
     }
 
@@ -129,28 +132,49 @@ impl Session {
     ) -> Status
         ensures { SessionChecks entry instance.now format self.old self.new result }
     {
-        let mut text = replace(&mut self.text, Vec::new(alloc));
-        let came = self.checked(alloc, entry, instance, format, &mut text);
-        self.text = text;
-        match came {
-            Ok(status) => status,
-            Err(fault) => say(alloc, &fault, &mut self.text),
-        }
+        let mut said = replace(&mut self.said, Said::nothing(alloc));
+        let came = self.checked(alloc, entry, instance, format, &mut said);
+        self.said = said;
+        self.said.finish(alloc, came)
     }
 
-    // The result of a check. The text becomes its output.
+    /// Copies the parts of what the last call refused.
+    pub(crate) fn tell_refusal(
+        &self,
+        kind: &mut u32,
+        subject: &mut u32,
+        document: &mut usize,
+        place: &mut [u8],
+        place_length: &mut usize,
+    ) -> Status
+        ensures { TellsRefusal self.now.said.refusal
+            (room kind.old subject.old document.old place.old place_length.old)
+            (room kind.new subject.new document.new place.new place_length.new) result }
+    {
+        let Some(parts) = &self.said.refusal else {
+            return Status::Misused;
+        };
+        *kind = parts.kind;
+        *subject = parts.subject;
+        *document = parts.document;
+        *place_length = copy_text(parts.place.as_slice(), place);
+        Status::Done
+    }
+
+    // The result of a check. Its output becomes the text.
     fn checked(
         &self,
         alloc: Global,
         entry: usize,
         instance: &[u8],
         format: u32,
-        text: &mut Vec<u8, Global>,
+        said: &mut Said,
     ) -> Result<Status, Fault>
-        ensures { Checks self.now.phase self.now.limits self.now.entries.items entry instance.now format
-            text.new.items result }
+        ensures checks { Checks self.now.phase self.now.limits self.now.entries.items entry instance.now format
+            (text_in said.new) result }
+        ensures none { said.new.refusal ≡ None }
     {
-        text.clear();
+        said.clear();
         let Phase::Finished(schemas) = &self.phase else {
             return Ok(Status::Misused);
         };
@@ -163,8 +187,33 @@ impl Session {
         if !schemas.has(*place) {
             return Ok(Status::Misused);
         }
-        judged(alloc, schemas, *place, instance, format, self.limits, text)
+        match format {
+            Format::Flag => found(alloc, schemas, *place, instance, self.limits, said),
+            _ => judged(alloc, schemas, *place, instance, format, self.limits, said),
+        }
     }
+}
+
+// A URI as a text. `None` if it isn't UTF-8, or has a zero byte.
+fn uri_text(bytes: &[u8]) -> Option<&str>
+    ensures text { IfSome result (λ text. text.now ≡ bytes.now) }
+    ensures utf8 { IfSome result (λ _. IsUtf8 bytes.now) }
+    ensures nonzero { IfSome result (λ _. has_zero bytes.now ≡ false) }
+    ensures none { IfNone result (IsUriText bytes.now → ⊥) }
+{
+    let Ok(text) = str::from_utf8(bytes) else {
+        return None;
+    };
+    if has_zero(bytes) {
+        return None;
+    }
+    Some(text)
+}
+
+fn has_zero(bytes: &[u8]) -> bool
+    ensures { result ≡ has_zero bytes.now }
+{
+    bytes.iter().any(|byte| *byte == 0)
 }
 
 fn added(phase: &mut Phase, uri: &[u8], document: &[u8]) -> Result<Status, Fault>
@@ -173,7 +222,7 @@ fn added(phase: &mut Phase, uri: &[u8], document: &[u8]) -> Result<Status, Fault
     let Phase::Adding(bundle) = phase else {
         return Ok(Status::Misused);
     };
-    let Ok(uri) = str::from_utf8(uri) else {
+    let Some(uri) = uri_text(uri) else {
         return Ok(Status::Misused);
     };
     if LONGEST_DOCUMENT < document.len() {
@@ -203,16 +252,17 @@ fn finished(alloc: Global, phase: &mut Phase) -> Result<Status, Fault>
     }
 }
 
-fn listed(alloc: Global, phase: &Phase, text: &mut Vec<u8, Global>) -> Result<Status, Fault>
-    ensures { Lists phase.now text.new.items result }
+fn listed(alloc: Global, phase: &Phase, said: &mut Said) -> Result<Status, Fault>
+    ensures lists { Lists phase.now (text_in said.new) result }
+    ensures none { said.new.refusal ≡ None }
 {
-    text.clear();
+    said.clear();
     let Phase::Finished(schemas) = phase else {
         return Ok(Status::Misused);
     };
     match list_places(alloc, schemas) {
         Ok(list) => {
-            *text = list.into_bytes();
+            said.text = list.into_bytes();
             Ok(Status::Done)
         }
         Err(fault) => Err(fault),
@@ -232,7 +282,7 @@ fn entered(
     let Phase::Finished(schemas) = phase else {
         return Ok(Status::Misused);
     };
-    let Ok(uri) = str::from_utf8(uri) else {
+    let Some(uri) = uri_text(uri) else {
         return Ok(Status::Misused);
     };
     let place = match schemas.entry(alloc, uri) {
@@ -256,16 +306,19 @@ fn judged(
     instance: &[u8],
     format: Format,
     limits: Limits,
-    text: &mut Vec<u8, Global>,
+    said: &mut Said,
 ) -> Result<Status, Fault>
     requires place { is_place schemas.now place ≡ true }
-    requires empty { text.old.items ≡ [] }
-    ensures { Judges (InstanceOutcomeWithin limits schemas.now (place_at schemas.now place) format instance.now)
-        text.new.items result }
+    requires verdict { said.old.verdict ≡ None }
+    requires empty { said.old.text.items ≡ [] }
+    requires none { said.old.refusal ≡ None }
+    ensures judges { Judges (InstanceOutcomeWithin limits schemas.now (place_at schemas.now place) format instance.now)
+        (text_in said.new) result }
+    ensures none { said.new.refusal ≡ None }
 {
-    let mut out = Sink::new(replace(text, Vec::new(alloc)));
+    let mut out = Sink::new(replace(&mut said.text, Vec::new(alloc)));
     let answer = judge_within(alloc, schemas, place, instance, format, limits, &mut out);
-    *text = out.into_device();
+    said.text = out.into_device();
     match answer {
         Ok(true) => Ok(Status::Done),
         Ok(false) => Ok(Status::Invalid),
@@ -273,30 +326,39 @@ fn judged(
     }
 }
 
-// The status of a call's result. The text is the line of its fault, or none.
-fn answered(alloc: Global, came: Result<Status, Fault>, text: &mut Vec<u8, Global>) -> Status
-    ensures { Says [] came result text.new.items }
+// The same in the format flag, whose output isn't kept.
+fn found(
+    alloc: Global,
+    schemas: &Schemas,
+    place: Place,
+    instance: &[u8],
+    limits: Limits,
+    said: &mut Said,
+) -> Result<Status, Fault>
+    requires place { is_place schemas.now place ≡ true }
+    requires none { said.old.refusal ≡ None }
+    ensures judges { Judges (InstanceOutcomeWithin limits schemas.now (place_at schemas.now place) Flag instance.now)
+        (text_in said.new) result }
+    ensures none { said.new.refusal ≡ None }
 {
-    text.clear();
-    match came {
-        Ok(status) => status,
-        Err(fault) => say(alloc, &fault, text),
-    }
-}
-
-// The status of a fault, whose line becomes the text.
-fn say(alloc: Global, fault: &Fault, text: &mut Vec<u8, Global>) -> Status
-    ensures { SaysFault fault.now result text.new.items }
-{
-    text.clear();
-    match fault {
-        Fault::Memory | Fault::Read | Fault::Write => Status::Failed,
-        _ => match refusal_line(alloc, fault) {
-            Ok(line) => {
-                *text = line.into_bytes();
-                Status::Refused
-            }
-            Err(_) => Status::Failed,
-        },
+    let mut out = Sink::new(io::sink());
+    match judge_within(
+        alloc,
+        schemas,
+        place,
+        instance,
+        Format::Flag,
+        limits,
+        &mut out,
+    ) {
+        Ok(true) => {
+            said.verdict = Some(true);
+            Ok(Status::Done)
+        }
+        Ok(false) => {
+            said.verdict = Some(false);
+            Ok(Status::Invalid)
+        }
+        Err(fault) => Err(fault),
     }
 }

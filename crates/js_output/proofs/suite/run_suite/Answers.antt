@@ -8,13 +8,13 @@ use Rattle.js_output.proofs.Answering.{reports-map, answers-reported, answers-in
 use Rattle.js_output.proofs.Answering.{answers-after, input-over, input-within, left_all}
 use Rattle.js_output.proofs.suite.run_suite.Goals as goal
 
-pub returns-in_err-finished-clause-answer : goal.returns-in_err-finished-clause-answer
-returns-in_err-finished-clause-answer g c =
+pub returns-in_err-roots-clause-answer : goal.returns-in_err-roots-clause-answer
+returns-in_err-roots-clause-answer g c =
     let p = err_from_is_err_and c.from_residual.result c.from_residual.ensures.1 in
     let docs = documents_of c.args.docs.now in
     rw (p.1, p.2) (answers-early lines_report (λ bytes. OfInput bytes (ReadLines docs (suite_reading bytes)))
     g.W.Write.contents c.args.out.now c.args.out.now (documents_causes docs)
-    (g.R.Read.remaining c.args.suite.now.device) c.in_err-finished.field-0.0 c.in_err-finished.ensures.err)
+    (g.R.Read.remaining c.args.suite.now.device) c.in_err-roots.field-0.0 c.in_err-roots.ensures.err)
 
 pub returns-in_err-bytes-clause-answer : goal.returns-in_err-bytes-clause-answer
 returns-in_err-bytes-clause-answer g c =
@@ -24,7 +24,7 @@ returns-in_err-bytes-clause-answer g c =
     let new = g.R.Read.remaining c.read_all.new.source.device in
     let taken = g.W.Write.contents in
     rw (p.1, p.2) (answers-after lines_report (λ bytes. OfInput bytes (ReadLines docs (suite_reading bytes))) taken
-    c.args.out.now c.args.out.now (documents_causes docs) left c.in_ok-finished.ensures.clear
+    c.args.out.now c.args.out.now (documents_causes docs) left c.in_ok-roots.ensures.clear
     (Err c.in_err-bytes.field-0.0)
     (answers-input lines_report (λ bytes. OfInput bytes (ReadLines docs (suite_reading bytes))) taken c.args.out.now
     c.args.out.now left new c.in_err-bytes.field-0.0
@@ -38,9 +38,9 @@ returns-clause-answer g c =
     let bytes = c.in_ok-bytes.bytes.items in
     let read = ReadLines docs (suite_reading bytes) in
     let taken = g.W.Write.contents in
-    let reported = rw c.as_slice.ensures.value at c.write_suite.ensures.answer in
+    let reported = rw c.as_slice-2.ensures.value at c.write_suite.ensures.answer in
     answers-after lines_report (λ bytes. OfInput bytes (ReadLines docs (suite_reading bytes))) taken c.args.out.now
-    c.write_suite.new.out (documents_causes docs) left c.in_ok-finished.ensures.clear c.write_suite.result
+    c.write_suite.new.out (documents_causes docs) left c.in_ok-roots.ensures.clear c.write_suite.result
     (answers-reported lines_report (λ bytes. OfInput bytes (ReadLines docs (suite_reading bytes))) taken c.args.out.now
     c.write_suite.new.out left bytes c.write_suite.result
     (left_all left _ bytes c.in_ok-bytes.ensures.ok c.in_ok-bytes.ensures.end)
