@@ -22,6 +22,10 @@ EDITS = {
     "an old header": ("bindings/c/jschema.h", "JSCHEMA_BASIC = 1", "JSCHEMA_BASIC = 2", "jschema.h is stale"),
     "a page without marks": ("docs/REFUSALS.md", "<!-- interface: limits -->\n", "",
                              "REFUSALS.md has no marks for limits"),
+    "another version": ("interface.toml", 'version = "0.', 'version = "7.',
+                        r"jschema is stale(.|\n)*jschema.1 is stale(.|\n)*jschema.pc is stale(.|\n)*"
+                        r"jschema.h is stale(.|\n)*pyproject.toml is stale(.|\n)*package.json is stale(.|\n)*"
+                        r"jschema_c/src/lib.rt: jschema_version"),
     "another word for a format": ("crates/js_command/src/words.rt", '"merged" =>', '"unique" =>',
                                   "js_command/src/words.rt: format_of"),
     "another number of a format": ("crates/jschema_c/specs/Status.antt", "format_number Basic = 1",

@@ -48,7 +48,8 @@ RUN_BY = {
     "apt-get install libtest-json-schema-acceptance-perl": Small("true", ("apt-get",)),
     "suite=/usr/share/perl5/auto/share/dist/Test-JSON-Schema-Acceptance": Small("true"),
     "tests/conformance/run $suite": Step("tests/conformance/test"),
-    "tests/conformance/run $suite --optional --output --meta-schema --schemas rows": Step("tests/conformance/test"),
+    "tests/conformance/run $suite --optional --output --meta-schema --schemas tests/rows":
+        Step("tests/conformance/test"),
     "rt test": Step("rt ci"),
     "../../tests/hostile/run single": Step("tests/hostile/run"),
     "tests/random/run --seed 1 --count 1000": Small("tests/random/run --seed 1 --count 3 --program {program}"),
