@@ -148,7 +148,8 @@ def over_libraries(room, program):
         compiler = ["cc", "-fPIC", *flags, "-I", include, os.path.join(HOME, "bindings/c/tests/fake.c"), "-o"]
         subprocess.run([*compiler, os.path.join(library, "libjschema.so"), "-shared"], check=True)
         subprocess.run([*compiler, os.path.join(library, "libjschema.a"), "-c"], check=True)
-        for part in ("rows", "calls", "memory", "threads", "refused"):
+        # (Of a library that hangs each measurement would take its time.)
+        for part in ("rows", "calls", "memory", "threads", "refused", *(["need"] if fake != "hangs" else [])):
             yield Check(f"bindings/c/test {part}, a library that {fake}",
                         ["bindings/c/test", "--seconds", "1", "--program", program, part], says, home, env={"CC": "cc"})
     os.symlink("libjschema.so", os.path.join(library, "libjschema.so.0"))

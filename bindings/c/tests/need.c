@@ -1,5 +1,6 @@
 /* How much stack calls take: `need SCHEMA INSTANCE` reads two files, and makes every call on a thread whose stack was
-   filled with one byte. Prints the status of the last call but the freeing, and how many bytes from the top are others. */
+   filled with one byte. Prints the status of the last check, or of the call that refused, and how many bytes of the
+   stack were written. */
 #include "common.h"
 #include <pthread.h>
 #include <sys/mman.h>

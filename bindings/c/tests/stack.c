@@ -4,9 +4,13 @@
 #include <pthread.h>
 
 #define URI TEXT("https://example.com/s")
-/* Beside what is nested a call needs less than this. */
+/* Beside what is nested a call needs less than this: without a search with a regular expression, and with one. */
 #define KILOBYTES_AT_LEAST 48
+#define KILOBYTES_WITH_A_SEARCH 64
+/* Stacks of so many KB have room for a search. */
+#define KILOBYTES_TO_SEARCH 128
 #define KILOBYTES_OF_AN_APPLICATION 2
+#define SEARCHES "{\"pattern\": \"^(a*b+)*[^c]*$\"}"
 #define CHAIN 600
 
 static size_t kilobytes;
@@ -18,13 +22,13 @@ static void expect(const char *what, size_t number, uint32_t got, uint32_t wante
     }
 }
 
-/* A schema that refers to another, and so on: `length` applications in all. */
-static char *chain_of(size_t length) {
-    char *document = malloc(64 * (length + 2)), *end = document;
+/* A schema that refers to another, and so on to the last: `length` applications in all. */
+static char *chain_of(size_t length, const char *last) {
+    char *document = malloc(64 * (length + 2) + strlen(last)), *end = document;
     if (document == NULL) give_up("out of memory");
     end += sprintf(end, "{\"$ref\": \"#/$defs/2\", \"$defs\": {");
     for (size_t i = 2; i < length; i++) end += sprintf(end, "\"%zu\": {\"$ref\": \"#/$defs/%zu\"}, ", i, i + 1);
-    sprintf(end, "\"%zu\": true}}", length);
+    sprintf(end, "\"%zu\": %s}}", length, last);
     return document;
 }
 
@@ -55,11 +59,13 @@ static void check(const char *what, size_t number, const char *schema, const cha
 }
 
 static void *checks(void *unused) {
-    size_t most = (kilobytes - KILOBYTES_AT_LEAST) / KILOBYTES_OF_AN_APPLICATION;
+    bool searches = kilobytes >= KILOBYTES_TO_SEARCH;
+    size_t least = searches ? KILOBYTES_WITH_A_SEARCH : KILOBYTES_AT_LEAST;
+    size_t most = (kilobytes - least) / KILOBYTES_OF_AN_APPLICATION;
     size_t depths = kilobytes - KILOBYTES_AT_LEAST < 120 ? kilobytes - KILOBYTES_AT_LEAST : 120;
     for (size_t length = 2; length <= CHAIN; length += length < most + 2 ? 1 : 97) {
-        char *document = chain_of(length);
-        check("a chain", length, document, "1", most, length <= most ? JSCHEMA_DONE : JSCHEMA_REFUSED);
+        char *document = chain_of(length, searches ? SEARCHES : "true");
+        check("a chain", length, document, "\"aabab\"", most, length <= most ? JSCHEMA_DONE : JSCHEMA_REFUSED);
         free(document);
     }
     for (size_t depth = 1; depth <= depths; depth++) {

@@ -28,8 +28,8 @@ def said(header):
 
 @dataclass(frozen=True)
 class Nested:
-    """Something that nests: the schema and the instance of a depth, two depths to compare, and of which levels, as many
-    for each of the depth."""
+    """Something that nests: a schema and an instance for each depth, two depths to compare, and how many levels, of
+    which kind, each adds."""
 
     name: str
     level: str
@@ -60,14 +60,16 @@ def chain(name, applied, instance="1", levels=1):
 
 def below(name, keyword, instance):
     """A schema that applies itself to each value in a value, by a reference."""
-    return Nested(name, "an application", lambda depth: (json.dumps({keyword: {"$ref": "#"}}), instance(depth)), 60, 126, 2)
+    schema = json.dumps({keyword: {"$ref": "#"}})
+    return Nested(name, "an application", lambda depth: (schema, instance(depth)), 60, 126, 2)
 
 
 LISTS, OBJECTS = texts("[", "]"), texts('{"a":', "}", "1")
 NESTED = [
     Nested("lists", "a level of a JSON text", lambda depth: ("true", LISTS(depth)), 64, 127),
     Nested("objects", "a level of a JSON text", lambda depth: ("true", OBJECTS(depth)), 64, 127),
-    Nested("lists in const", "a level of a JSON text", lambda depth: (f'{{"const":{LISTS(depth)}}}', LISTS(depth)), 64, 126),
+    Nested("lists in const", "a level of a JSON text",
+           lambda depth: (f'{{"const":{LISTS(depth)}}}', LISTS(depth)), 64, 126),
     Nested("lists that are equal", "a level of a JSON text",
            lambda depth: ('{"uniqueItems":true}', f"[{LISTS(depth)},{LISTS(depth)}]"), 64, 126),
     *(pattern(*it) for it in (("(", ")"), ("(?:", ")"), ("[", "]"), ("[^", "]"), ("(?:", ")*", 2), ("(?:", ")+", 2),
@@ -79,37 +81,38 @@ NESTED = [
     *(below(it, it, LISTS) for it in ("items", "contains", "unevaluatedItems")),
     *(below(it, it, OBJECTS) for it in ("additionalProperties", "unevaluatedProperties")),
 ]
-# The last of a chain searches, and compares what is nested.
-LAST = {"pattern": "(a*b+)*[^c]*$", "uniqueItems": True, "propertyNames": {"pattern": "(a*b+)*[^c]*$"}}
 FLAT = [("true", "1"), ('{"type":"integer","minimum":1,"enum":[1,2]}', "1"), ('{"required":["a"]}', '{"b":1}')]
-SEARCHES = [(json.dumps({"pattern": it}), '"aaab"') for it in ("^a+$", "a*", "[^a]", "(a*b+)*[^c]*$", r"\p{L}{2,9}")]
+PATTERNS = ("^a+$", "a*", "[^a]", "(a*b+)*[^c]*$", r"\p{L}{2,9}")
+SEARCHING = [(json.dumps({"pattern": it}), '"aaab"') for it in PATTERNS]
 
 
-def judged(said, need):
-    """Each thing that takes stack, how many bytes, and what is wrong with that; None where nothing is. `need` is the
-    status and the bytes for a schema and an instance."""
-    most = {"all": 0}
+def deepest():
+    """As many applications as there may be, of which the last searches, or compares what is nested."""
+    last = {"pattern": PATTERNS[3], "uniqueItems": True, "propertyNames": {"pattern": PATTERNS[3]}}
+    schemas = {**{str(it): {"$ref": f"#/$defs/{it + 1}"} for it in range(1, 509)}, "509": last}
+    schema = json.dumps({"$ref": "#/$defs/1", "$defs": schemas})
+    return [(schema, it) for it in ('"aaab"', '{"ab":1}', f"[{LISTS(126)},{LISTS(126)}]")]
 
-    def taken(what, of, made, allowed):
-        status, bytes_ = need(*made)
-        most["all"] = max(most["all"], bytes_)
-        most[what] = max(most.get(what, 0), bytes_)
-        return f"{of}: status {status}" if status not in (DONE, INVALID) else \
-            f"{of}: {bytes_} bytes" if bytes_ > allowed else None
 
-    for what, all_made in (("a call", FLAT), ("a call that searches", SEARCHES)):
-        faults = [taken(what, made[0], made, said[what]) for made in all_made]
-        yield what, most[what], next(filter(None, faults), None)
+def judged(header, need):
+    """What is measured, the bytes, and what is wrong with that; None where nothing is. `need` answers the status and
+    the bytes for a schema and an instance."""
+    allowed, most = said(header), 0
+    for what, cases in (("a call", FLAT), ("a call that searches", SEARCHING), ("all", deepest())):
+        measured = [need(*it) for it in cases]
+        bytes_ = max(it for _, it in measured)
+        yield what, bytes_, fault_of([it for it, _ in measured], bytes_, allowed[what])
+        most = max(most, bytes_)
     for it in NESTED:
-        (low_status, low), (high_status, high) = need(*it.made(it.low)), need(*it.made(it.high))
+        (status, low), (other, high) = need(*it.made(it.low)), need(*it.made(it.high))
         each = (high - low) / (it.levels * (it.high - it.low))
-        most["all"] = max(most["all"], high)
-        refused = max(low_status, high_status) > INVALID
-        yield f"{it.level}, {it.name}", round(each), "it is refused" if refused else \
-            f"{each:.0f} bytes" if each > said[it.level] else None
-    schemas = {str(it): {"$ref": f"#/$defs/{it + 1}"} for it in range(1, 509)}
-    deepest = json.dumps({"$ref": "#/$defs/1", "$defs": {**schemas, "509": LAST}})
-    faults = [taken("all", "the deepest", (deepest, it), said["all"])
-              for it in ('"aaab"', '{"ab":1}', f"[{LISTS(126)},{LISTS(126)}]")]
-    yield "all", most["all"], next(filter(None, faults), None) or (
-        f"{most['all']} bytes" if most["all"] > said["all"] else None)
+        yield f"{it.level}, {it.name}", round(each), fault_of((status, other), each, allowed[it.level])
+        most = max(most, high)
+    yield "the most of these", most, fault_of((), most, allowed["all"])
+
+
+def fault_of(statuses, bytes_, allowed):
+    """What is wrong with a measured need: that it isn't one, or that it is more than is said."""
+    if others := [it for it in statuses if it not in (DONE, INVALID)]:
+        return f"status {others[0]}"
+    return None if 0 < bytes_ <= allowed else f"{bytes_:,.0f} bytes, and the header says at most {allowed:,.0f}"

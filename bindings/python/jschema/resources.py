@@ -3,6 +3,7 @@ from __future__ import annotations
 
 import json
 import math
+import re
 from collections.abc import Iterator, Sequence
 from typing import Any, NamedTuple, Optional
 from urllib.parse import unquote
@@ -37,6 +38,10 @@ class Schema(NamedTuple):
                 yield keyword, reference
 
 
+# What Python's `json` reads and the validator may refuse: a lone surrogate, a number beyond a double's range.
+_DOUBTFUL = re.compile(rb"\\u[dD][89a-fA-F]|[0-9][eE]")
+
+
 class Document:
     """A schema document under a URI."""
 
@@ -60,7 +65,7 @@ class Target(NamedTuple):
 def document(uri: str, source: Source) -> Document:
     """The document of a text. Raises `ValueError` or `RecursionError` where it isn't JSON."""
     value = json.loads(source.json.decode(), parse_constant=_no_constant)
-    if isinstance(source, JsonSource):
+    if isinstance(source, JsonSource) and not _DOUBTFUL.search(source.json):
         source.trust()
     made = Document(uri, source, value)
     made.targets[document_of(uri)] = ()
