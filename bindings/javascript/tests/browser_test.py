@@ -275,6 +275,14 @@ class Page(unittest.TestCase):
         self.assertIn("The link can't be read", self.find("#notice").text)
         self.expect_verdict("✗ Invalid: 1 error")
 
+    def test_a_link_that_is_too_long(self):
+        self.driver.execute_script(PASTE, "#instance-text", json.dumps(os.urandom(900_000).hex()))
+        self.expect_verdict("✗ Invalid: 1 error")
+        before = self.driver.current_url
+        self.find("#share").click()
+        self.until(lambda: "browsers don't take" in self.find("#notice").text)
+        self.assertEqual(self.driver.current_url, before)
+
     def test_address_follows(self):
         self.write("#instance-text", '{"name": "Grace"}')
         self.until(lambda: "#1." in self.driver.current_url)
