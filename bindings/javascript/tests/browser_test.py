@@ -16,8 +16,8 @@ import unittest
 from pathlib import Path
 
 sys.dont_write_bytecode = True
-from browsers import (CONTRAST, GIVEN, HOME, KEY_PRESS, MANY, MANY_SCHEMA, PASTE, SECONDS, WIDER, address,  # noqa: E402
-                      chromium, ended, served, wait_for_verdict)
+from browsers import (CONTRAST, CUT, GIVEN, HOME, KEY_PRESS, MANY, MANY_SCHEMA, PASTE, SECONDS, WIDER,  # noqa: E402
+                      address, chromium, ended, served, wait_for_verdict)
 from other_browser_tests import InFirefox, Rows  # noqa: E402, F401
 
 from selenium.webdriver.common.by import By  # noqa: E402
@@ -122,16 +122,16 @@ class Page(unittest.TestCase):
         self.write("#schema-text", '{"type": "null"}')
         self.expect_verdict("✗ Invalid: 1 error")
 
-    def test_format(self):
+    def test_indent(self):
         self.write("#instance-text", '{"name":"é😀","list":[1,{"a":[]}],"age":9007199254740993}')
         before = self.find("#instance-text").get_property("value")
-        self.button("Format", "#instance-editor").click()
+        self.button("Indent", "#instance-editor").click()
         self.assertEqual(self.find("#instance-text").get_property("value"),
                          json.dumps(json.loads(before), indent=2, ensure_ascii=False) + "\n")
         self.find("#instance-text").send_keys(Keys.CONTROL, "z")
         self.assertEqual(self.find("#instance-text").get_property("value"), before)
         self.write("#instance-text", '{"a":')
-        self.button("Format", "#instance-editor").click()
+        self.button("Indent", "#instance-editor").click()
         self.assertEqual(self.find("#instance-text").get_property("value"), '{"a":')
 
     def test_underlines_move_with_the_text(self):
@@ -141,6 +141,13 @@ class Page(unittest.TestCase):
         self.expect_verdict("✗ Invalid: 1 error")
         self.assertEqual(self.texts("#instance-editor .underlined"), ["-1"])
         self.until(lambda: "3:25" in self.find(".errors .where").text)
+
+    def test_messages_are_seen_whole(self):
+        for name in ("A person", "Folders in folders: a recursive schema", "One of two: anyOf, condensed"):
+            self.choose_example(name)
+            self.expect_verdict("✗ Invalid")
+            self.until(lambda: self.all(".drawing .message"))
+            self.assertEqual(self.driver.execute_script(CUT), [], name)
 
     def test_errors_lead_to_their_places(self):
         self.choose_example("Strict trees: $dynamicRef")

@@ -48,6 +48,12 @@ area.dispatchEvent(new Event("input"));
 FIRST_VERDICT = "return performance.getEntriesByName('verdict')[0]?.startTime"
 
 
+# The messages that go beyond the editor in which they are.
+CUT = """
+return Array.from(document.querySelectorAll(".drawing .message")).filter((it) =>
+  it.getBoundingClientRect().right > it.closest(".text").getBoundingClientRect().right).map((it) => it.textContent);
+"""
+
 # What goes beyond the right edge of the window, without what scrolls by itself.
 WIDER = """
 if (document.scrollingElement.scrollWidth <= innerWidth) return [];

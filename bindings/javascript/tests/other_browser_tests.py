@@ -52,19 +52,29 @@ class InFirefox(unittest.TestCase):
         self.assertEqual(server.asked[asked:], [])
 
 
-# Rows with results at the limits, which take a browser as long as all the others together. Chromium takes them too.
+# Rows with results at the limits: more than their own formats would take a browser longer than all other rows.
 LARGEST = ("doubling_references/", "widest_tree/")
+
+
+def cases_of(line):
+    """A line of the cases, of the largest with the row's own formats alone."""
+    case = json.loads(line)
+    if case["name"].startswith(LARGEST):
+        case["expected"] = case["expected"][:case["own"]]
+    return f"{json.dumps(case)}\n"
 
 
 class Rows(unittest.TestCase):
     """Every row that is a check, in every format, byte for byte."""
 
-    def result(self, words, cases):
+    def result(self, words, folder):
         """What the page of the rows posts, opened by a browser that these words start."""
-        others = {"/rows.html": HERE / "rows_page.html", "/rows_page.js": HERE / "rows_page.js",
-                  "/cases.json": Path(cases)}
-        server = served(GIVEN["module"], others)
-        job = subprocess.Popen([*words, server.url + "/rows.html"], stdout=subprocess.DEVNULL,
+        cases = Path(folder, "cases.json")
+        with open(GIVEN["cases"], encoding="utf-8") as file:
+            cases.write_text("".join(map(cases_of, file)), encoding="utf-8")
+        server = served(GIVEN["module"], {"/rows.html": HERE / "rows_page.html", "/rows_page.js": HERE / "rows_page.js",
+                                          "/cases.json": cases})
+        job = subprocess.Popen([*words, f"{server.url}/rows.html"], stdout=subprocess.DEVNULL,
                                stderr=subprocess.DEVNULL, start_new_session=True)
         try:
             end = time.monotonic() + 5 * SECONDS
@@ -77,20 +87,15 @@ class Rows(unittest.TestCase):
             job.wait()
             ended(server)
 
-    def judge(self, words, cases):
-        result = self.result(words, cases)
+    def judge(self, *words):
+        with tempfile.TemporaryDirectory() as folder:
+            result = self.result([it.format(folder=folder) for it in words], folder)
         self.assertEqual(result["failed"], [])
         self.assertGreater(result["passed"], 1000)
 
     def test_chromium(self):
-        with tempfile.TemporaryDirectory() as folder:
-            self.judge(["chromium", *CHROMIUM, f"--user-data-dir={folder}"], GIVEN["cases"])
+        self.judge("chromium", *CHROMIUM, "--user-data-dir={folder}")
 
     @unittest.skipIf(shutil.which("firefox-esr") is None, "the rows in Firefox: firefox-esr isn't installed")
     def test_firefox(self):
-        with tempfile.TemporaryDirectory() as folder:
-            cases = Path(folder, "cases.json")
-            with open(GIVEN["cases"], encoding="utf-8") as file:
-                lines = [it for it in file if not json.loads(it)["name"].startswith(LARGEST)]
-            cases.write_text("".join(lines), encoding="utf-8")
-            self.judge(["firefox-esr", "--headless", "--no-remote", "--profile", folder], cases)
+        self.judge("firefox-esr", "--headless", "--no-remote", "--profile", "{folder}")
