@@ -40,11 +40,12 @@ export class Editor {
     });
     this.#caret = element("p", { class: "caret", id: `${id}-caret` });
     const text = element("div", { class: "text" }, this.#area, this.#drawing);
-    const format = element("button", {
-      type: "button", title: `Indent the ${label.toLowerCase()}`, onclick: () => this.#indent(),
-    }, "Format");
+    const indent = element("button", {
+      type: "button", title: `A line for each member and item of the ${label.toLowerCase()}`,
+      onclick: () => this.#indent(),
+    }, "Indent");
     holder.append(element("div", { class: "editor" }, this.#gutter, text),
-      element("div", { class: "foot" }, this.#caret, format));
+      element("div", { class: "foot" }, this.#caret, indent));
     this.#area.addEventListener("input", () => {
       this.#marks = movedMarks(this.#marks, this.#before, this.#area.value);
       this.#selected = undefined;
@@ -242,6 +243,7 @@ function tokensOf(text) {
 
 function widthOfColumn(area) {
   const context = document.createElement("canvas").getContext("2d");
-  context.font = getComputedStyle(area).font;
+  const { fontSize, fontFamily } = getComputedStyle(area);
+  context.font = `${fontSize} ${fontFamily}`;
   return context.measureText("0").width;
 }

@@ -11,7 +11,9 @@ export async function loadModule() {
   if (embedded !== null) return WebAssembly.compile(await unpacked(embedded.textContent.trim()));
   const response = await fetch(new URL(MODULE, import.meta.url));
   if (!response.ok) throw new Error(`${response.url}: ${response.status}: tools/build-wasm makes the module`);
-  return WebAssembly.compile(await response.arrayBuffer());
+  // (Not every server says that it is one.)
+  const isTyped = response.headers.get("Content-Type") === "application/wasm";
+  return isTyped ? WebAssembly.compileStreaming(response) : WebAssembly.compile(await response.arrayBuffer());
 }
 
 /** The bytes of a gzipped text in base64. */

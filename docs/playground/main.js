@@ -15,6 +15,9 @@ import { Tabs } from "./tabs.js";
 
 const PANELS = { errors: "Errors", tree: "Result tree", condensing: "Condensing", output: "Output" };
 
+/** The most characters of a link. (Browsers take somewhat more.) */
+const LONGEST_LINK = 1_000_000;
+
 /** The most schemas that are offered to check against. */
 const MOST_ENTRIES = 500;
 
@@ -179,22 +182,27 @@ class Playground {
       it !== undefined && it.document === document && it.begin <= offset && offset <= it.end);
   }
 
-  /** Puts the state into the address, once nothing has changed for a while. */
+  /** Puts the state into the address once nothing has changed for a while. */
   #later() {
     clearTimeout(this.#quiet);
     this.#quiet = setTimeout(() => this.#keep(), QUIET_MILLISECONDS);
   }
 
+  /** The link to the state. Unless it is too long, the page has it as its address then. */
   async #keep() {
-    const fragment = await fragmentOf(this.state);
-    history.replaceState(null, "", fragment);
-    return new URL(fragment, location.href).href;
+    const link = new URL(await fragmentOf(this.state), location.href).href;
+    if (link.length <= LONGEST_LINK) history.replaceState(null, "", link);
+    return link;
   }
 
   async #share() {
     clearTimeout(this.#quiet);
     const link = await this.#keep();
     const length = link.length.toLocaleString("en");
+    if (link.length > LONGEST_LINK) {
+      notify(`A link would have ${length} characters, which browsers don't take. Make the texts shorter.`);
+      return;
+    }
     try {
       await navigator.clipboard.writeText(link);
       notify(`The link was copied: ${length} characters that hold everything. What follows # is sent to nobody.`);

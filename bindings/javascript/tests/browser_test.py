@@ -3,7 +3,7 @@
     browser_test.py MODULE CASES [SCREENSHOTS]
 
 CASES are those that cases.py writes. Of the states of the page pictures go into the folder SCREENSHOTS. It needs
-Chromium, its driver and Python's selenium; Firefox takes part with the rows alone.
+Chromium, its driver and Python's selenium. Where Firefox is installed, it takes part with most rows, and in short.
 """
 import json
 import os
@@ -16,14 +16,13 @@ import unittest
 from pathlib import Path
 
 sys.dont_write_bytecode = True
-from browsers import (CHROMIUM, HERE, HOME, KEY_PRESS, MANY, MANY_SCHEMA, PASTE, SECONDS, address,  # noqa: E402
-                      chromium, ended, served, wait_for_verdict)
+from browsers import (CONTRAST, CUT, GIVEN, HOME, KEY_PRESS, MANY, MANY_SCHEMA, PASTE, SECONDS, WIDER,  # noqa: E402
+                      address, chromium, ended, served, wait_for_verdict)
+from other_browser_tests import InFirefox, Rows  # noqa: E402, F401
 
 from selenium.webdriver.common.by import By  # noqa: E402
 from selenium.webdriver.common.keys import Keys  # noqa: E402
 from selenium.webdriver.support.ui import Select, WebDriverWait  # noqa: E402
-
-GIVEN = {}
 
 
 class Page(unittest.TestCase):
@@ -123,16 +122,16 @@ class Page(unittest.TestCase):
         self.write("#schema-text", '{"type": "null"}')
         self.expect_verdict("✗ Invalid: 1 error")
 
-    def test_format(self):
+    def test_indent(self):
         self.write("#instance-text", '{"name":"é😀","list":[1,{"a":[]}],"age":9007199254740993}')
         before = self.find("#instance-text").get_property("value")
-        self.button("Format", "#instance-editor").click()
+        self.button("Indent", "#instance-editor").click()
         self.assertEqual(self.find("#instance-text").get_property("value"),
                          json.dumps(json.loads(before), indent=2, ensure_ascii=False) + "\n")
         self.find("#instance-text").send_keys(Keys.CONTROL, "z")
         self.assertEqual(self.find("#instance-text").get_property("value"), before)
         self.write("#instance-text", '{"a":')
-        self.button("Format", "#instance-editor").click()
+        self.button("Indent", "#instance-editor").click()
         self.assertEqual(self.find("#instance-text").get_property("value"), '{"a":')
 
     def test_underlines_move_with_the_text(self):
@@ -142,6 +141,13 @@ class Page(unittest.TestCase):
         self.expect_verdict("✗ Invalid: 1 error")
         self.assertEqual(self.texts("#instance-editor .underlined"), ["-1"])
         self.until(lambda: "3:25" in self.find(".errors .where").text)
+
+    def test_messages_are_seen_whole(self):
+        for name in ("A person", "Folders in folders: a recursive schema", "One of two: anyOf, condensed"):
+            self.choose_example(name)
+            self.expect_verdict("✗ Invalid")
+            self.until(lambda: self.all(".drawing .message"))
+            self.assertEqual(self.driver.execute_script(CUT), [], name)
 
     def test_errors_lead_to_their_places(self):
         self.choose_example("Strict trees: $dynamicRef")
@@ -276,6 +282,14 @@ class Page(unittest.TestCase):
         self.assertIn("The link can't be read", self.find("#notice").text)
         self.expect_verdict("✗ Invalid: 1 error")
 
+    def test_a_link_that_is_too_long(self):
+        self.driver.execute_script(PASTE, "#instance-text", json.dumps(os.urandom(900_000).hex()))
+        self.expect_verdict("✗ Invalid: 1 error")
+        before = self.driver.current_url
+        self.find("#share").click()
+        self.until(lambda: "browsers don't take" in self.find("#notice").text)
+        self.assertEqual(self.driver.current_url, before)
+
     def test_address_follows(self):
         self.write("#instance-text", '{"name": "Grace"}')
         self.until(lambda: "#1." in self.driver.current_url)
@@ -376,83 +390,6 @@ class Page(unittest.TestCase):
             link = self.driver.current_url
             self.open(link)
             self.assertEqual(self.find("#instance-text").get_property("value"), '{"name": "Ada"}')
-
-
-# What goes beyond the right edge of the window, without what scrolls by itself.
-WIDER = """
-if (document.scrollingElement.scrollWidth <= innerWidth) return [];
-return Array.from(document.body.querySelectorAll("*")).filter((it) => it.getBoundingClientRect().right > innerWidth)
-  .map((it) => it.outerHTML.slice(0, 100));
-"""
-
-# The texts whose contrast with what is behind them is less than WCAG AA asks: each as text, colours and ratio.
-CONTRAST = """
-const channel = (it) => it <= 0.04045 ? it / 12.92 : ((it + 0.055) / 1.055) ** 2.4;
-const canvas = document.createElement("canvas").getContext("2d", { willReadFrequently: true });
-const colour = (text) => {
-  canvas.clearRect(0, 0, 1, 1);
-  canvas.fillStyle = text;
-  canvas.fillRect(0, 0, 1, 1);
-  return Array.from(canvas.getImageData(0, 0, 1, 1).data);
-};
-const luminance = ([r, g, b]) => 0.2126 * channel(r / 255) + 0.7152 * channel(g / 255) + 0.0722 * channel(b / 255);
-const behind = (it) => {
-  for (; it !== null; it = it.parentElement) {
-    const found = colour(getComputedStyle(it).backgroundColor);
-    if (found[3] === 255) return found;
-  }
-  return [255, 255, 255, 255];
-};
-const faults = [];
-const walker = document.createTreeWalker(document.body, NodeFilter.SHOW_TEXT);
-while (walker.nextNode()) {
-  const holder = walker.currentNode.parentElement;
-  const text = walker.currentNode.textContent.trim();
-  const isLeftOut = holder.closest("noscript, option, datalist, textarea, button:disabled");
-  if (text === "" || isLeftOut || !holder.checkVisibility()) continue;
-  const [front, back] = [colour(getComputedStyle(holder).color), behind(holder)];
-  const [dark, light] = [luminance(front), luminance(back)].sort((a, b) => a - b);
-  const ratio = (light + 0.05) / (dark + 0.05);
-  if (ratio < 4.5) faults.push([text.slice(0, 40), String(front), String(back), ratio]);
-}
-return faults;
-"""
-
-class Rows(unittest.TestCase):
-    """Every row that is a check, in every format, byte for byte."""
-
-    def result(self, words):
-        """What the page of the rows posts, opened by a browser that these words start."""
-        others = {"/rows.html": HERE / "rows_page.html", "/rows_page.js": HERE / "rows_page.js",
-                  "/cases.json": Path(GIVEN["cases"])}
-        server = served(GIVEN["module"], others)
-        job = subprocess.Popen([*words, server.url + "/rows.html"], stdout=subprocess.DEVNULL,
-                               stderr=subprocess.DEVNULL, start_new_session=True)
-        try:
-            end = time.monotonic() + 3 * SECONDS
-            while not server.posted and job.poll() is None and time.monotonic() < end:
-                time.sleep(0.05)
-            self.assertTrue(server.posted, "the page posted nothing")
-            return server.posted[0]
-        finally:
-            job.terminate()
-            job.wait()
-            ended(server)
-
-    def judge(self, words):
-        result = self.result(words)
-        self.assertEqual(result["failed"], [])
-        self.assertGreater(result["passed"], 1000)
-
-    def test_chromium(self):
-        with tempfile.TemporaryDirectory() as folder:
-            self.judge(["chromium", *CHROMIUM, f"--user-data-dir={folder}"])
-
-    def test_firefox(self):
-        if shutil.which("firefox-esr") is None:
-            self.skipTest("the rows in Firefox: firefox-esr isn't installed")
-        with tempfile.TemporaryDirectory() as folder:
-            self.judge(["firefox-esr", "--headless", "--no-remote", "--profile", folder])
 
 
 def main():

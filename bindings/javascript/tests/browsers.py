@@ -13,6 +13,9 @@ from serving import PAGE, Handler, Server  # noqa: E402
 
 SECONDS = 60
 
+# What the tests are asked for: the module, the cases, and the folder for pictures.
+GIVEN = {}
+
 # For the root user, and for a machine without a screen.
 CHROMIUM = ["--headless=new", "--no-sandbox", "--disable-gpu", "--disable-dev-shm-usage", "--no-first-run",
             "--disable-background-networking"]
@@ -43,6 +46,53 @@ area.dispatchEvent(new Event("input"));
 
 # Milliseconds from the beginning of the page until the first verdict.
 FIRST_VERDICT = "return performance.getEntriesByName('verdict')[0]?.startTime"
+
+
+# The messages that go beyond the editor in which they are.
+CUT = """
+return Array.from(document.querySelectorAll(".drawing .message")).filter((it) =>
+  it.getBoundingClientRect().right > it.closest(".text").getBoundingClientRect().right).map((it) => it.textContent);
+"""
+
+# What goes beyond the right edge of the window, without what scrolls by itself.
+WIDER = """
+if (document.scrollingElement.scrollWidth <= innerWidth) return [];
+return Array.from(document.body.querySelectorAll("*")).filter((it) => it.getBoundingClientRect().right > innerWidth)
+  .map((it) => it.outerHTML.slice(0, 100));
+"""
+
+# The texts whose contrast with what is behind them is less than WCAG AA asks: each as text, colours and ratio.
+CONTRAST = """
+const channel = (it) => it <= 0.04045 ? it / 12.92 : ((it + 0.055) / 1.055) ** 2.4;
+const canvas = document.createElement("canvas").getContext("2d", { willReadFrequently: true });
+const colour = (text) => {
+  canvas.clearRect(0, 0, 1, 1);
+  canvas.fillStyle = text;
+  canvas.fillRect(0, 0, 1, 1);
+  return Array.from(canvas.getImageData(0, 0, 1, 1).data);
+};
+const luminance = ([r, g, b]) => 0.2126 * channel(r / 255) + 0.7152 * channel(g / 255) + 0.0722 * channel(b / 255);
+const behind = (it) => {
+  for (; it !== null; it = it.parentElement) {
+    const found = colour(getComputedStyle(it).backgroundColor);
+    if (found[3] === 255) return found;
+  }
+  return [255, 255, 255, 255];
+};
+const faults = [];
+const walker = document.createTreeWalker(document.body, NodeFilter.SHOW_TEXT);
+while (walker.nextNode()) {
+  const holder = walker.currentNode.parentElement;
+  const text = walker.currentNode.textContent.trim();
+  const isLeftOut = holder.closest("noscript, option, datalist, textarea, button:disabled");
+  if (text === "" || isLeftOut || !holder.checkVisibility()) continue;
+  const [front, back] = [colour(getComputedStyle(holder).color), behind(holder)];
+  const [dark, light] = [luminance(front), luminance(back)].sort((a, b) => a - b);
+  const ratio = (light + 0.05) / (dark + 0.05);
+  if (ratio < 4.5) faults.push([text.slice(0, 40), String(front), String(back), ratio]);
+}
+return faults;
+"""
 
 
 def python():

@@ -34,7 +34,8 @@ def digest(text):
 
 def write_rows(path, program, answer_of):
     """Each check of the rows in every format, as rows.test.js reads it: the row's own format with what the row has, the
-    others with what the program answers; of the texts the SHA-256. Returns how many."""
+    others with what the program answers; of the texts the SHA-256. `own` says how many are the row's. Returns how many
+    cases there are."""
     words = {f"{row}/{run}": words for row, run, words in runs()}
     asked = {}
     for check in checks():
@@ -50,7 +51,7 @@ def write_rows(path, program, answer_of):
                 expected.append((format_, status, digest(line if status > 1 else said)))
             documents = [(uri, encoded(text)) for uri, text in first.documents]
             case = {"name": first.name, "entry": first.entry, "instance": encoded(first.instance),
-                    "documents": documents, "expected": expected}
+                    "documents": documents, "own": len(alike), "expected": expected}
             file.write(json.dumps(case) + "\n")
     return len(asked)
 
