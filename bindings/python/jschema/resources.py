@@ -64,7 +64,7 @@ class Target(NamedTuple):
 
 def document(uri: str, source: Source) -> Document:
     """The document of a text. Raises `ValueError` or `RecursionError` where it isn't JSON."""
-    value = json.loads(source.json.decode(), parse_constant=_no_constant)
+    value = json.loads(source.json.decode(), parse_constant=_no_constant, parse_int=_whole)
     if isinstance(source, JsonSource) and not _DOUBTFUL.search(source.json):
         source.trust()
     made = Document(uri, source, value)
@@ -108,6 +108,11 @@ def is_whole(value: Any) -> bool:
 def is_number(value: Any) -> bool:
     """Whether a value of a document is a number that can be compared."""
     return is_whole(value) or isinstance(value, float) and math.isfinite(value)
+
+
+def _whole(digits: str) -> int:
+    """An integer. (Python reads none of thousands of digits: of those, one that is as far beyond 64 bits.)"""
+    return int(digits[:100])
 
 
 def _no_constant(name: str) -> float:

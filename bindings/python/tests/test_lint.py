@@ -58,6 +58,7 @@ FOUND = (
      ("pattern", "error", "isn't a regular expression", "/patternProperties/(")),
     ({"maximum": 1.5, "enum": [{"a": 2**64}, -2**63 - 1]}, ("number", "error", "whole", "/maximum"),
      ("number", "error", "2^64", "/enum/0/a"), ("number", "error", "2^64", "/enum/1")),
+    ({"minimum": 10**300}, ("number", "error", "2^64", "/minimum")),
     ({"type": 1}, ("refused", "error", "the keyword's value has the wrong form (BadKeyword)", "/type")),
     ({"items": [{}]}, ("refused", "error", "a schema is an object or a boolean (NotASchema)", "/items")),
     # These accept nothing.

@@ -1,6 +1,7 @@
 """The tests of pip's `jsonschema` that speak of draft 2020-12, on our validator: each passes, or is listed with a
 reason and fails."""
 import importlib
+import importlib.metadata
 import types
 import unittest
 from unittest import mock
@@ -8,13 +9,16 @@ from unittest import mock
 import jschema
 from jschema.validators import best_match
 
+# The version whose tests the reasons are about.
+VERSION = "4.26"
 try:
-    import jsonschema.exceptions
     theirs = importlib.import_module("jsonschema.tests.test_validators")
+    if not importlib.metadata.version("jsonschema").startswith(VERSION):
+        theirs = None
 except ImportError:
     theirs = None
 
-WHY = "needs jsonschema with its tests, and referencing"
+WHY = f"needs pip's jsonschema {VERSION} with its tests"
 
 
 class Ours(jschema.Validator):

@@ -48,7 +48,7 @@ REFUSED = (
     ("!!int x", "no int", 1, 1), ("!!bool 1", "no bool", 1, 1), ("é: *x", "no anchor", 1, 4),
     ("a: &x [*x]", "hold itself", 1, 8), ("[1, 2", "", 1, 6), ("", "no document", 1, 1), ("# c\n", "no document", 1, 1),
     ("? [1]\n: 2", "a string", 1, 3), ("a: &x k\nb: {*x : 1}", "a string", 2, 5), ("~: 1", "a string", 1, 1),
-    ("!!int 1: 2", "a string", 1, 1),
+    ("!!int 1: 2", "a string", 1, 1), ("a: 0x" + "f" * 5000, "64 bits", 1, 4),
     ("[" * 128, "deeper than 127", 1, 128), ("- " * 128, "deeper than 127", 1, 255),
 )
 
@@ -221,8 +221,10 @@ k = true
         for text, why, line, column in (
                 ("a = ", "", 1, 5), ("a = 1\na = 2", "", 2, 6), ("a = [inf]", "no number inf", 1, 6),
                 ("a = -nan", "no number -nan", 1, 5), (deep, "deeper than 127", 1, 131), ("é = 1", "", 1, 1),
-                (".".join("a" * 300) + " = 1", "deeper than 127", 1, 255),
-                ("[" + ".".join("a" * 300) + "]", "deeper than 127", 1, 256)):
+                (".".join("a" * 300) + " = 1", "deeper than 127", 1, 1),
+                ("[" + ".".join("a" * 300) + "]", "deeper than 127", 1, 1),
+                ("a = {b." + "'b'." * 200_000 + "c = 1}", "deeper than 127", 1, 5),
+                ("a = " + "1" * 5000, "64 bits", 1, 1)):
             with self.subTest(text[:20]), self.assertRaises(Unreadable) as raised:
                 read(text.encode(), "toml")
             self.assertEqual(raised.exception.kind, "NotToml")

@@ -51,7 +51,7 @@ class Wheel(unittest.TestCase):
             for name in ("validate", "lint"):
                 script = python.parent / f"jschema-{name}"
                 self.assertIn(f"usage: jschema-{name} [", run(script, "-h", env=environment))
-                self.assertRegex(run(script, "--version", env=environment), rf"\Ajschema {VERSION}\n(no )?library")
+                self.assertRegex(run(script, "--version", env=environment), rf"\Ajschema {VERSION}\nengine: the ")
 
     @unittest.skipUnless(importlib.util.find_spec("pip"), "needs pip")
     def test_editable(self):

@@ -8,7 +8,7 @@ from ..program import find_program
 
 
 def versions() -> str:
-    """The version of the package, and that of the library with its place, or which program checks instead."""
+    """The version of the package; and which engine checks: the library with its version, or the program."""
     return f"jschema {VERSION}\n{_engine()}"
 
 
@@ -16,7 +16,7 @@ def _engine() -> str:
     try:
         library = find_library()
         if library is not None:
-            return f"library {LibraryEngine.version(library)}: {library}"
-        return f"no library, so each check runs the program: {find_program()}"
+            return f"engine: the library, version {LibraryEngine.version(library)}, {library}"
+        return f"engine: the program {find_program()}, once for each check, since there is no library"
     except EngineError as error:
-        return f"no validator: {error}"
+        return f"engine: none: {error}"

@@ -64,6 +64,8 @@ def _number(value: str) -> tuple[str, str]:
             raise NotCore(f"{value} begins with a zero: write the number without, or quote it")
         return "int", digits if whole[1] != "-" or digits == "0" else "-" + digits
     if _HEXADECIMAL.fullmatch(value):
+        if len(value.lstrip("0x")) > 16:
+            raise NotCore(f"{value} is beyond 64 bits")
         return "int", str(int(value, 16))
     if found := _FLOAT.fullmatch(value):
         return "float", _float(*found.groups(""))

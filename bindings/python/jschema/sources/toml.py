@@ -22,6 +22,8 @@ from .writing import written
 
 KIND = "NotToml"
 _AT = re.compile(r"(.*) \(at (?:line (\d+), column (\d+)|end of document)\)", re.DOTALL)
+# A name of more parts than may nest. (`tomllib` takes long for very many.)
+_LONG_NAME = re.compile(rb"""(?:^|[\[{,])[ \t]*(?:(?:[\w-]+|"[^"\n]*"|'[^'\n]*')[ \t]*\.[ \t]*){%d}""" % DEEPEST, re.M)
 _NOT_JSON = re.compile(r"[-+]?(?:inf|nan)")
 
 
@@ -37,6 +39,8 @@ def read(data: bytes) -> list[Source]:
     except UnicodeDecodeError as error:
         at = lines.at(error.start)
         raise Unreadable(KIND, "isn't UTF-8", Range(at, at)) from None
+    if long := _LONG_NAME.search(data):
+        raise Unreadable(KIND, f"nested deeper than {DEEPEST}", Range(lines.at(long.start()), lines.at(long.start())))
     value = _value(text, data, lines)
     try:
         root = _Tree(lines, Places(data)).node(value, [])
@@ -61,6 +65,9 @@ def _value(text: str, data: bytes, lines: Text) -> dict[str, Any]:
             before = data.split(b"\n")[:int(said[2])]
             offset = sum(len(line) + 1 for line in before[:-1]) + len(before[-1].decode()[:int(said[3]) - 1].encode())
         raise Unreadable(KIND, said[1] if said else str(error), Range(lines.at(offset), lines.at(offset))) from None
+    except ValueError:
+        # (Python reads no number of thousands of digits.)
+        raise Unreadable(KIND, "has a number beyond 64 bits", Range(lines.at(0), lines.at(0))) from None
 
 
 class _Tree:
