@@ -5,7 +5,7 @@ import tempfile
 import unittest
 from pathlib import Path
 
-from lsp_client import ADDRESS, FILES, PERSON
+from lsp_client import ADDRESS, FILES, PERSON, once
 
 from jschema.lsp.completion import Client, completion
 from jschema.lsp.definition import definition
@@ -24,6 +24,7 @@ PIECES = ('"', "{", "}", "[", "]", ",", ":", "\n", " ", "- ", "5", "0.5", "\\", 
 
 class AnyText(unittest.TestCase):
     def setUp(self):
+        once(self)
         folder = tempfile.TemporaryDirectory()
         self.addCleanup(folder.cleanup)
         self.folder = Path(folder.name).resolve()

@@ -1,7 +1,7 @@
 """A change in a large file is answered while one types. The bound is generous: benchmarks/editor measures."""
-import os
 import unittest
 
+from lsp_client import once
 from lsp_speed import CHANGES, Editor, rows
 
 SIZE = 300_000
@@ -10,8 +10,7 @@ SECONDS = 0.5
 
 class Speed(unittest.TestCase):
     def test_change(self):
-        if os.environ.get("JSCHEMA_LIBRARY") == "off":
-            self.skipTest("no library")
+        once(self)
         editor = Editor("json", rows(SIZE))
         self.addCleanup(editor.close)
         for what, (found, new, problems) in CHANGES.items():
