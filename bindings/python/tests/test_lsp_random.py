@@ -16,10 +16,11 @@ from jschema.lsp.settings import read
 from jschema.lsp.symbols import symbols
 from jschema.lsp.workspace import Workspace
 
-INSTANCE = json.dumps({"name": "Ada", "age": 5, "colour": "red", "friends": [{"name": "B", "address": {"street": "é"}}]},
-                      ensure_ascii=False, indent=1)
+INSTANCE = json.dumps({"name": "Ada", "age": 5, "colour": "red",
+                       "friends": [{"name": "B", "address": {"street": "é"}}]}, ensure_ascii=False, indent=1)
 YAML = "name: Ada\nage: 5\nfriends:\n- name: B\n  address: {street: é}\n- &b\n  name: 'C'\n- *b\n---\nage: |\n  x\n"
-PIECES = ('"', "{", "}", "[", "]", ",", ":", "\n", " ", "- ", "5", "0.5", "\\", "$ref", "#", "'", "é", "\U0001f600", "null")
+PIECES = ('"', "{", "}", "[", "]", ",", ":", "\n", " ", "- ", "5", "0.5", "\\", "$ref", "#", "'", "é", "\U0001f600",
+          "null")
 
 
 class AnyText(unittest.TestCase):

@@ -14,16 +14,17 @@ except ImportError:
     yaml = None
 
 BEGINNINGS = ("", "# é\n", "%YAML 1.2\n---\n", "---\n")
-LINES = ("- ", "  ", "a: 1", "b:", "é: [1, {x: 2}]", "c: |", "d: >-", "# x", "\n", "'q': \"r\"", "e: x", " y", "- - f: 1",
-         "g: {h: 1}", "'", '"', ":", "-", "1.5", "[", "}", "---", "&a", "*a", "\U0001f600: ~", "? k", "...")
+LINES = ("- ", "  ", "a: 1", "b:", "é: [1, {x: 2}]", "c: |", "d: >-", "# x", "\n", "'q': \"r\"", "e: x", " y",
+         "- - f: 1", "g: {h: 1}", "'", '"', ":", "-", "1.5", "[", "}", "---", "&a", "*a", "\U0001f600: ~", "? k", "...")
 
 
 def document(numbers):
     """A text with blocks in one another."""
     lines = [numbers.choice(BEGINNINGS) + "top:"]
     for index in range(numbers.randrange(6, 14)):
-        lines += [f"  k{index}:", f"    name: n{index}", "    list:", f"    - {index}", f"    - id: {index}", "      tag: é",
-                  "    text: |", "      one", "", "      two", "    more: {a: 1}"][:numbers.randrange(2, 12)]
+        lines += [f"  k{index}:", f"    name: n{index}", "    list:", f"    - {index}", f"    - id: {index}",
+                  "      tag: é", "    text: |", "      one", "", "      two",
+                  "    more: {a: 1}"][:numbers.randrange(2, 12)]
     return "\n".join(lines) + numbers.choice(("", "\n", "\nlast: 1\n"))
 
 

@@ -29,7 +29,7 @@ class _Change(NamedTuple):
 
 
 def reread(source: Source, data: bytes) -> Optional[Source]:
-    """The source of a YAML text, whose source before it changed is used up for it; None, and it isn't used up, where the
+    """The source of a YAML text, for which that of the text before is used up. None, and nothing is used up, where the
     text must be read as a whole."""
     if source.kind != "yaml" or _FAR.search(source.data) or source.data.startswith(b"%"):
         return None
@@ -39,7 +39,8 @@ def reread(source: Source, data: bytes) -> Optional[Source]:
         end = _end(source.data, path[-1])
         made = _block(data[path[-1].begin:end + change.more], _column(source.data, path[-1]))
         # (What is no longer of the same kind may be part of what is around it.)
-        if made is not None and type(made.content) is type(path[-1].content) and len(path) + _levels(made) <= DEEPEST:
+        is_same = made is not None and type(made.content) is type(path[-1].content)
+        if made is not None and is_same and len(path) + _levels(made) <= DEEPEST:
             _put(path, made, _column(source.data, path[-1]), change.more)
             return MarkedSource("yaml", data, written(root), root, Text(data))
     return None
