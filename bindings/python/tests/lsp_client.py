@@ -1,5 +1,6 @@
 """A client of the language server, as the tests talk to it."""
 import json
+import os
 import queue
 import subprocess
 import sys
@@ -9,7 +10,13 @@ import unittest
 from pathlib import Path
 
 #: How long a message may take.
-SECONDS = 20
+SECONDS = 60
+
+
+def once(test):
+    """Skips a test with the engine of the program, as it is run with the library's."""
+    if os.environ.get("JSCHEMA_LIBRARY") == "off":
+        test.skipTest("no library")
 
 
 class Client:
@@ -137,8 +144,12 @@ class Session(unittest.TestCase):
     """A test with a server, in a folder with schemas. In texts `|` is where the cursor is."""
 
     ARGUMENTS = ()
+    # Whether it is run with both engines.
+    with_both = False
 
     def setUp(self):
+        if not self.with_both:
+            once(self)
         folder = tempfile.TemporaryDirectory()
         self.addCleanup(folder.cleanup)
         self.folder = Path(folder.name).resolve()

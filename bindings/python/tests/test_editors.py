@@ -10,7 +10,7 @@ import unittest
 from pathlib import Path
 
 from editors import EMACS, NEOVIM
-from lsp_client import PERSON
+from lsp_client import PERSON, once
 
 try:
     import tomllib
@@ -52,6 +52,7 @@ def has_eglot():
 
 class Editors(unittest.TestCase):
     def setUp(self):
+        once(self)
         folder = tempfile.TemporaryDirectory()
         self.addCleanup(folder.cleanup)
         self.folder = Path(folder.name).resolve()

@@ -5,7 +5,7 @@ import tempfile
 import unittest
 from pathlib import Path
 
-from lsp_client import ADDRESS, FILES, PERSON
+from lsp_client import ADDRESS, FILES, PERSON, once
 
 from jschema.lsp.completion import Client, completion
 from jschema.lsp.definition import definition
@@ -16,14 +16,16 @@ from jschema.lsp.settings import read
 from jschema.lsp.symbols import symbols
 from jschema.lsp.workspace import Workspace
 
-INSTANCE = json.dumps({"name": "Ada", "age": 5, "colour": "red", "friends": [{"name": "B", "address": {"street": "é"}}]},
-                      ensure_ascii=False, indent=1)
+INSTANCE = json.dumps({"name": "Ada", "age": 5, "colour": "red",
+                       "friends": [{"name": "B", "address": {"street": "é"}}]}, ensure_ascii=False, indent=1)
 YAML = "name: Ada\nage: 5\nfriends:\n- name: B\n  address: {street: é}\n- &b\n  name: 'C'\n- *b\n---\nage: |\n  x\n"
-PIECES = ('"', "{", "}", "[", "]", ",", ":", "\n", " ", "- ", "5", "0.5", "\\", "$ref", "#", "'", "é", "\U0001f600", "null")
+PIECES = ('"', "{", "}", "[", "]", ",", ":", "\n", " ", "- ", "5", "0.5", "\\", "$ref", "#", "'", "é", "\U0001f600",
+          "null")
 
 
 class AnyText(unittest.TestCase):
     def setUp(self):
+        once(self)
         folder = tempfile.TemporaryDirectory()
         self.addCleanup(folder.cleanup)
         self.folder = Path(folder.name).resolve()

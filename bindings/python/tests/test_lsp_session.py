@@ -2,6 +2,8 @@
 import json
 import time
 
+import jschema
+
 from lsp_client import SECONDS, Session
 
 CANCELLED, NOT_INITIALIZED, NOT_JSON = -32800, -32002, -32700
@@ -10,9 +12,11 @@ LARGE = json.dumps({"rows": [{"id": number, "tags": ["a", {"b": None}]} for numb
 
 
 class Lifecycle(Session):
+    with_both = True
+
     def test_whole_session(self):
         result = self.start()
-        self.assertEqual(result["serverInfo"]["name"], "jschema-lsp")
+        self.assertEqual(result["serverInfo"], {"name": "jschema-lsp", "version": jschema.__version__})
         self.assertEqual(result["capabilities"]["positionEncoding"], "utf-16")
         self.assertEqual(result["capabilities"]["textDocumentSync"]["change"], 2)
         self.assertEqual(self.client.end(), 0)
@@ -84,6 +88,8 @@ class Requests(Session):
 
 
 class Versions(Session):
+    with_both = True
+
     def test_versions(self):
         """Each version may have diagnostics, and the last one has; one that is out of order isn't taken."""
         self.start()

@@ -56,7 +56,8 @@ class Positions(unittest.TestCase):
                 places = [it for it in enumerate(positions(text)) if is_written(text, it[0])]
                 (begin, first), (end, last) = sorted(numbers.choices(places, k=2))
                 new = "".join(numbers.choice(PARTS) for _ in range(4))
-                document.change(version, [{"range": {"start": as_position(first), "end": as_position(last)}, "text": new}])
+                between = {"start": as_position(first), "end": as_position(last)}
+                document.change(version, [{"range": between, "text": new}])
                 text = text[:begin] + new + text[end:]
                 self.assertEqual((document.text, document.version), (text, version))
 
@@ -78,7 +79,9 @@ def value_of(text, node):
     """The value of a whole tree."""
     if node.kind == "object":
         return {it.key: value_of(text, it) for it in node.children}
-    return [value_of(text, it) for it in node.children] if node.kind == "array" else json.loads(text[node.begin:node.end])
+    if node.kind == "array":
+        return [value_of(text, it) for it in node.children]
+    return json.loads(text[node.begin:node.end])
 
 
 def nodes(root):

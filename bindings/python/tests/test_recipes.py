@@ -9,6 +9,8 @@ import tempfile
 import unittest
 from pathlib import Path
 
+from lsp_client import once
+
 try:
     import yaml
 except ImportError:
@@ -32,6 +34,7 @@ def installed(name):
 
 class Recipes(unittest.TestCase):
     def setUp(self):
+        once(self)
         folder = tempfile.TemporaryDirectory()
         self.addCleanup(folder.cleanup)
         self.folder = Path(folder.name).resolve()

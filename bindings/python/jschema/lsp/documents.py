@@ -21,6 +21,8 @@ class Document:
         #: The changes since diagnostics were last made of a text that could be read.
         self.edits: list[Edit] = []
         self._reading: Optional[Reading] = None
+        # The last text that could be read.
+        self._before: Optional[Reading] = None
         self._trees: Optional[list[Node]] = None
 
     @property
@@ -41,7 +43,7 @@ class Document:
     def reading(self) -> Reading:
         """The text, read."""
         if self._reading is None:
-            self._reading = Reading(self.text, self.kind)
+            self._reading = Reading(self.text, self.kind, self._before)
         return self._reading
 
     def trees(self) -> list[Node]:
@@ -59,5 +61,7 @@ class Document:
             end = self.lines.offset(within["end"]) if within else len(self.text)
             self.edits.append(Edit(begin, end, len(text)))
             self.lines = Lines(self.text[:begin] + text + self.text[end:])
+        if self._reading is not None and self._reading.sources:
+            self._before = self._reading
         self._reading = self._trees = None
         self.version = version

@@ -12,6 +12,7 @@ from ..sources import read as read_sources
 from ..sources.source import JsonSource
 from ..sources.tree import found
 from .ranges import Span
+from .rereading import reread
 
 
 class Fault(NamedTuple):
@@ -49,9 +50,10 @@ class Characters:
 
 
 class Reading:
-    """The text of a document. In YAML each of its documents has a source."""
+    """The text of a document. In YAML each of its documents has a source. The reading of the text before it changed is
+    used up where that is quicker."""
 
-    def __init__(self, text: str, kind: str) -> None:
+    def __init__(self, text: str, kind: str, before: Optional[Reading] = None) -> None:
         self.characters = Characters(text)
         self.sources: list[Source] = []
         #: The value of the first source.
@@ -60,7 +62,7 @@ class Reading:
         if not text.strip():
             return
         try:
-            self.sources = read_sources(self.characters.data, kind)
+            self.sources = self._again(before) or read_sources(self.characters.data, kind)
             self.value = _value(self.sources[0].json)
         except Unreadable as refused:
             self.fail(self.characters.span(*(it.offset for it in refused.range)), refused.meaning)
@@ -69,6 +71,14 @@ class Reading:
         for source in self.sources:
             if isinstance(source, JsonSource) and self.fault is None:
                 source.trust()
+
+    def _again(self, before: Optional[Reading]) -> list[Source]:
+        if before is None or len(before.sources) != 1:
+            return []
+        found = reread(before.sources[0], self.characters.data)
+        if found is not None:
+            before.sources = []
+        return [] if found is None else [found]
 
     def fail(self, span: Span, message: str) -> None:
         """Says where and why the text can't be read."""

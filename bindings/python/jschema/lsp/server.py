@@ -8,6 +8,7 @@ import traceback
 from typing import Any, Callable, Optional
 
 from ..errors import EngineError
+from ..interface import VERSION
 from .completion import Client, completion
 from .definition import definition
 from .diagnostics import Diagnoses
@@ -117,7 +118,7 @@ class Server:
         self._can_watch = bool(_at(given, "workspace", "didChangeWatchedFiles", "dynamicRegistration"))
         self._is_initialized = True
         self._configured(params.get("initializationOptions"))
-        return {"capabilities": _CAPABILITIES, "serverInfo": {"name": "jschema-lsp"}}
+        return {"capabilities": _CAPABILITIES, "serverInfo": {"name": "jschema-lsp", "version": VERSION}}
 
     # ---- notifications
 

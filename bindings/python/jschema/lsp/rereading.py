@@ -1,0 +1,171 @@
+"""A YAML text after a change: only the block that holds the change is read again, where that comes to the same."""
+from __future__ import annotations
+
+import re
+from typing import Callable, NamedTuple, Optional
+
+from ..errors import Refused
+from ..positions import Text
+from ..scanner import DEEPEST
+from ..sources import Member, Node, Source, read
+from ..sources.source import MarkedSource
+from ..sources.writing import written
+
+# What a block may not have: an anchor, which other parts may refer to, and line ends that aren't line feeds.
+_FAR = re.compile(rb"&|\r|\xc2\x85|\xe2\x80[\xa8\xa9]")
+_MARKER = re.compile(rb"^(?:%|---|\.\.\.)", re.MULTILINE)
+_BEFORE_BLOCK = re.compile(rb" *(?:- +)*")
+_INDENTATION = re.compile(rb"^ *(?=[^ \n])", re.MULTILINE)
+# A block that is a larger part of the text takes as long as the text.
+_PART = 4
+
+
+class _Change(NamedTuple):
+    """The bytes from `begin` to `end` have become others, and the text is longer by `more`."""
+
+    begin: int
+    end: int
+    more: int
+
+
+def reread(source: Source, data: bytes) -> Optional[Source]:
+    """The source of a YAML text, for which that of the text before is used up. None, and nothing is used up, where the
+    text must be read as a whole."""
+    if source.kind != "yaml" or _FAR.search(source.data) or source.data.startswith(b"%"):
+        return None
+    root = source.tree()
+    change = _change(source.data, data)
+    for path in _paths(source.data, root, change):
+        end = _end(source.data, path[-1])
+        made = _block(data[path[-1].begin:end + change.more], _column(source.data, path[-1]))
+        # (What is no longer of the same kind may be part of what is around it.)
+        is_same = made is not None and type(made.content) is type(path[-1].content)
+        if made is not None and is_same and len(path) + _levels(made) <= DEEPEST:
+            _put(path, made, _column(source.data, path[-1]), change.more)
+            return MarkedSource("yaml", data, written(root), root, Text(data))
+    return None
+
+
+def _change(before: bytes, after: bytes) -> _Change:
+    """What has changed between two texts: all but what they have in common at their beginnings and ends."""
+    shorter = min(len(before), len(after))
+    begin = _most(shorter, lambda count: before[:count] == after[:count])
+    same = _most(shorter - begin, lambda count: before[len(before) - count:] == after[len(after) - count:])
+    return _Change(begin, len(before) - same, len(after) - len(before))
+
+
+def _most(limit: int, holds: Callable[[int], bool]) -> int:
+    """The greatest number up to a limit for which something holds, as it does for all below it."""
+    least = 0
+    while least < limit:
+        middle = (least + limit + 1) // 2
+        least, limit = (middle, limit) if holds(middle) else (least, middle - 1)
+    return least
+
+
+def _paths(data: bytes, root: Node, change: _Change) -> list[list[Node]]:
+    """The blocks below the root that hold a change, each with those around it; the innermost first."""
+    path: list[Node] = []
+    node: Optional[Node] = root
+    while node is not None and _holds(data, node, change):
+        path.append(node)
+        last = None
+        for _, child in node.children():
+            if child.begin >= change.begin:
+                break
+            last = child
+        node = last
+    found = [path[:length] for length in range(len(path), 1, -1)]
+    return [it for it in found if _column(data, it[-1]) >= 0 and not _is_open_ended(data, it[-1]) and
+            _PART * (_end(data, it[-1]) - it[-1].begin) < len(data)]
+
+
+def _is_open_ended(data: bytes, node: Node) -> bool:
+    """Whether a block ends with a literal or folded scalar, or with nothing: what follows says where that ends."""
+    while node.content and not isinstance(node.content, str):
+        *_, (_, node) = node.children()
+    return node.begin == node.end or data[node.begin:node.begin + 1] in (b"|", b">")
+
+
+def _holds(data: bytes, node: Node, change: _Change) -> bool:
+    is_block = not isinstance(node.content, str) and data[node.begin:node.begin + 1] not in (b"[", b"{")
+    return is_block and node.begin < change.begin and change.end <= _end(data, node)
+
+
+def _end(data: bytes, node: Node) -> int:
+    """The end of the last line of a block."""
+    end = data.find(b"\n", node.end)
+    return len(data) if end < 0 else end
+
+
+def _column(data: bytes, node: Node) -> int:
+    """The column of a block, before which only blanks and the signs of items stand; else -1."""
+    begin = data.rfind(b"\n", 0, node.begin) + 1
+    return node.begin - begin if _BEFORE_BLOCK.fullmatch(data, begin, node.begin) else -1
+
+
+def _block(text: bytes, column: int) -> Optional[Node]:
+    """The value of a block that begins at a column, if it is one for itself."""
+    first, _, others = text.partition(b"\n")
+    if _FAR.search(text) or column == 0 and _MARKER.search(text):
+        return None
+    if any(len(found[0]) < column for found in _INDENTATION.finditer(others)):
+        return None
+    alone = b" " * column + text
+    try:
+        sources = read(alone, "yaml")
+    except Refused:
+        return None
+    root = sources[0].tree()
+    return root if len(sources) == 1 and root.begin == column and not _is_open_ended(alone, root) else None
+
+
+def _levels(node: Node) -> int:
+    """How deep a value nests."""
+    deepest, waiting = 0, [(node, 0)]
+    while waiting:
+        it, levels = waiting.pop()
+        levels += not isinstance(it.content, str)
+        deepest = max(deepest, levels)
+        waiting += [(child, levels) for _, child in it.children()]
+    return deepest
+
+
+def _put(path: list[Node], made: Node, column: int, more: int) -> None:
+    """Puts the new value of a block into the tree, and moves what stands behind it."""
+    *above, block = path
+    _move(made, block.begin - column)
+    end, block.end, block.content = block.end, made.end, made.content
+    child = block
+    for holder in reversed(above):
+        holder.end = block.end if holder.end == end else holder.end + more
+        _move_after(holder, child, more)
+        child = holder
+
+
+def _move_after(holder: Node, child: Node, more: int) -> None:
+    """Moves the children of an array or object that stand behind one of them."""
+    if isinstance(holder.content, list):
+        index = next(at for at, it in enumerate(holder.content) if it is child)
+        for item in holder.content[index + 1:]:
+            _move(item, more)
+    elif isinstance(holder.content, dict):
+        for name, (begin, end, value) in [*holder.content.items()]:
+            if begin > child.begin:
+                holder.content[name] = Member(begin + more, end + more, value)
+                _move(value, more)
+
+
+def _move(root: Node, more: int) -> None:
+    waiting = [root]
+    while waiting:
+        node = waiting.pop()
+        node.begin += more
+        node.end += more
+        content = node.content
+        if isinstance(content, list):
+            waiting += content
+        elif isinstance(content, dict):
+            for name, (begin, end, value) in content.items():
+                content[name] = Member(begin + more, end + more, value)
+                waiting.append(value)

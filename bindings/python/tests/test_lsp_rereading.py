@@ -1,0 +1,72 @@
+"""A YAML text that is read again in part comes to what it is when it is read as a whole."""
+import random
+import unittest
+
+from lsp_client import once
+
+from jschema.errors import Refused
+from jschema.lsp.rereading import reread
+from jschema.sources import read
+
+try:
+    import yaml
+except ImportError:
+    yaml = None
+
+BEGINNINGS = ("", "# é\n", "%YAML 1.2\n---\n", "---\n")
+LINES = ("- ", "  ", "a: 1", "b:", "é: [1, {x: 2}]", "c: |", "d: >-", "# x", "\n", "'q': \"r\"", "e: x", " y",
+         "- - f: 1", "g: {h: 1}", "'", '"', ":", "-", "1.5", "[", "}", "---", "&a", "*a", "\U0001f600: ~", "? k", "...")
+
+
+def document(numbers):
+    """A text with blocks in one another."""
+    lines = [numbers.choice(BEGINNINGS) + "top:"]
+    for index in range(numbers.randrange(6, 14)):
+        lines += [f"  k{index}:", f"    name: n{index}", "    list:", f"    - {index}", f"    - id: {index}",
+                  "      tag: é", "    text: |", "      one", "", "      two",
+                  "    more: {a: 1}"][:numbers.randrange(2, 12)]
+    return "\n".join(lines) + numbers.choice(("", "\n", "\nlast: 1\n"))
+
+
+def shape(node):
+    """All of a tree."""
+    content = node.content
+    if isinstance(content, dict):
+        content = [(name, it.begin, it.end, shape(it.value)) for name, it in content.items()]
+    elif isinstance(content, list):
+        content = list(map(shape, content))
+    return node.begin, node.end, content
+
+
+@unittest.skipUnless(yaml, "PyYAML isn't installed")
+class Rereading(unittest.TestCase):
+    def edited(self, numbers, text):
+        begin = numbers.randrange(len(text) + 1)
+        end = begin + numbers.choice((0, 0, 1, 1, 2, 8))
+        return text[:begin] + numbers.choice(LINES) + numbers.choice(("", "", "\n", "\n      ")) + text[end:]
+
+    def test_random_edits(self):
+        once(self)
+        numbers = random.Random(6)
+        again = whole = 0
+        for _ in range(40):
+            text = document(numbers)
+            source = read(text.encode(), "yaml")[0]
+            for _ in range(8):
+                changed = self.edited(numbers, text)
+                found = reread(source, changed.encode())
+                try:
+                    expected = read(changed.encode(), "yaml")
+                except Refused:
+                    expected = []
+                if found is not None:
+                    again += 1
+                    self.assertEqual(len(expected), 1, (text, changed))
+                    self.assertEqual((found.json, shape(found.tree())), (expected[0].json, shape(expected[0].tree())),
+                                     (text, changed))
+                elif len(expected) == 1:
+                    whole += 1
+                if len(expected) != 1:
+                    continue
+                text, source = changed, found or expected[0]
+        self.assertGreater(again, whole / 4)
