@@ -21,9 +21,9 @@ _DONE, _INVALID, _MISUSED, _REFUSED, _FAILED = range(len(STATUSES))
 # (As ctypes' own numbers: of an int each call would make one.)
 _FORMATS = {name: c_uint32(number) for name, number in FORMATS.items()}
 _FLAG = _FORMATS["flag"]
-# The libraries that this package can call: from 0.1 up to its own minor version.
+# The libraries that this package can call: those of its own minor version.
 _MAJOR, _MINOR, _ = map(int, VERSION.split("."))
-_VERSIONS = range(100, 10_000 * _MAJOR + 100 * (_MINOR + 1))
+_VERSIONS = range(10_000 * _MAJOR + 100 * _MINOR, 10_000 * _MAJOR + 100 * (_MINOR + 1))
 _FILE = "libjschema.so.0"
 
 # How much of an output is copied without asking for its length first.
@@ -94,7 +94,7 @@ def _load(path: str) -> ctypes.CDLL:
         raise EngineError(f"{path} is no library of jschema: {error}") from error
     if library.jschema_version() not in _VERSIONS:
         raise EngineError(f"{path} has version {library.jschema_version()}, and this package needs {_VERSIONS[0]} to "
-                          f"{_VERSIONS[-1]} (0.1 to {_MAJOR}.{_MINOR})")
+                          f"{_VERSIONS[-1]} ({_MAJOR}.{_MINOR})")
     return library
 
 
