@@ -31,7 +31,7 @@ use Rattle.js_upgrade.proofs.Staying.{ascending, current_stays, keywords_stay}
 
 -- ---- what holds no schema is there afterwards
 
-nothing_upgraded : (d : Dialect) (v : Value) → upgraded Nothing d v ≡ v
+pub nothing_upgraded : (d : Dialect) (v : Value) → upgraded Nothing d v ≡ v
 nothing_upgraded d null = refl
 nothing_upgraded d (truth b) = refl
 nothing_upgraded d (whole z) = refl
@@ -107,7 +107,7 @@ again_by d siblings (Some e) is = again_if (identifies e siblings) e d is
 
 -- ---- a schema
 
-upgraded_members_ascend : (held : Text → Holding) (d : Dialect) (ms : Members) → NamesAscendInMembers ms
+pub upgraded_members_ascend : (held : Text → Holding) (d : Dialect) (ms : Members) → NamesAscendInMembers ms
     → IsAscending (members_upgraded held d ms)
 upgraded_members_ascend held d ms s =
     subst (λ ns. IsAscending (members_upgraded held d ns)) (members-member_list ms)

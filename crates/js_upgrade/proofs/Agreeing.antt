@@ -182,7 +182,7 @@ plain_fit d name v plain c = (
   stands_by d name (bytes_eq name (codes "$schema")) refl plain,
 )
 
-beside_plain : (change : Change) → is_plain (beside_reference change) ≡ true
+pub beside_plain : (change : Change) → is_plain (beside_reference change) ≡ true
     → (is_plain change ≡ true) × (holding_of (beside_reference change) ≡ holding_of change)
 beside_plain Stays e = (refl, refl)
 beside_plain Refers e = (refl, refl)

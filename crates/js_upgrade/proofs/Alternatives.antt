@@ -6,7 +6,7 @@ use Rattle.js_doc.specs.Seen.{value_of}
 use Rattle.js_doc.specs.declared.doc.Doc.{Doc}
 use Rattle.js_upgrade.specs.Schema.{alternative, alternatives_upgraded, is_any, one}
 
-any_map : (ds : List Doc) → list_any is_any (map value_of ds) ≡ list_any (λ d. is_any (value_of d)) ds
+pub any_map : (ds : List Doc) → list_any is_any (map value_of ds) ≡ list_any (λ d. is_any (value_of d)) ds
 any_map [] = refl
 any_map (d ∷ ds) = ap (λ b. is_any (value_of d) || b) (any_map ds)
 

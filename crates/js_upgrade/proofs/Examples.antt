@@ -11,19 +11,19 @@ use Rattle.js_upgrade.specs.declared.dialect.Dialect.TheVariants.{Draft07, Draft
 
 -- ---- short forms
 
-abbrev obj : Named → Value
+abbrev pub obj : Named → Value
 obj ms = object (members ms)
 
-abbrev arr : Values → Value
+abbrev pub arr : Values → Value
 arr vs = list (items vs)
 
-abbrev num : ℕ → Value
+abbrev pub num : ℕ → Value
 num n = whole (pos n)
 
-abbrev is_null : Value
+abbrev pub is_null : Value
 is_null = obj ((codes "type", text (codes "null")) ∷ [])
 
-abbrev is_string : Value
+abbrev pub is_string : Value
 is_string = obj ((codes "type", text (codes "string")) ∷ [])
 
 -- a schema of the draft becomes these keywords of 2020-12, behind `$schema`
@@ -102,6 +102,45 @@ not_exclusive = refl
 exclusive_alone : Becomes Draft04 ((codes "exclusiveMaximum", truth true) ∷ []) []
 unfolding core_change applicator_change assertion_change
 exclusive_alone = refl
+
+-- ---- identifiers
+
+identifier : BecomesAll Draft04 ((codes "id", text (codes "https://o.example/a#")) ∷ [])
+    ((codes "$id", text (codes "https://o.example/a")) ∷ (codes "$schema", schema_uri) ∷ [])
+unfolding core_change applicator_change assertion_change
+identifier = refl
+
+name : BecomesAll Draft07 ((codes "$id", text (codes "#a.1")) ∷ [])
+    ((codes "$anchor", text (codes "a.1")) ∷ (codes "$schema", schema_uri) ∷ [])
+unfolding core_change applicator_change assertion_change
+name = refl
+
+uri_and_name : BecomesAll Draft06 ((codes "$id", text (codes "a.json#n")) ∷ [])
+    ((codes "$anchor", text (codes "n")) ∷ (codes "$id", text (codes "a.json")) ∷ (codes "$schema", schema_uri) ∷ [])
+unfolding core_change applicator_change assertion_change
+uri_and_name = refl
+
+no_name : Becomes Draft07 ((codes "$id", text (codes "#/a")) ∷ []) []
+unfolding core_change applicator_change assertion_change
+no_name = refl
+
+own_document : Becomes Draft04 ((codes "id", text (codes "#")) ∷ []) []
+unfolding core_change applicator_change assertion_change
+own_document = refl
+
+no_identifier_in_04 : Becomes Draft04 ((codes "$id", text (codes "a.json")) ∷ []) []
+unfolding core_change applicator_change assertion_change
+no_identifier_in_04 = refl
+
+id_in_07 : BecomesAll Draft07 ((codes "id", text (codes "a.json")) ∷ [])
+    ((codes "$schema", schema_uri) ∷ (codes "id", text (codes "a.json")) ∷ [])
+unfolding core_change applicator_change assertion_change
+id_in_07 = refl
+
+identifier_in_2019 : BecomesAll Draft2019 ((codes "$id", text (codes "a.json#")) ∷ [])
+    ((codes "$id", text (codes "a.json#")) ∷ (codes "$schema", schema_uri) ∷ [])
+unfolding core_change applicator_change assertion_change
+identifier_in_2019 = refl
 
 -- ---- items
 
@@ -187,7 +226,7 @@ required_members = refl
 
 -- ---- an embedded document
 
-abbrev names_04 : Value
+abbrev pub names_04 : Value
 names_04 = text (codes "http://json-schema.org/draft-04/schema#")
 
 abbrev of_04 : Value

@@ -1,7 +1,7 @@
 -- What a keyword becomes is of 2020-12, where its schemas are.
 use Rattle.std.proofs.Common.{◌≡◌, [], ◌∷◌, ◌++◌, Bool, true, false, not, None, cond, map, refl, sym, ap, ◌∙◌}
 use Rattle.std.proofs.Common.{subst, codes, option_and_then}
-use Rattle.std.specs.List.{list_any}
+use Rattle.std.specs.List.{after_first, before_first, list_any}
 use Rattle.js_doc.specs.Value.{Value, null, truth, whole, text, list, object, Items as ItemList, no_items, item, items}
 use Rattle.js_doc.specs.Value.{members, Text, Values, Named}
 use Rattle.js_doc.specs.Members.{get}
@@ -13,6 +13,7 @@ use Rattle.js_upgrade.specs.Dialect.{is_before}
 use Rattle.js_upgrade.specs.Keyword.{applicator_change, assertion_change, change_in, core_change}
 use Rattle.js_upgrade.specs.Schema.{alternative, alternatives_upgraded, change_of, dependencies_upgraded}
 use Rattle.js_upgrade.specs.Schema.{dependent_names, dependent_schema, extends_upgraded, gathered, is_any, is_list}
+use Rattle.js_upgrade.specs.Schema.{identifier_upgraded, is_mark, is_name, some_name, some_uri}
 use Rattle.js_upgrade.specs.Schema.{is_simple_type, is_true, list_or_schema_upgraded, members_found, one, put_all}
 use Rattle.js_upgrade.specs.Schema.{required_names, some_items, some_members, types_upgraded, upgraded_by}
 use Rattle.js_upgrade.specs.Upgrade.{becomes, dialect_in, dialect_or, holding_in, holding_of, own_dialect}
@@ -36,7 +37,7 @@ held_fit : (last : Bool) (name : Text) (v : Value) (h : Holding) → holding_of 
     → may_stand last name ≡ true → IsCurrent h v → IsFit last name v
 held_fit last name v h is stands c = (subst (λ k. IsCurrent k v) (sym is) c, stands)
 
-nothing_current : (v : Value) → IsCurrent Nothing v
+pub nothing_current : (v : Value) → IsCurrent Nothing v
 nothing_current null = tt
 nothing_current (truth b) = tt
 nothing_current (whole z) = tt
@@ -73,6 +74,33 @@ schema_fit ks e = (
       ∙ ap (λ found. dialect_or Draft2020 ks (option_and_then dialect_in found)) (without_schema ks e),
   are_current (λ name. holding_of (change_in Draft2020 name)) ks (each_held false ks e),
 )
+
+-- ---- identifiers
+
+uri_fit : (last : Bool) (t : Text) → Each (IsFit last) (some_uri t)
+unfolding core_change applicator_change assertion_change
+uri_fit last [] = tt
+uri_fit last (b ∷ bs) = (held_fit last (codes "$id") (text (b ∷ bs)) Nothing refl refl tt, tt)
+
+name_fit : (last is : Bool) (t : Text) → Each (IsFit last) (cond is (one (codes "$anchor") (text t)) [])
+unfolding core_change applicator_change assertion_change
+name_fit last true t = (held_fit last (codes "$anchor") (text t) Nothing refl refl tt, tt)
+name_fit last false t = tt
+
+id_fit : (last : Bool) (v : Value) → Each (IsFit last) (one (codes "$id") v)
+unfolding core_change applicator_change assertion_change
+id_fit last v = (held_fit last (codes "$id") v Nothing refl refl (nothing_current v), tt)
+
+identifier_fit : (last : Bool) (v : Value) → Each (IsFit last) (identifier_upgraded v)
+identifier_fit last (text t) =
+    each_append (IsFit last) (some_uri (before_first is_mark t)) (some_name (after_first is_mark t))
+    (uri_fit last (before_first is_mark t))
+    (name_fit last (is_name (after_first is_mark t)) (after_first is_mark t))
+identifier_fit last null = id_fit last null
+identifier_fit last (truth b) = id_fit last (truth b)
+identifier_fit last (whole z) = id_fit last (whole z)
+identifier_fit last (list vs) = id_fit last (list vs)
+identifier_fit last (object ms) = id_fit last (object ms)
 
 -- ---- items
 
@@ -234,7 +262,7 @@ module _ (last : Bool) (siblings : Named) (name : Text) (v : Value) where
   outcome HoldsList plain c = (plain refl, tt)
   outcome HoldsNamed plain c = (plain refl, tt)
   outcome Goes plain c = tt
-  outcome Identifier plain c = (held_fit last (codes "$id") v Nothing refl refl (nothing_current v), tt)
+  outcome Identifier plain c = identifier_fit last v
   outcome Definitions plain c = (held_fit last (codes "$defs") v ByName refl refl c, tt)
   outcome Items plain c = items_fit last v c
   outcome AdditionalItems plain c = behind_list_fit last (is_list (get (codes "items") siblings)) v c

@@ -55,7 +55,7 @@ or_plain : (found : Option Change) → plain_or_none found ≡ true → is_plain
 or_plain None e = refl
 or_plain (Some change) e = e
 
-change_plain : (name : Text) → is_plain (change_in Draft2020 name) ≡ true
+pub change_plain : (name : Text) → is_plain (change_in Draft2020 name) ≡ true
 unfolding core_change applicator_change assertion_change
 change_plain name = or_plain _ (first_plain _ _ (found_plain (assertions Draft2020) name refl)
     (first_plain _ _ (found_plain (applicators Draft2020) name refl) (found_plain (core Draft2020) name refl)))

@@ -27,7 +27,7 @@ module _ (d : Dialect) where
   core =
       (codes "$schema", since Draft2020 Asserts)  -- 5.29; C 6; C 7; C 7; 8.1.1; 8.1.1
       ∷ (codes "$vocabulary", since Draft2020 Asserts)  -- -; -; -; -; 8.1.2; 8.1.2
-      ∷ (codes "$id", since Draft06 Asserts)  -- -; -; C 9.2; C 8.2; 8.2.2; 8.2.1
+      ∷ (codes "$id", until Draft06 Goes (until Draft2019 Identifier Asserts))  -- -; -; C 9.2; C 8.2; 8.2.2; 8.2.1
       ∷ (codes "id", until Draft06 Identifier Stays)  -- 5.27; C 7.2; -; -; -; -
       ∷ (codes "$anchor", since Draft2019 Asserts)  -- -; -; -; -; 8.2.3; 8.2.2
       ∷ (codes "$dynamicAnchor", since Draft2020 Asserts)  -- -; -; -; -; -; 8.2.2

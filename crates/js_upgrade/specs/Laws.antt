@@ -1,11 +1,22 @@
 -- Laws of the upgrade.
-use Rattle.std.specs.Prelude.{◌≡◌, Some}
-use Rattle.js_doc.specs.Value.{Value}
+use Rattle.std.specs.Prelude.{◌≡◌, List, [], Some, map, option_and_then}
+use Rattle.std.specs.List.{AllByRecursion}
+use Rattle.js_doc.specs.Lookup.{at}
+use Rattle.js_doc.specs.Members.{get, NamesAscend}
+use Rattle.js_doc.specs.Parts.{member_list}
+use Rattle.js_doc.specs.Pointer.{Tokens}
+use Rattle.js_doc.specs.Value.{Value, object, Members, Text}
 use Rattle.js_doc.specs.Lawful.{IsLawful}
 use Rattle.js_upgrade.specs.Current.{IsCurrent}
-use Rattle.js_upgrade.specs.Upgrade.{document_dialect, document_upgraded}
+use Rattle.js_upgrade.specs.Documents.{Source, all_upgraded, source_dialect}
+use Rattle.js_upgrade.specs.Moved.{Reached, moved, reached}
+use Rattle.js_upgrade.specs.Origin.{origin}
+use Rattle.js_upgrade.specs.Schema.{put_all}
+use Rattle.js_upgrade.specs.Upgrade.{becomes, document_dialect, document_upgraded, holding_in, keywords_upgraded}
+use Rattle.js_upgrade.specs.Upgrade.{members_upgraded, upgraded}
 use Rattle.js_upgrade.specs.declared.dialect.Dialect.{Dialect}
 use Rattle.js_upgrade.specs.declared.dialect.Dialect.TheVariants.{Draft2020}
+use Rattle.js_upgrade.specs.declared.holding.Holding.{Holding}
 use Rattle.js_upgrade.specs.declared.holding.Holding.TheVariants.{One}
 
 -- a document of 2020-12 stays as it is, unless a schema in it declares an older draft
@@ -19,3 +30,30 @@ abbrev pub TwiceIsOnce : Type 0
 TwiceIsOnce =
     (assumed : Dialect) (root once : Value) → IsLawful root → IsLawful once
     → document_upgraded assumed root ≡ Some once → document_upgraded assumed once ≡ Some once
+
+-- what stands at tokens stands, upgraded, where they are moved to
+abbrev pub StandsWhereMoved : Type 0
+StandsWhereMoved =
+    (h : Holding) (d : Dialect) (v : Value) (tokens new : Tokens) (r : Reached) → NamesAscend v
+    → reached h d v tokens ≡ Some r → moved h d v tokens ≡ Some new
+    → at new (upgraded h d v) ≡ Some (upgraded r.holding r.dialect r.value)
+
+-- a keyword of an upgraded schema is of what the keyword that it comes from becomes
+abbrev pub KeywordsHaveOrigins : Type 0
+KeywordsHaveOrigins =
+    (d : Dialect) (ms : Members) (name : Text) → NamesAscend (object ms)
+    → let siblings = member_list ms in
+    let parts = members_upgraded (holding_in d siblings) d ms in
+    get name (keywords_upgraded d siblings parts)
+    ≡ option_and_then (λ v. get name (put_all (becomes d siblings (origin d siblings name) v) []))
+    (get (origin d siblings name) parts)
+
+-- ---- documents that are upgraded together
+
+abbrev pub IsCurrentSource : Source → Type 0
+IsCurrentSource s = IsLawful s.root × (source_dialect s ≡ Some Draft2020) × IsCurrent One s.root
+
+-- documents of 2020-12 stay as they are, unless a schema in one of them declares an older draft
+abbrev pub AllCurrentStay : Type 0
+AllCurrentStay = (sources : List Source) → AllByRecursion IsCurrentSource sources
+    → all_upgraded sources ≡ Some (map (λ s. s.root) sources)

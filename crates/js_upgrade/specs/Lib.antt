@@ -1,8 +1,15 @@
 pub mod Current
 pub mod Dialect
+pub mod Documents
 pub mod Fault
 pub mod Keyword
 pub mod Laws
+pub mod Moved
+pub mod Origin
+pub mod Reference
+pub mod Resource
 pub mod Schema
+pub mod Seen
 pub mod Upgrade
+pub mod Url
 pub mod code

@@ -1,8 +1,9 @@
 -- What a keyword of a schema becomes in 2020-12: a line for each change. Its argument comes with the schemas that it
 -- holds upgraded already; its siblings come as they were.
-use Rattle.std.specs.Prelude.{List, [], ◌∷◌, ◌++◌, Bool, true, false, not, ◌&&◌, Option, Some, None}
+use Rattle.std.specs.Prelude.{ℕ, ◌==◌, List, [], ◌∷◌, ◌++◌, Bool, true, false, not, ◌&&◌, ◌||◌, Option, Some, None}
 use Rattle.std.specs.Prelude.{codes, map, bytes_eq, if◌then◌else◌}
-use Rattle.std.specs.List.{list_any}
+use Rattle.std.specs.Char.{is_ascii_alphabetic, is_ascii_alphanumeric}
+use Rattle.std.specs.List.{after_first, before_first, list_all, list_any}
 use Rattle.js_doc.specs.Value.{Value, truth, text, list, object, no_items}
 use Rattle.js_doc.specs.Value.{item, Text, Values, Named, items, members}
 use Rattle.js_doc.specs.Members.{get, put, has_name}
@@ -82,6 +83,35 @@ seen_with seen _ = seen
 abbrev pub once : List Text → Values → Values
 once seen [] = []
 once seen (v ∷ vs) = if is_new seen v then v ∷ once (seen_with seen v) vs else once (seen_with seen v) vs
+
+-- ---- identifiers (draft-03, 5.27; draft-04 Core, 7.2; draft-06 Core, 9.2; draft-07 Core, 8.2)
+-- A URI, and as its fragment a name for the schema. 2020-12 has them apart (Core, 8.2.1 and 8.2.2).
+
+-- `#`
+abbrev pub is_mark : ℕ → Bool
+is_mark b = b == 35
+
+abbrev pub is_name_start : ℕ → Bool
+is_name_start b = is_ascii_alphabetic b || b == 95
+
+abbrev pub is_name_part : ℕ → Bool
+is_name_part b = is_ascii_alphanumeric b || (b == 45 || (b == 46 || b == 95))
+
+-- what `$anchor` may be: `[A-Za-z_][-A-Za-z0-9._]*`
+abbrev pub is_name : Text → Bool
+is_name [] = false
+is_name (b ∷ bs) = is_name_start b && list_all is_name_part bs
+
+abbrev pub some_uri : Text → Named
+some_uri [] = []
+some_uri (b ∷ bs) = one (codes "$id") (text (b ∷ bs))
+
+abbrev pub some_name : Text → Named
+some_name name = if is_name name then one (codes "$anchor") (text name) else []
+
+abbrev pub identifier_upgraded : Value → Named
+identifier_upgraded (text t) = some_uri (before_first is_mark t) ++ some_name (after_first is_mark t)
+identifier_upgraded v = one (codes "$id") v
 
 -- ---- items (draft-03, 5.5; draft-04, 5.3.1; draft-06, 6.9; draft-07, 6.4.1; 2019-09, 9.3.1.1)
 
@@ -163,7 +193,7 @@ members_found (Some v) = members_of v
 module _ (siblings : Named) (name : Text) (v : Value) where
   abbrev pub upgraded_by : Change → Named
   upgraded_by Goes = []
-  upgraded_by Identifier = one (codes "$id") v
+  upgraded_by Identifier = identifier_upgraded v
   upgraded_by Definitions = one (codes "$defs") v
   upgraded_by ItemsChange = list_or_schema_upgraded v
   upgraded_by AdditionalItems = if is_list (get (codes "items") siblings) then one (codes "items") v else []

@@ -1,2 +1,3 @@
 -- What only private functions speak of: no public clause cites it.
 pub mod HasSeen
+pub mod Pushed

@@ -5,6 +5,7 @@ ghost use Rattle.js_doc.specs.Value as spec;
 ghost use Rattle.js_upgrade.specs.Schema.{one, put_all, types_upgraded, upgraded_by};
 
 use crate::gathering::put_one;
+use crate::identifier::put_identifier;
 use crate::keyword::Change;
 use crate::pieces::{
     put_behind_list, put_dependencies, put_extended, put_limit, put_list_or_schema,
@@ -30,7 +31,7 @@ pub(crate) fn put_upgraded(
 {
     match change {
         Change::Goes => Ok(()),
-        Change::Identifier => put_one(alloc, among, "$id", value),
+        Change::Identifier => put_identifier(alloc, among, value),
         Change::Definitions => put_one(alloc, among, "$defs", value),
         Change::Items => put_list_or_schema(alloc, among, value),
         Change::AdditionalItems => put_behind_list(alloc, among, siblings, value),

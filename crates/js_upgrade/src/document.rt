@@ -29,7 +29,7 @@ pub fn upgrade(alloc: Global, assumed: Dialect, document: &Doc) -> Result<Doc, U
 }
 
 #[tactic(auto, using(crate::proofs::Gathered::gathering_rules))]
-fn document_dialect(assumed: Dialect, document: &Doc) -> Option<Dialect>
+pub(crate) fn document_dialect(assumed: Dialect, document: &Doc) -> Option<Dialect>
     ensures { result ≡ document_dialect assumed (value_of document.now) }
 {
     match document {
@@ -47,7 +47,7 @@ fn dialect_found(assumed: Dialect, found: Option<&Doc>) -> Option<Dialect>
     }
 }
 
-fn root_upgraded(alloc: Global, dialect: Dialect, root: &Doc) -> Result<Doc, Memory>
+pub(crate) fn root_upgraded(alloc: Global, dialect: Dialect, root: &Doc) -> Result<Doc, Memory>
     ensures { IfOk result (λ d. value_of d ≡ root_upgraded dialect (value_of root.now)) }
 {
     let value = upgraded(alloc, Holding::One, dialect, root)?;

@@ -21,7 +21,7 @@ pub enum Change {
     HoldsNamed,
     /// It doesn't act: it goes.
     Goes,
-    /// `id` becomes `$id`.
+    /// `id` or `$id` becomes `$id`, and its fragment `$anchor`.
     Identifier,
     /// `definitions` becomes `$defs`.
     Definitions,
@@ -71,7 +71,17 @@ fn core_change(dialect: Dialect, name: &str) -> Option<Change>
         "$schema" | "$vocabulary" | "$dynamicAnchor" | "$dynamicRef" => {
             Some(since(dialect, Dialect::Draft2020, Change::Asserts))
         }
-        "$id" => Some(since(dialect, Dialect::Draft06, Change::Asserts)),
+        "$id" => Some(until(
+            dialect,
+            Dialect::Draft06,
+            Change::Goes,
+            until(
+                dialect,
+                Dialect::Draft2019,
+                Change::Identifier,
+                Change::Asserts,
+            ),
+        )),
         "id" => Some(until(dialect, Dialect::Draft06, Change::Identifier, Change::Stays)),
         "$anchor" => Some(since(dialect, Dialect::Draft2019, Change::Asserts)),
         "$ref" => Some(Change::Refers),

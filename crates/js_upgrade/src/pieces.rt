@@ -60,7 +60,7 @@ pub(crate) fn put_behind_list(
     }
 }
 
-fn has_list(siblings: &Members, name: &str) -> bool
+pub(crate) fn has_list(siblings: &Members, name: &str) -> bool
     ensures { result ≡ is_list (get name.now siblings.now) }
 {
     matches!(siblings.get(name), Some(Doc::List(_)))

@@ -73,13 +73,13 @@ pub(crate) fn dialect_in(uri: &Doc) -> Option<Dialect>
     }
 }
 
-fn identifies(dialect: Dialect, siblings: &Members) -> bool
+pub(crate) fn identifies(dialect: Dialect, siblings: &Members) -> bool
     ensures { result ≡ identifies dialect siblings.now }
 {
     is_identifier(siblings.get(identifier(dialect))) && !hides(dialect, siblings)
 }
 
-fn identifier(dialect: Dialect) -> &'static str
+pub(crate) fn identifier(dialect: Dialect) -> &'static str
     ensures { result.now ≡ identifier dialect }
 {
     if dialect.is_before(Dialect::Draft06) {

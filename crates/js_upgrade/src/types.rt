@@ -59,7 +59,7 @@ fn is_any(value: &Doc) -> bool
     }
 }
 
-fn has_any(docs: &[Doc]) -> bool
+pub(crate) fn has_any(docs: &[Doc]) -> bool
     ensures { result ≡ list_any (λ d. is_any (value_of d)) docs.now }
 {
     docs.iter().any(|doc| is_any(doc))

@@ -1,0 +1,231 @@
+-- What a keyword becomes comes from it.
+use Rattle.std.proofs.Common.{◌≡◌, List, [], ◌∷◌, Bool, true, false, not, ◌&&◌, ◌||◌, Option, Some, None, cond}
+use Rattle.std.proofs.Common.{refl, sym, ap, ◌∙◌, codes, bytes_eq, unwrap_or}
+use Rattle.std.proofs.lemmas.Bool.{and_parts}
+use Rattle.js_doc.specs.Value.{Text, Named}
+use Rattle.js_doc.proofs.TokenLookup.{is_text-sound}
+use Rattle.js_upgrade.specs.Dialect.{found, first_of}
+use Rattle.js_upgrade.specs.Keyword.{applicator_change, applicators, assertion_change, assertions}
+use Rattle.js_upgrade.specs.Keyword.{change_in, core, core_change, or_stays}
+use Rattle.js_upgrade.specs.Origin.{origin_by, origins}
+use Rattle.js_upgrade.specs.Schema.{beside_reference, change_of, hides}
+use Rattle.js_upgrade.specs.declared.dialect.Dialect.{Dialect}
+use Rattle.js_upgrade.specs.declared.dialect.Dialect.TheVariants.{Draft03, Draft04, Draft06}
+use Rattle.js_upgrade.specs.declared.dialect.Dialect.TheVariants.{Draft07, Draft2019, Draft2020}
+use Rattle.js_upgrade.specs.declared.keyword.Change.{Change}
+use Rattle.js_upgrade.specs.declared.keyword.Change.TheVariants.{Stays, Asserts, Refers}
+use Rattle.js_upgrade.specs.declared.keyword.Change.TheVariants.{HoldsOne, HoldsList, HoldsNamed}
+use Rattle.js_upgrade.specs.declared.keyword.Change.TheVariants.{Goes, Identifier, Definitions, Items, AdditionalItems}
+use Rattle.js_upgrade.specs.declared.keyword.Change.TheVariants.{Dependencies, Minimum, Maximum, Divisor, Types}
+use Rattle.js_upgrade.specs.declared.keyword.Change.TheVariants.{Disallowed, Extended, Properties}
+use Rattle.js_upgrade.proofs.Agreeing.{beside_plain}
+use Rattle.js_upgrade.proofs.PlainChanges.{is_plain}
+
+-- ---- the names that a change gives, where it isn't the keyword's own
+
+abbrev pub outputs : Bool → Change → List Text
+outputs listed Identifier = codes "$id" ∷ codes "$anchor" ∷ []
+outputs listed Definitions = codes "$defs" ∷ []
+outputs listed Items = cond listed (codes "prefixItems") (codes "items") ∷ []
+outputs listed AdditionalItems = cond listed (codes "items" ∷ []) []
+outputs listed Dependencies = codes "dependentRequired" ∷ codes "dependentSchemas" ∷ []
+outputs listed Minimum = codes "exclusiveMinimum" ∷ codes "minimum" ∷ []
+outputs listed Maximum = codes "exclusiveMaximum" ∷ codes "maximum" ∷ []
+outputs listed Divisor = codes "multipleOf" ∷ []
+outputs listed Types = codes "type" ∷ codes "anyOf" ∷ []
+outputs listed Disallowed = codes "not" ∷ []
+outputs listed Extended = codes "allOf" ∷ []
+outputs listed Properties = codes "properties" ∷ codes "required" ∷ []
+outputs listed _ = []
+
+abbrev pub all_from : (Text → Text) → Text → List Text → Bool
+all_from f k [] = true
+all_from f k (n ∷ ns) = bytes_eq (f n) k && all_from f k ns
+
+-- the change is `items`' own
+abbrev pub is_named : Change → Text → Bool
+is_named Items k = bytes_eq k (codes "items")
+is_named _ k = true
+
+abbrev pub fits : Dialect → Bool → Text → Change → Bool
+fits d listed k change = all_from (origin_by d listed) k (outputs listed change) && is_named change k
+
+-- ---- the tables, line by line
+
+abbrev all_fit : Dialect → Bool → List (Text × Change) → Bool
+all_fit d listed [] = true
+all_fit d listed (row ∷ rows) = fits d listed row.0 row.1 && all_fit d listed rows
+
+core_fits : (d : Dialect) (listed : Bool) → all_fit d listed (core d) ≡ true
+core_fits Draft03 true = refl
+core_fits Draft04 true = refl
+core_fits Draft06 true = refl
+core_fits Draft07 true = refl
+core_fits Draft2019 true = refl
+core_fits Draft2020 true = refl
+core_fits Draft03 false = refl
+core_fits Draft04 false = refl
+core_fits Draft06 false = refl
+core_fits Draft07 false = refl
+core_fits Draft2019 false = refl
+core_fits Draft2020 false = refl
+
+applicators_fit : (d : Dialect) (listed : Bool) → all_fit d listed (applicators d) ≡ true
+applicators_fit Draft03 true = refl
+applicators_fit Draft04 true = refl
+applicators_fit Draft06 true = refl
+applicators_fit Draft07 true = refl
+applicators_fit Draft2019 true = refl
+applicators_fit Draft2020 true = refl
+applicators_fit Draft03 false = refl
+applicators_fit Draft04 false = refl
+applicators_fit Draft06 false = refl
+applicators_fit Draft07 false = refl
+applicators_fit Draft2019 false = refl
+applicators_fit Draft2020 false = refl
+
+assertions_fit : (d : Dialect) (listed : Bool) → all_fit d listed (assertions d) ≡ true
+assertions_fit Draft03 true = refl
+assertions_fit Draft04 true = refl
+assertions_fit Draft06 true = refl
+assertions_fit Draft07 true = refl
+assertions_fit Draft2019 true = refl
+assertions_fit Draft2020 true = refl
+assertions_fit Draft03 false = refl
+assertions_fit Draft04 false = refl
+assertions_fit Draft06 false = refl
+assertions_fit Draft07 false = refl
+assertions_fit Draft2019 false = refl
+assertions_fit Draft2020 false = refl
+
+-- ---- what is found in them
+
+abbrev fits_or_none : Dialect → Bool → Text → Option Change → Bool
+fits_or_none d listed k None = true
+fits_or_none d listed k (Some change) = fits d listed k change
+
+found_here : (d : Dialect) (listed : Bool) (k name : Text) (change : Change) (rest : Option Change) (b : Bool)
+    → bytes_eq k name ≡ b → fits d listed name change ≡ true → fits_or_none d listed k rest ≡ true
+    → fits_or_none d listed k (cond b (Some change) rest) ≡ true
+found_here d listed k name change rest true is here more =
+    ap (λ n. fits d listed n change) (is_text-sound k name is) ∙ here
+found_here d listed k name change rest false is here more = more
+
+found_fits : (d : Dialect) (listed : Bool) (k : Text) (rows : List (Text × Change)) → all_fit d listed rows ≡ true
+    → fits_or_none d listed k (found rows k) ≡ true
+found_fits d listed k [] e = refl
+found_fits d listed k (row ∷ rows) e =
+    let parts = and_parts (fits d listed row.0 row.1) (all_fit d listed rows) e in
+    found_here d listed k row.0 row.1 (found rows k) (bytes_eq k row.0) refl parts.0
+    (found_fits d listed k rows parts.1)
+
+first_fits : (d : Dialect) (listed : Bool) (k : Text) (a b : Option Change) → fits_or_none d listed k a ≡ true
+    → fits_or_none d listed k b ≡ true → fits_or_none d listed k (first_of a b) ≡ true
+first_fits d listed k None b e f = f
+first_fits d listed k (Some change) b e f = e
+
+or_fits : (d : Dialect) (listed : Bool) (k : Text) (a : Option Change) → fits_or_none d listed k a ≡ true
+    → fits d listed k (or_stays d a) ≡ true
+or_fits d listed k None e = refl
+or_fits d listed k (Some change) e = e
+
+change_fits : (d : Dialect) (listed : Bool) (k : Text) → fits d listed k (change_in d k) ≡ true
+unfolding core_change applicator_change assertion_change
+change_fits d listed k =
+    or_fits d listed k (first_of (assertion_change d k) (first_of (applicator_change d k) (core_change d k)))
+    (first_fits d listed k (assertion_change d k) (first_of (applicator_change d k) (core_change d k))
+    (found_fits d listed k (assertions d) (assertions_fit d listed))
+    (first_fits d listed k (applicator_change d k) (core_change d k)
+    (found_fits d listed k (applicators d) (applicators_fit d listed))
+    (found_fits d listed k (core d) (core_fits d listed))))
+
+-- ---- a name that stays is its own
+
+abbrev row_keeps : Dialect → Text × Text → Bool
+row_keeps d row = bytes_eq row.1 row.0 || not (is_plain (change_in d row.0))
+
+abbrev all_keep : Dialect → List (Text × Text) → Bool
+all_keep d [] = true
+all_keep d (row ∷ rows) = row_keeps d row && all_keep d rows
+
+origins_keep : (d : Dialect) (listed : Bool) → all_keep d (origins d listed) ≡ true
+unfolding core_change applicator_change assertion_change
+origins_keep Draft03 true = refl
+origins_keep Draft04 true = refl
+origins_keep Draft06 true = refl
+origins_keep Draft07 true = refl
+origins_keep Draft2019 true = refl
+origins_keep Draft2020 true = refl
+origins_keep Draft03 false = refl
+origins_keep Draft04 false = refl
+origins_keep Draft06 false = refl
+origins_keep Draft07 false = refl
+origins_keep Draft2019 false = refl
+origins_keep Draft2020 false = refl
+
+kept_by : (same plain : Bool) (old new : Text) → bytes_eq old new ≡ same → same || not plain ≡ true → plain ≡ true
+    → old ≡ new
+kept_by true plain old new is e p = is_text-sound old new is
+kept_by false true old new is e p = absurd (cc)
+kept_by false false old new is e p = absurd (cc)
+
+kept_here : (d : Dialect) (k : Text) (row : Text × Text) (rest : Option Text) (b : Bool) → bytes_eq k row.0 ≡ b
+    → row_keeps d row ≡ true → is_plain (change_in d k) ≡ true → unwrap_or rest k ≡ k
+    → unwrap_or (cond b (Some row.1) rest) k ≡ k
+kept_here d k row rest true is here plain more =
+    let same : k ≡ row.0 = is_text-sound k row.0 is in
+    kept_by (bytes_eq row.1 row.0) (is_plain (change_in d row.0)) row.1 row.0 refl here
+    (sym (ap (λ n. is_plain (change_in d n)) same) ∙ plain) ∙ sym same
+kept_here d k row rest false is here plain more = more
+
+found_kept : (d : Dialect) (k : Text) (rows : List (Text × Text)) → all_keep d rows ≡ true
+    → is_plain (change_in d k) ≡ true → unwrap_or (found rows k) k ≡ k
+found_kept d k [] e plain = refl
+found_kept d k (row ∷ rows) e plain =
+    let parts = and_parts (row_keeps d row) (all_keep d rows) e in
+    kept_here d k row (found rows k) (bytes_eq k row.0) refl parts.0 plain (found_kept d k rows parts.1 plain)
+
+plain_own : (d : Dialect) (listed : Bool) (k : Text) → is_plain (change_in d k) ≡ true → origin_by d listed k ≡ k
+plain_own d listed k plain = found_kept d k (origins d listed) (origins_keep d listed) plain
+
+-- ---- beside a reference too
+
+beside_fits : (d : Dialect) (listed : Bool) (k : Text) (change : Change) → fits d listed k change ≡ true
+    → fits d listed k (beside_reference change) ≡ true
+beside_fits d listed k Definitions e = e
+beside_fits d listed k Stays e = refl
+beside_fits d listed k Refers e = refl
+beside_fits d listed k Asserts e = refl
+beside_fits d listed k HoldsOne e = refl
+beside_fits d listed k HoldsList e = refl
+beside_fits d listed k HoldsNamed e = refl
+beside_fits d listed k Goes e = refl
+beside_fits d listed k Identifier e = refl
+beside_fits d listed k Items e = refl
+beside_fits d listed k AdditionalItems e = refl
+beside_fits d listed k Dependencies e = refl
+beside_fits d listed k Minimum e = refl
+beside_fits d listed k Maximum e = refl
+beside_fits d listed k Divisor e = refl
+beside_fits d listed k Types e = refl
+beside_fits d listed k Disallowed e = refl
+beside_fits d listed k Extended e = refl
+beside_fits d listed k Properties e = refl
+
+fits_by : (hidden : Bool) (d : Dialect) (listed : Bool) (k : Text)
+    → fits d listed k (cond hidden (beside_reference (change_in d k)) (change_in d k)) ≡ true
+fits_by true d listed k = beside_fits d listed k (change_in d k) (change_fits d listed k)
+fits_by false d listed k = change_fits d listed k
+
+pub own_fits : (d : Dialect) (siblings : Named) (listed : Bool) (k : Text)
+    → fits d listed k (change_of d siblings k) ≡ true
+own_fits d siblings listed k = fits_by (hides d siblings) d listed k
+
+plain_by : (hidden : Bool) (d : Dialect) (listed : Bool) (k : Text)
+    → is_plain (cond hidden (beside_reference (change_in d k)) (change_in d k)) ≡ true → origin_by d listed k ≡ k
+plain_by true d listed k plain = plain_own d listed k (beside_plain (change_in d k) plain).0
+plain_by false d listed k plain = plain_own d listed k plain
+
+pub stays_own : (d : Dialect) (siblings : Named) (listed : Bool) (k : Text)
+    → is_plain (change_of d siblings k) ≡ true → origin_by d listed k ≡ k
+stays_own d siblings listed k plain = plain_by (hides d siblings) d listed k plain

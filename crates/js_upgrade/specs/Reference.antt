@@ -1,0 +1,93 @@
+-- References, rewritten to where their targets stand now (draft-03, 5.28; JSON Reference, 3; draft-06 Core, 8; draft-07
+-- Core, 8.3; 2019-09 Core, 8.2.4; 2020-12 Core, 8.2.3). The URI of a reference stays; of its fragment, a pointer, each
+-- token becomes what stands in its place. A fragment that is a name stays.
+use Rattle.std.specs.Prelude.{List, [], ◌∷◌, ◌++◌, Bool, true, false, Option, Some, None, option_and_then}
+use Rattle.std.specs.Prelude.{bytes_eq, if◌then◌else◌}
+use Rattle.std.specs.Cmp.Lexicographic.{pointwise}
+use Rattle.std.specs.List.{before_first}
+use Rattle.url.specs.Parts.{Parts}
+use Rattle.js_doc.specs.Fragment.{fragment_text}
+use Rattle.js_doc.specs.Parts.{member_list}
+use Rattle.js_doc.specs.Pointer.{Tokens}
+use Rattle.js_doc.specs.Value.{Value, text, list, object, Items, no_items, item, Members, no_members, member}
+use Rattle.js_doc.specs.Value.{Text, Values, Named, items, members}
+use Rattle.js_upgrade.specs.Moved.{moved}
+use Rattle.js_upgrade.specs.Resource.{Resource, own_base, resource_named}
+use Rattle.js_upgrade.specs.Schema.{change_of, is_mark}
+use Rattle.js_upgrade.specs.Upgrade.{holding_in, own_dialect}
+use Rattle.js_upgrade.specs.Url.{fragment_pointer, joined, printed, without_fragment}
+use Rattle.js_upgrade.specs.declared.dialect.Dialect.{Dialect}
+use Rattle.js_upgrade.specs.declared.keyword.Change.{Change}
+use Rattle.js_upgrade.specs.declared.keyword.Change.TheVariants.{Refers}
+use Rattle.js_upgrade.specs.declared.holding.Holding.{Holding}
+use Rattle.js_upgrade.specs.declared.holding.Holding.TheVariants.{One, Listed, Named as ByName, OneOrListed}
+
+-- ---- the text of a reference
+
+abbrev pub same_tokens : Tokens → Tokens → Bool
+same_tokens = pointwise bytes_eq
+
+-- with this pointer as its fragment
+abbrev pub with_pointer : Text → Tokens → Text
+with_pointer t tokens = before_first is_mark t ++ (35 ∷ fragment_text tokens)
+
+-- where the target has gone; a reference whose target hasn't moved stays as it is written
+abbrev pub with_target : Text → Tokens → Option Tokens → Text
+with_target t old None = t
+with_target t old (Some new) = if same_tokens old new then t else with_pointer t new
+
+abbrev pub moved_in : Resource → Tokens → Option Tokens
+moved_in r tokens = moved One r.dialect r.root tokens
+
+abbrev pub in_resource : Text → Option Tokens → Option Resource → Text
+in_resource t (Some tokens) (Some r) = with_target t tokens (moved_in r tokens)
+in_resource t _ _ = t
+
+-- a schema under a name that is no keyword's
+abbrev pub as_it_is : Text → Value → Value → Value
+as_it_is name v w = w
+
+module _ (all : List Resource) where
+  -- the reference, joined with the base of its place
+  abbrev pub followed : Text → Option Parts → Text
+  followed t None = t
+  followed t (Some uri) =
+      in_resource t (fragment_pointer uri) (resource_named all (printed (without_fragment uri)))
+
+  abbrev pub rewritten : Parts → Value → Value
+  rewritten base (text t) = text (followed t (joined base t))
+  rewritten base v = v
+
+  -- the argument of a keyword, whose schemas have their references rewritten
+  abbrev pub argument_rewritten : Change → Parts → Value → Value → Value
+  argument_rewritten Refers base v w = rewritten base v
+  argument_rewritten _ base v w = w
+
+  -- ---- in a value that holds schemas
+
+  abbrev mutual
+    pub relocated : Holding → Dialect → Parts → Value → Value
+    relocated One d base (object ms) =
+        let own = own_dialect d (member_list ms) in
+        let below = own_base own base (member_list ms) in
+        object (members (members_relocated (holding_in own (member_list ms))
+        (λ name. argument_rewritten (change_of own (member_list ms) name) below) own below ms))
+    relocated OneOrListed d base (object ms) =
+        let own = own_dialect d (member_list ms) in
+        let below = own_base own base (member_list ms) in
+        object (members (members_relocated (holding_in own (member_list ms))
+        (λ name. argument_rewritten (change_of own (member_list ms) name) below) own below ms))
+    relocated ByName d base (object ms) = object (members (members_relocated (λ name. One) as_it_is d base ms))
+    relocated Listed d base (list vs) = list (items (items_relocated d base vs))
+    relocated OneOrListed d base (list vs) = list (items (items_relocated d base vs))
+    relocated _ d base v = v
+
+    pub items_relocated : Dialect → Parts → Items → Values
+    items_relocated d base no_items = []
+    items_relocated d base (item v vs) = relocated One d base v ∷ items_relocated d base vs
+
+    -- each under its name, as its keyword has it
+    pub members_relocated : (Text → Holding) → (Text → Value → Value → Value) → Dialect → Parts → Members → Named
+    members_relocated held argument d base no_members = []
+    members_relocated held argument d base (member name v ms) =
+        (name, argument name v (relocated (held name) d base v)) ∷ members_relocated held argument d base ms

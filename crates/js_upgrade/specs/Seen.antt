@@ -1,0 +1,13 @@
+-- What the code's documents and resources are seen as.
+use Rattle.std.specs.Prelude.{string_bytes}
+use Rattle.js_doc.specs.Seen.{value_of}
+use Rattle.js_upgrade.specs.Documents.{Source}
+use Rattle.js_upgrade.specs.Resource.{Resource}
+use Rattle.js_upgrade.specs.declared.documents.Source as rust
+use Rattle.js_upgrade.specs.declared.resources.Resource as rust_resource
+
+abbrev pub resource_of : rust_resource.Resource → Resource
+resource_of r = record { uri = string_bytes r.uri; dialect = r.dialect; root = value_of r.root }
+
+abbrev pub source_of : rust.Source → Source
+source_of s = record { uri = s.uri; assumed = s.assumed; root = value_of s.root }
