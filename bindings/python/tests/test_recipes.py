@@ -110,7 +110,7 @@ class Recipes(unittest.TestCase):
                                 GIT_AUTHOR_NAME="A", GIT_AUTHOR_EMAIL="a@example.com", GIT_COMMITTER_NAME="A",
                                 GIT_COMMITTER_EMAIL="a@example.com")
         self.write("hooks/.pre-commit-hooks.yaml", (HOME / ".pre-commit-hooks.yaml").read_text("utf-8"))
-        for words in (["init", "-q"], ["add", "-A"], ["commit", "-qm", "hooks"], ["tag", "v0.1.0"]):
+        for words in (["init", "-q"], ["add", "-A"], ["commit", "-qm", "hooks"], ["tag", "v0.2.0"]):
             self.assertEqual(self.run_words("git", *words, cwd="hooks"), ("", 0))
         config = next(it for it in blocks("yaml") if it.startswith("repos:"))
         hooks = str(self.folder / "hooks")
