@@ -179,6 +179,30 @@ size_t jschema_text(jschema *handle, uint8_t *out, size_t out_length);
 uint32_t jschema_refusal(jschema *handle, uint32_t *kind, uint32_t *subject, size_t *document, uint8_t *place,
                          size_t place_room, size_t *place_length);
 
+/* Where a value stands in a JSON text, and the name of the member that it is the value of: the offset of the first
+   byte, from 0; its line, and its column in characters, both from 1. Where there is no such value, or no name, each of
+   the three is JSCHEMA_NOWHERE. */
+typedef struct {
+    size_t offset, line, column;
+    size_t name_offset, name_line, name_column;
+} jschema_position;
+
+#define JSCHEMA_NOWHERE SIZE_MAX
+
+/* Finds the values at JSON Pointers in a JSON text, which is read once for all of them. The texts of the pointers stand
+   in `pointers` one after another: the first begins at 0, each other one where the one before it ends, and ends[i] is
+   the byte after the pointer with the number i. Its position goes into positions[i]. Of members with the same name the
+   last counts, as for jschema_check. The call takes no handle, and leaves no text.
+   JSCHEMA_DONE: also where nothing stands at a pointer.
+   JSCHEMA_MISUSED: there aren't as many positions as ends, an end is before another or beyond `pointers`, or a text is
+   no JSON Pointer in UTF-8.
+   JSCHEMA_REFUSED: the text is no JSON in UTF-8. Numbers may be any, and arrays and objects 128 deep.
+   JSCHEMA_FAILED: out of memory, or the text has 4 GiB or more.
+   After anything but JSCHEMA_DONE the positions are as before. */
+uint32_t jschema_positions(const uint8_t *text, size_t text_length, const uint8_t *pointers, size_t pointers_length,
+                           const size_t *ends, size_t ends_length,
+                           jschema_position *positions, size_t positions_length);
+
 /* Frees all that the handle holds. It is then empty, and can be freed again or used for jschema_new. */
 void jschema_free(jschema *handle);
 

@@ -76,6 +76,13 @@ uint32_t jschema_refusal(jschema *handle, uint32_t *kind, uint32_t *subject, siz
     return (void)handle, (void)place, (void)place_room, act();
 }
 
+uint32_t jschema_positions(const uint8_t *text, size_t text_length, const uint8_t *pointers, size_t pointers_length,
+                           const size_t *ends, size_t ends_length,
+                           jschema_position *positions, size_t positions_length) {
+    (void)text, (void)text_length, (void)pointers, (void)pointers_length, (void)ends, (void)ends_length;
+    return (void)positions, (void)positions_length, act();
+}
+
 void jschema_free(jschema *handle) { (void)handle, act(); }
 
 uint32_t jschema_version(void) { return act(); }

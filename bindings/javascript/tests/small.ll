@@ -128,6 +128,11 @@ start:
   ret i32 2
 }
 
+define noundef i32 @jschema_positions(ptr noundef %text, i64 noundef %text_length, ptr noundef %pointers, i64 noundef %pointers_length, ptr noundef %ends, i64 noundef %ends_length, ptr noundef %positions, i64 noundef %positions_length) #0 {
+start:
+  ret i32 2
+}
+
 define void @jschema_free(ptr noundef %handle) #0 {
 start:
   ret void

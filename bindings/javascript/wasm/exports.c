@@ -1,6 +1,7 @@
 /* What the module exports: the calls of jschema.h over those of the compiled library (proved_...), with pointers
-   and lengths of 32 bits, as the memory has them. The handle, the number that jschema_entry writes, and the document
-   and the length that jschema_refusal writes have 64 bits in each field: 16 bytes, and 8. */
+   and lengths of 32 bits, as the memory has them. The handle, the number that jschema_entry writes, the document and
+   the length that jschema_refusal writes, and what jschema_positions reads and writes have 64 bits in each field: 16
+   bytes; 8; 8 for an end and 48 for a position. */
 typedef unsigned long long usize;
 typedef unsigned int u32;
 
@@ -16,6 +17,7 @@ u32 proved_jschema_share(void *, void *);
 u32 proved_jschema_check(void *, usize, const void *, usize, u32);
 usize proved_jschema_text(void *, void *, usize);
 u32 proved_jschema_refusal(void *, void *, void *, void *, void *, usize, void *);
+u32 proved_jschema_positions(const void *, usize, const void *, usize, const void *, usize, void *, usize);
 void proved_jschema_free(void *);
 u32 proved_jschema_version(void);
 
@@ -49,6 +51,12 @@ u32 jschema_text(u32 handle, u32 out, u32 length) {
 
 u32 jschema_refusal(u32 handle, u32 kind, u32 subject, u32 document, u32 place, u32 room, u32 place_length) {
     return proved_jschema_refusal(AT(handle), AT(kind), AT(subject), AT(document), AT(place), room, AT(place_length));
+}
+
+u32 jschema_positions(u32 text, u32 text_length, u32 pointers, u32 pointers_length, u32 ends, u32 ends_length,
+                      u32 positions, u32 positions_length) {
+    return proved_jschema_positions(AT(text), text_length, AT(pointers), pointers_length, AT(ends), ends_length,
+                                    AT(positions), positions_length);
 }
 
 void jschema_free(u32 handle) { proved_jschema_free(AT(handle)); }

@@ -1,9 +1,11 @@
 """What checks the instances. `Schemas` asks an engine for everything, and knows nothing else of it."""
 from __future__ import annotations
 
-from typing import NamedTuple, Protocol
+from collections.abc import Sequence
+from typing import NamedTuple, Optional, Protocol
 
 from . import interface
+from .positions import Located
 
 #: The formats of the standard, and `merged`: `detailed` with each error once.
 FORMATS = tuple(interface.FORMATS)
@@ -36,6 +38,10 @@ class Engine(Protocol):
 
     def check(self, entry: str, instance: bytes, format: str) -> Answer:
         """The same, with the output in a format: one of `FORMATS`."""
+
+    def locate(self, text: bytes, pointers: Sequence[str]) -> Optional[Sequence[Optional[Located]]]:
+        """Where the values at JSON Pointers stand in a JSON text; None for one that isn't there. None for all where the
+        engine doesn't say."""
 
     def close(self) -> None:
         """Frees what is held. A second call does nothing."""

@@ -3,8 +3,11 @@ from __future__ import annotations
 
 import ctypes
 import ctypes.util
+import itertools
 import os
+import re
 import threading
+from collections.abc import Sequence
 from ctypes import POINTER, byref, c_bool, c_char_p, c_size_t, c_uint32, c_void_p
 from functools import lru_cache
 from pathlib import Path
@@ -13,6 +16,7 @@ from typing import Any, Callable, Optional, TypeVar, cast
 from .engine import Answer
 from .errors import EngineError, EngineNotFound, Refused
 from .interface import FORMATS, KINDS, STATUSES, SUBJECTS, VERSION
+from .positions import Located, Position
 from .stacks import on_large_stack
 
 _Result = TypeVar("_Result")
@@ -48,6 +52,15 @@ os.register_at_fork(after_in_child=_after_fork)
 
 class _Handle(ctypes.Structure):
     _fields_ = (("at", c_void_p), ("full", c_bool))
+
+
+class _Position(ctypes.Structure):
+    _fields_ = tuple((name, c_size_t) for name in (
+        "offset", "line", "column", "name_offset", "name_line", "name_column"))
+
+
+_NOWHERE = c_size_t(-1).value
+_SURROGATES = re.compile("[\ud800-\udfff]")
 
 
 def find_library() -> Optional[str]:
@@ -87,6 +100,8 @@ def _load(path: str) -> ctypes.CDLL:
                 ("text", c_size_t, (handle, c_char_p, c_size_t)),
                 ("refusal", c_uint32, (handle, POINTER(c_uint32), POINTER(c_uint32), POINTER(c_size_t), c_char_p,
                                        c_size_t, POINTER(c_size_t))),
+                ("positions", c_uint32, (c_char_p, c_size_t, c_char_p, c_size_t, POINTER(c_size_t), c_size_t,
+                                         POINTER(_Position), c_size_t)),
                 ("free", None, (handle,))):
             call = getattr(library, f"jschema_{name}")
             call.restype, call.argtypes = result, arguments
@@ -241,6 +256,9 @@ class LibraryEngine:
     def check(self, entry: str, instance: bytes, format: str) -> Answer:
         return cast(Answer, on_large_stack(self._with_handle, _Schemas.check, entry, instance, format))
 
+    def locate(self, text: bytes, pointers: Sequence[str]) -> list[Optional[Located]]:
+        return on_large_stack(_located, self._library, text, pointers)
+
     def close(self) -> None:
         on_large_stack(self._close)
 
@@ -264,6 +282,28 @@ class LibraryEngine:
         except IndexError:
             with _sharing:
                 return self._first.shared()
+
+
+def _located(library: ctypes.CDLL, text: bytes, pointers: Sequence[str]) -> list[Optional[Located]]:
+    # (What isn't Unicode stands in no text.)
+    encoded = {pointer: pointer.encode() for pointer in pointers if not _SURROGATES.search(pointer)}
+    count, joined = len(encoded), b"".join(encoded.values())
+    ends = (c_size_t * count)(*itertools.accumulate(map(len, encoded.values())))
+    positions = (_Position * count)()
+    status = library.jschema_positions(text, len(text), joined, len(joined), ends, count, positions, count)
+    if status == _FAILED:
+        raise MemoryError("failed: Memory")
+    if status != _DONE:
+        raise EngineError(f"the library answered status {status} when it was asked for positions")
+    found = dict(zip(encoded, map(_read_position, positions)))
+    return [found.get(pointer) for pointer in pointers]
+
+
+def _read_position(found: _Position) -> Optional[Located]:
+    if found.offset == _NOWHERE:
+        return None
+    name = None if found.name_offset == _NOWHERE else Position(found.name_offset, found.name_line, found.name_column)
+    return Located(Position(found.offset, found.line, found.column), name)
 
 
 def _encoded(uri: str) -> bytes:

@@ -9,7 +9,8 @@ from __future__ import annotations
 import itertools
 import re
 from bisect import bisect_right
-from typing import NamedTuple, Optional, Union
+from collections.abc import Iterable, Sequence
+from typing import Callable, NamedTuple, Optional, Union
 
 from .finder import Value, end_of_string, end_of_value, root
 from .locations import steps
@@ -28,13 +29,28 @@ class Position(NamedTuple):
     column: int
 
 
+class Located(NamedTuple):
+    """Where a value begins, and the name of the member that it is the value of."""
+
+    value: Position
+    name: Optional[Position]
+
+
+#: Finds the values at JSON Pointers in a JSON text: None for one that isn't there; None for all if it can't be asked.
+Locate = Callable[[bytes, Sequence[str]], Optional[Sequence[Optional[Located]]]]
+
+
 class Text:
     """A JSON text. With `is_json` an engine has read it as JSON before; otherwise it is scanned when a position is
-    first asked for, and only once."""
+    first asked for, and only once. `locate` finds positions in a text that is JSON: an engine's."""
 
-    def __init__(self, data: bytes, is_json: bool = False) -> None:
+    def __init__(self, data: bytes, is_json: bool = False, locate: Optional[Locate] = None) -> None:
         self.data = data
         self._is_json = is_json
+        self._locate = locate if is_json else None
+        # What was found by it, and what is to be found with the next pointer.
+        self._located: dict[str, Optional[Located]] = {}
+        self._expected: dict[str, None] = {}
         # (Made when they are needed. The lock of `functools.cached_property` would outlive a fork.)
         self._root: Optional[Value] = None
         self._line_starts: Optional[list[int]] = None
@@ -48,12 +64,20 @@ class Text:
 
         Raises `NotJson`, `LookupError` where there is none, and `ValueError` for what is no JSON Pointer.
         """
-        return self.at(self._found(pointer)[0].offset)
+        located = self._by_engine(pointer)
+        return self.at(self._found(pointer)[0].offset) if located is None else located.value
 
     def name(self, pointer: str) -> Position:
         """Where the name of the member at a JSON Pointer begins; of an item, or the root, the value."""
+        located = self._by_engine(pointer)
+        if located is not None:
+            return located.value if located.name is None else located.name
         found = self._found(pointer)[0]
         return self.at(found.offset if found.name is None else found.name)
+
+    def expect(self, pointers: Iterable[str]) -> None:
+        """Says which positions will be asked for. `locate` then finds them together."""
+        self._expected.update(dict.fromkeys(pointers))
 
     def span(self, pointer: str) -> tuple[int, int]:
         """The first byte of the value at a JSON Pointer, and the byte after it."""
@@ -77,9 +101,26 @@ class Text:
         start = self._line_starts[line - 1]
         return Position(offset, line, self._characters(offset) - self._characters(start) + 1)
 
+    def _by_engine(self, pointer: str) -> Optional[Located]:
+        """What `locate` says of a pointer; None where it can't be asked."""
+        if self._locate is None:
+            return None
+        _require_pointer(pointer)
+        if pointer not in self._located:
+            asked = [*{pointer: None, **self._expected}]
+            found = self._locate(self.data, asked)
+            if found is None:
+                self._locate = None
+                return None
+            self._located.update(zip(asked, found))
+            self._expected = {}
+        located = self._located[pointer]
+        if located is None:
+            raise LookupError(f"no value at {pointer}")
+        return located
+
     def _found(self, pointer: str) -> tuple[Value, list[str | int]]:
-        if pointer and not pointer.startswith("/") or re.search("~(?![01])", pointer):
-            raise ValueError(f"{pointer!r} isn't a JSON Pointer: it is empty or begins with /, and has ~0 for ~")
+        _require_pointer(pointer)
         if self._root is None:
             if not self._is_json:
                 scan(self.data)
@@ -101,6 +142,11 @@ class Text:
             self._characters_before = [0, *itertools.accumulate(map(_characters, blocks))]
         block = offset // _BLOCK
         return self._characters_before[block] + _characters(self.data[block * _BLOCK:offset])
+
+
+def _require_pointer(pointer: str) -> None:
+    if pointer and not pointer.startswith("/") or re.search("~(?![01])", pointer):
+        raise ValueError(f"{pointer!r} isn't a JSON Pointer: it is empty or begins with /, and has ~0 for ~")
 
 
 def _characters(data: bytes) -> int:

@@ -6,12 +6,14 @@ import shutil
 import subprocess
 import tempfile
 import weakref
+from collections.abc import Sequence
 from pathlib import Path
 from typing import TYPE_CHECKING, NoReturn, Optional
 
 from .engine import Answer
 from .errors import EngineError, EngineNotFound
 from .lines import fault_of
+from .positions import Located
 
 if TYPE_CHECKING:
     _Done = subprocess.CompletedProcess[bytes]
@@ -72,6 +74,9 @@ class ProgramEngine:
             raise EngineError(f"{self._program} wrote no verdict: it ended with status {done.returncode} "
                               f"and wrote {_beginning(done.stdout)}")
         return Answer(done.returncode == 0, done.stdout)
+
+    def locate(self, text: bytes, pointers: Sequence[str]) -> Optional[Sequence[Optional[Located]]]:
+        return None
 
     def close(self) -> None:
         self._remove()

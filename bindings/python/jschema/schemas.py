@@ -61,7 +61,7 @@ class Schemas:
         """The errors of the `basic` output, in its order; none for a valid instance."""
         text = text_of(instance)
         answer = self.check(entry, text, "basic")
-        return [] if answer.valid else errors_of(answer, Text(text, is_json=True))
+        return [] if answer.valid else errors_of(answer, self.text_of(text))
 
     def iter_errors(self, entry: str, instance: Instance) -> Iterator[ValidationError]:
         """The same, one by one."""
@@ -92,6 +92,10 @@ class Schemas:
         except Refused as refused:
             explain(refused, text, entry)
             raise
+
+    def text_of(self, instance: bytes) -> Text:
+        """A JSON text that was checked, with the engine's positions."""
+        return Text(instance, is_json=True, locate=self._open().locate)
 
     def close(self) -> None:
         """Frees what the schemas hold. Afterwards only `close` may be called."""
@@ -132,8 +136,10 @@ def _default_engine() -> Engine:
 def errors_of(answer: Answer, text: Text) -> list[ValidationError]:
     """The errors in a `basic` output of an invalid instance."""
     try:
-        return [ValidationError(unit["error"], unit["instanceLocation"], unit["keywordLocation"],
-                                unit["absoluteKeywordLocation"], text)
-                for unit in parse(answer.text)["errors"]]
+        errors = [ValidationError(unit["error"], unit["instanceLocation"], unit["keywordLocation"],
+                                  unit["absoluteKeywordLocation"], text)
+                  for unit in parse(answer.text)["errors"]]
     except (KeyError, TypeError) as error:
         raise malformed(answer.text) from error
+    text.expect(error.instance_location for error in errors)
+    return errors

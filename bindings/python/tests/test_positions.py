@@ -6,6 +6,7 @@ from unittest import mock
 
 import jschema
 from jschema import NotJson, Text, positions
+from jschema.library import find_library
 from jschema.locations import pointer
 from jschema.scanner import scan
 from jschema.sources import JsonSource
@@ -26,6 +27,15 @@ NOT_JSON = (
     b"[1,]", b'{"a":1,}', b"[,1]", b"[1 2]", b'{"a" 1}', b"{1:1}", b"[}", b"{]", b"[1]]", b"nul", b"True", b"1 1",
     b"\x0b1",
 )
+
+
+def every_text(data):
+    """A text that is scanned, one that is known to be JSON, and one whose values the library finds, where it is the
+    engine."""
+    yield Text(data)
+    yield Text(data, is_json=True)
+    if find_library() is not None:
+        yield Text(data, is_json=True, locate=jschema.LibraryEngine().locate)
 
 
 def refusal_position(data, refused):
@@ -75,10 +85,12 @@ class Positions(unittest.TestCase):
         found = list(nodes(scan(data)))
         self.assertEqual(self.leaves(value), len(found))
         # The values of a text that is known to be JSON are found too, those in the middle of it first.
-        known = Text(data, is_json=True)
-        for tokens, node in sorted(found, key=lambda it: it[1].offset % 7):
-            self.assertEqual(known.value(pointer(tokens)), text.value(pointer(tokens)))
-            self.assertEqual(known.name(pointer(tokens)), text.name(pointer(tokens)))
+        _, *known = every_text(data)
+        for other in known:
+            other.expect(pointer(tokens) for tokens, _ in found)
+            for tokens, node in sorted(found, key=lambda it: it[1].offset % 7):
+                self.assertEqual(other.value(pointer(tokens)), text.value(pointer(tokens)))
+                self.assertEqual(other.name(pointer(tokens)), text.name(pointer(tokens)))
         for tokens, node in found:
             self.judge_node(text, node, tokens, value_at(value, tokens))
 
@@ -150,10 +162,10 @@ class Positions(unittest.TestCase):
                 self.judge(data)
 
     def test_last_of_a_name_counts(self):
-        text = Text(b'{"a": 1,\n "a": [2]}')
-        self.assertEqual(text.value("/a"), (15, 2, 7))
-        self.assertEqual(text.name("/a"), (10, 2, 2))
-        self.assertEqual(text.value("/a/0"), (16, 2, 8))
+        for text in every_text(b'{"a": 1,\n "a": [2]}'):
+            self.assertEqual(text.value("/a"), (15, 2, 7))
+            self.assertEqual(text.name("/a"), (10, 2, 2))
+            self.assertEqual(text.value("/a/0"), (16, 2, 8))
 
     def test_nested(self):
         for data, accepted in ((b"[" * 127 + b"]" * 127, True), (b"[" * 128 + b"]" * 128, False), (b"[" * 10**6, False),
@@ -162,15 +174,15 @@ class Positions(unittest.TestCase):
         self.assertEqual(Text(b"[" * 127 + b"]" * 127).value("/0" * 126).column, 127)
 
     def test_long_line(self):
-        text = Text(("[" + ", ".join(['"é"'] * 20000) + "]").encode())
-        for index in (0, 1, 700, 19999):
-            self.assertEqual(text.value(f"/{index}"), (1 + 6 * index, 1, 2 + 5 * index))
+        for text in every_text(("[" + ", ".join(['"é"'] * 20000) + "]").encode()):
+            for index in (0, 1, 700, 19999):
+                self.assertEqual(text.value(f"/{index}"), (1 + 6 * index, 1, 2 + 5 * index))
 
     def test_no_such_value(self):
-        text = Text(b'{"a": [1]}')
-        for place in ("/b", "/a/1", "/a/-1", "/a/00", "/a/\u0660", "/a/0/0", "/a/-", "/a/" + "9" * 5000):
-            with self.subTest(place[:9]), self.assertRaises(LookupError):
-                text.value(place)
+        for text in every_text(b'{"a": [1], "?": 2}'):
+            for place in ("/b", "/a/1", "/a/-1", "/a/00", "/a/\u0660", "/a/0/0", "/a/-", "/a/" + "9" * 5000, "/\ud800"):
+                with self.subTest(place[:9]), self.assertRaises(LookupError):
+                    text.value(place)
 
     def test_no_characters(self):
         with self.assertRaises(NotJson) as raised:
@@ -178,21 +190,34 @@ class Positions(unittest.TestCase):
         self.assertEqual(raised.exception.offset, 2)
 
     def test_no_pointer(self):
-        text = Text(b'{"age": 1, "~2": 2, "": 3}')
-        for place in ("age", "~2", "/~2", "/age~", "/~", "#/age", " "):
-            for call in (text.value, text.name, text.path):
-                with self.subTest(place), self.assertRaisesRegex(ValueError, "isn't a JSON Pointer"):
-                    call(place)
-        self.assertEqual((text.value("/").offset, text.value("/~02").offset), (24, 17))
+        for text in every_text(b'{"age": 1, "~2": 2, "": 3}'):
+            for place in ("age", "~2", "/~2", "/age~", "/~", "#/age", " "):
+                for call in (text.value, text.name, text.path):
+                    with self.subTest(place), self.assertRaisesRegex(ValueError, "isn't a JSON Pointer"):
+                        call(place)
+            self.assertEqual((text.value("/").offset, text.value("/~02").offset), (24, 17))
 
     def test_strings(self):
         """Strings with escapes and brackets, beside and around what is asked for."""
         odd = json.dumps(['"', "\\", '\\"', "[", "}", "]{", 'a"[', "\\\\", "\n", ""])
         data = ('{"a]": %s, "b\\"[": {"c": %s, "\\\\": [%s, 7]}, "d": 8}' % (odd, odd, odd)).encode()
-        for text in (Text(data), Text(data, is_json=True)):
+        for text in every_text(data):
             self.assertEqual(text.value("/d").offset, data.index(b"8"))
             self.assertEqual(text.value('/b"[/\\/1').offset, data.index(b"7"))
             self.assertEqual(text.name('/b"[/\\').offset, data.index(b'"\\\\": ['))
+
+
+class Asked(unittest.TestCase):
+    def test_together(self):
+        """The positions of all errors come by one call of the engine."""
+        data = b'[1, {"a": 2}, [3]]'
+        with jschema.Schemas({"a:b": {"items": {"type": "array", "items": False}}}) as schemas:
+            errors = schemas.errors("a:b", data)
+            locate = mock.Mock(wraps=errors[0].text._locate)
+            errors[0].text._locate = locate
+            found = [error.position.offset for error in errors]
+        self.assertEqual(found, [1, 4, 15])
+        locate.assert_called_once()
 
 
 class WithoutAPass(unittest.TestCase):

@@ -2,3 +2,4 @@ pub mod TapeNodes
 pub mod TokenNumbers
 pub mod PositionsFound
 pub mod TokenStarts
+pub mod SpotTable

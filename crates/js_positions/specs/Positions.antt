@@ -110,3 +110,14 @@ line_and_column_past line column (x ∷ xs) =
 
 abbrev pub line_and_column_at : ℕ → List ℕ → ℕ × ℕ
 line_and_column_at offset text = line_and_column_past 1 1 (take offset text)
+
+-- ---- with lines and columns
+
+-- a byte's offset, with its line and column
+abbrev pub spot_at : List ℕ → ℕ → ℕ × (ℕ × ℕ)
+spot_at text offset = (offset, line_and_column_at offset text)
+
+-- `position`, with lines and columns
+abbrev pub spots : List ℕ → Tokens → Option ((ℕ × (ℕ × ℕ)) × Option (ℕ × (ℕ × ℕ)))
+spots text pointer =
+    option_map (λ p. (spot_at text p.0, option_map (spot_at text) p.1)) (position text pointer)

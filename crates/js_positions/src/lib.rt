@@ -2,11 +2,15 @@
 //! column of a byte.
 #![tactic(auto)]
 
+mod batch;
 mod index;
 mod lines;
 mod nodes;
 mod positions;
+mod spots;
 mod starts;
 
+pub use batch::{Spots, positions_of};
 pub use lines::line_and_column;
 pub use positions::{Position, position_of};
+pub use spots::Spot;

@@ -2,7 +2,7 @@
 ghost use Rattle.std.specs.Prelude.{◌≡◌, ◌<◌, IfOk, IfSome, IsUtf8, None, Some, length, map, option_map};
 ghost use Rattle.json.specs.Lex.{tokens};
 ghost use Rattle.json.specs.Tape.{node_token};
-ghost use Rattle.js_positions.specs.Positions.{BeginsAt, name_start, position};
+ghost use Rattle.js_positions.specs.Positions.{BeginsAt, name_start, position, token_start};
 
 use crate::nodes::placed;
 use crate::starts::token_start;
@@ -64,16 +64,26 @@ fn position_in(alloc: Global, text: &str, pointer: &Pointer) -> Result<Option<Po
     }
 }
 
-// Where the name begins that stands before the token, if one does.
 fn name_start(text: &str, nodes: &[Node<'_>], at: usize) -> Option<usize>
     requires { (map node_token nodes.now ≡ tokens text.now) × (at < length nodes.now) }
     ensures { result ≡ name_start at text.now }
+{
+    match name_token(text, nodes, at) {
+        Some(name) => Some(token_start(text.as_bytes(), name)),
+        None => None,
+    }
+}
+
+/// The number of the token before this one, if that is a name.
+pub(crate) fn name_token(text: &str, nodes: &[Node<'_>], at: usize) -> Option<usize>
+    requires { (map node_token nodes.now ≡ tokens text.now) × (at < length nodes.now) }
+    ensures { option_map (λ n. token_start n text.now) result ≡ name_start at text.now }
 {
     if at == 0 {
         return None;
     }
     match nodes[at - 1] {
-        Node::Key(_) => Some(token_start(text.as_bytes(), at - 1)),
+        Node::Key(_) => Some(at - 1),
         _ => None,
     }
 }

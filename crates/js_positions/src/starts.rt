@@ -5,9 +5,9 @@ ghost use Rattle.json.specs.Word.{is_operator, is_space as is_blank};
 ghost use Rattle.js_positions.specs.Positions.{begins, bytes_before, mode_past, token_start};
 ghost use Rattle.js_positions.specs.code.Modes.{mode_of};
 
-// What the bytes passed have led into.
+/// What the bytes passed have led into.
 #[derive(Clone, Copy, Drop)]
-enum Within {
+pub(crate) enum Within {
     Nothing,
     Word,
     Quotes,
@@ -34,8 +34,8 @@ pub(crate) fn token_start(text: &[u8], before: usize) -> usize
     at
 }
 
-// Whether the byte begins a token.
-fn begins(within: Within, byte: u8) -> bool
+/// Whether the byte begins a token.
+pub(crate) fn begins(within: Within, byte: u8) -> bool
     ensures { result ≡ begins (mode_of within) byte }
 {
     match within {
@@ -45,8 +45,8 @@ fn begins(within: Within, byte: u8) -> bool
     }
 }
 
-// What the byte leads into.
-fn past(within: Within, byte: u8) -> Within
+/// What the byte leads into.
+pub(crate) fn past(within: Within, byte: u8) -> Within
     ensures { mode_of result ≡ mode_past (mode_of within) byte }
 {
     match within {

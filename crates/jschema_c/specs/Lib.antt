@@ -5,3 +5,4 @@ pub mod Said
 pub mod Session
 pub mod Exports
 pub mod Run
+pub mod Locating

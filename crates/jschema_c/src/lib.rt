@@ -6,6 +6,7 @@ ghost use Rattle.std.specs.Prelude.{◌≡◌, ◌≢◌, None, IfSome, IsSomeAn
 ghost use Rattle.jschema_c.specs.Exports.{IsNew, OnHandle, SessionAdds, SessionFinishes, SessionLists, SessionEnters};
 ghost use Rattle.jschema_c.specs.Exports.{AnswersNumber, IsPut, SessionChecks, SessionLimits, Shares, TellsRefusal};
 ghost use Rattle.jschema_c.specs.Exports.{refusal_in, room};
+ghost use Rattle.jschema_c.specs.Locating.{Locates};
 ghost use Rattle.jschema_c.specs.Said.{copied, text_in};
 ghost use Rattle.jschema_c.specs.Status.{code};
 ghost use Rattle.jschema_c.specs.declared.status.Status.TheVariants as Status;
@@ -13,6 +14,7 @@ ghost use Rattle.jschema_c.specs.declared.status.Status.TheVariants as Status;
 mod handle;
 pub mod laws;
 mod loose;
+mod position;
 mod refusal;
 mod said;
 mod session;
@@ -20,6 +22,7 @@ pub mod sharing_laws;
 mod status;
 
 use handle::Handle;
+use position::{Position, locate};
 use said::copy_text;
 use session::Session;
 use status::Status;
@@ -205,6 +208,21 @@ pub extern "C" fn jschema_refusal(
         .tell_refusal(kind, subject, document, place, place_length);
     handle.put_back(alloc, taken);
     status.code()
+}
+
+/// Where the values at JSON Pointers stand in a JSON text. The pointers' texts stand one after another, each up to its
+/// end.
+#[unsafe(no_mangle)]
+pub extern "C" fn jschema_positions(
+    alloc: Global,
+    text: &[u8],
+    pointers: &[u8],
+    ends: &[usize],
+    positions: &mut [Position],
+) -> u32
+    ensures { AnswersNumber result (Locates text.now pointers.now ends.now positions.old positions.new) }
+{
+    locate(alloc, text, pointers, ends, positions).code()
 }
 
 /// Frees what the handle holds.

@@ -8,7 +8,7 @@ from typing import TYPE_CHECKING, NamedTuple, Optional
 from ..engine import Answer
 from ..errors import EngineError, Refused, ValidationError, best_first
 from ..extras import MissingLibrary
-from ..positions import Position, Text
+from ..positions import Position
 from ..schemas import Schemas, errors_of
 from ..sources import JsonSource, Range
 from .inputs import Input
@@ -96,7 +96,7 @@ class Checker:
 
     def _errors(self, given: Input) -> list[Problem]:
         """The errors of an invalid instance, the best first."""
-        errors = errors_of(self._check(given, "basic"), Text(given.source.json, is_json=True))
+        errors = errors_of(self._check(given, "basic"), self._schemas.text_of(given.source.json))
         return [self._problem(given, error) for error in best_first(errors)]
 
     def _problem(self, given: Input, error: ValidationError) -> Problem:

@@ -8,7 +8,6 @@ from typing import Any, NamedTuple, Optional
 from ..errors import Refused, ValidationError, best_first
 from ..lint import Finding, lint_all
 from ..locations import schema_steps
-from ..positions import Text
 from ..schemas import errors_of
 from ..sources import Source
 from .documents import Document
@@ -129,7 +128,7 @@ def _of_source(document: Document, source: Source, choice: Choice) -> Iterator[D
         return
     if answer.valid:
         return
-    errors = best_first(errors_of(answer, Text(source.json, is_json=True)))
+    errors = best_first(errors_of(answer, schemas.text_of(source.json)))
     for error in errors[:MOST]:
         is_name = _is_of_name(error)
         span = reading.place(source, error.instance_location, is_name)

@@ -11,7 +11,8 @@ use Rattle.js_positions.specs.Positions.{item_placed}
 use Rattle.js_positions.proofs.TapeNodes.{here, no_close}
 use Rattle.js_positions.proofs.TokenNumbers.{later_item, none_named, this_item}
 use Rattle.js_positions.proofs.nodes.item.Goals as goal
-use Rattle.js_positions.proofs.nodes.item.Goals.{then-at-nodes-via-then-at-nodes, then-at-nodes-via-else-at-nodes+then-is_end}
+use Rattle.js_positions.proofs.nodes.item.Goals.{then-at-nodes-via-then-at-nodes}
+use Rattle.js_positions.proofs.nodes.item.Goals.{then-at-nodes-via-else-at-nodes+then-is_end}
 
 pub returns-in_default : goal.returns-in_default
 returns-in_default c js given =
