@@ -20,11 +20,19 @@ static uint8_t said[1 << 14];
         if (status != JSCHEMA_FAILED) break;                                                                           \
     }
 
+/* Without a handle. */
+static uint32_t find_positions(void) {
+    static const size_t ends[] = {2, 4};
+    jschema_position positions[2];
+    return jschema_positions(TEXT("{\"a\": [1]}"), TEXT("/a/b"), ends, 2, positions, 2);
+}
+
 int main(void) {
     jschema handle = JSCHEMA_EMPTY, other = JSCHEMA_EMPTY;
     size_t entry = 0;
     setvbuf(stdout, printed, _IOFBF, sizeof printed);
     STEP("new", jschema_new(&handle));
+    STEP("positions", find_positions());
     STEP("refused document", jschema_add(&handle, URI, TEXT("[1, {\"a\": 0.5}]")));
     STEP("add", jschema_add(&handle, URI, TEXT(SCHEMA)));
     STEP("refused documents", jschema_finish(&handle));
