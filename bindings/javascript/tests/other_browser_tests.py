@@ -29,7 +29,7 @@ class InFirefox(unittest.TestCase):
     def test_page(self):
         server = served(GIVEN["module"])
         with tempfile.TemporaryDirectory() as folder:
-            firefox = Firefox(folder, SECONDS)
+            firefox = Firefox(folder, 5 * SECONDS)
             try:
                 self.judge(firefox, server)
             finally:
