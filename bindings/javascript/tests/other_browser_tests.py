@@ -29,7 +29,11 @@ class InFirefox(unittest.TestCase):
     def test_page(self):
         server = served(GIVEN["module"])
         with tempfile.TemporaryDirectory() as folder:
-            firefox = Firefox(folder, SECONDS)
+            try:
+                firefox = Firefox(folder, 2 * SECONDS)
+            except (TimeoutError, ConnectionError) as error:
+                ended(server)
+                self.skipTest(f"the playground in Firefox: Firefox doesn't start: {error}")
             try:
                 self.judge(firefox, server)
             finally:
