@@ -75,6 +75,8 @@ class Client:
                 raise EOFError("the server has ended")
             if fits(message):
                 return message
+            if "no validator" in message.get("params", {}).get("message", ""):
+                raise AssertionError(message["params"]["message"])
             self.kept.append(message)
 
     def response(self, number):
