@@ -192,6 +192,16 @@ def python_tables(interface):
             f"#: What each kind of refusal means.\nMEANINGS = {{\n{meanings}}}\n")
 
 
+def javascript_tables(interface):
+    """The tables of the JavaScript package."""
+    formats = ", ".join(f'"{it["name"]}"' for it in by_number(interface["format"]))
+    statuses = ", ".join(f'{it["c_name"]} = {it["number"]}' for it in by_number(interface["status"])
+                         if it["c_name"] != "MISUSED")
+    return ("/** The formats of the standard, and `merged`: `detailed` with each error once. */\n"
+            f"export const FORMATS = Object.freeze([{formats}]);\n\n"
+            f"// What a call answers (jschema.h).\nconst {statuses};\n")
+
+
 def table(head, rows):
     """A table of Markdown. A heading that begins with `-` is of numbers."""
     rule = "|".join("---:" if it.startswith("-") else "---" for it in head)
@@ -254,6 +264,7 @@ TEXTS = {
                              "refusals": c_refusals, "subjects": c_subjects},
     "bindings/python/pyproject.toml": {"version": project_version},
     "bindings/python/jschema/interface.py": {"tables": python_tables},
+    "bindings/javascript/src/engine.js": {"tables": javascript_tables},
     "README.md": {"commands": page_commands, "statuses": page_statuses},
     "docs/REFUSALS.md": {"limits": page_limits, "lines": page_lines, **{kind: page_checks(kind) for kind in
                                                  ("document", "schema", "keyword", "reference", "entry")},

@@ -1,11 +1,13 @@
 /** The WebAssembly module: what is compiled once, and its instances with their memory. */
 import { OutOfMemory, Stopped, refusalOf } from "./errors.js";
 
+// interface: tables
 /** The formats of the standard, and `merged`: `detailed` with each error once. */
 export const FORMATS = Object.freeze(["flag", "basic", "detailed", "verbose", "merged"]);
 
 // What a call answers (jschema.h).
 const DONE = 0, INVALID = 1, REFUSED = 3, FAILED = 4;
+// interface: end
 
 // A handle, and behind it the number that jschema_entry writes.
 const HANDLE = 16, NUMBER = 8;
