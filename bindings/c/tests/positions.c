@@ -18,8 +18,8 @@ static void expect_that(const char *what, int holds) {
 static void expect_positions(const char *what, const uint8_t *text, size_t length, const char *const *pointers,
                              size_t count, uint32_t status, const jschema_position *wanted) {
     jschema_position found[MOST_POINTERS], before[MOST_POINTERS];
-    size_t ends[MOST_POINTERS], end = 0;
-    char all[256];
+    size_t ends[MOST_POINTERS] = {0}, end = 0;
+    char all[256] = "";
     for (size_t i = 0; i < count; i++) {
         memcpy(all + end, pointers[i], strlen(pointers[i]));
         ends[i] = end += strlen(pointers[i]);
