@@ -49,7 +49,7 @@ static void test_positions(void) {
     expect_positions("positions", TEXT("{\"a\": 1,\n \"b/c\": [true, [\"\\u00e9\", \"\xc3\xa9\"], {\"~\": null}],\n"
                                        " \"a\": 2}"), pointers, 14, JSCHEMA_DONE, wanted);
     static const char *const escaped[] = {"/a\n", "/\xc3\xa9\"/0"};
-    static const jschema_position there[] = {{13, 1, 14, 1, 1, 2}, {30, 1, 31, NOWHERE, NOWHERE, NOWHERE}};
+    static const jschema_position there[] = {{13, 1, 14, 1, 1, 2}, {29, 1, 30, NOWHERE, NOWHERE, NOWHERE}};
     expect_positions("escapes in names", TEXT("{\"\\u0061\\n\": 0, \"\\u00e9\\\"\": [1e999]}"), escaped, 2,
                      JSCHEMA_DONE, there);
     static const char *const deep[] = {"/0/0/0"};
