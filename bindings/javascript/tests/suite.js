@@ -1,7 +1,7 @@
 /**
  * Checks that are asked for on standard input, a line of JSON each: `documents` (pairs of a URI and a text), `entry`
- * and `instances` (texts). Answers with a line: for each instance whether it is valid, or the refusal. Where there are
- * verdicts, `compile`, with ajv's words, must come to the same, or the process fails.
+ * and `instances` (texts). Answers with a line: for each instance whether it is valid, or the refusal. Where there is a
+ * verdict and `compile`, with ajv's words, comes to another, it is a refusal of the subject `compile`.
  */
 import { createInterface } from "node:readline";
 import { Refused, Schemas, compile } from "jschema";
@@ -31,24 +31,37 @@ async function answers({ documents, entry, instances }) {
   }
   const answered = instances.map((instance) => told(() => schemas.isValid(entry, instance)));
   schemas.close();
-  await compare({ documents, entry, instances }, answered);
-  return answered;
+  if (!answered.some((it) => typeof it === "boolean")) return answered;
+  try {
+    return await compared({ documents, entry, instances }, answered);
+  } catch (error) {
+    return instances.map(() => refusal({ subject: "compile", index: null, kind: String(error) }));
+  }
 }
 
-/** Asks for the same by values and in ajv's words. */
-async function compare({ documents, entry, instances }, answered) {
+/** The same, with what differs where `compile` comes to another verdict by the values. */
+async function compared({ documents, entry, instances }, answered) {
   const values = new Map(documents.map(([uri, text]) => [uri, parse(text)]));
   const schema = values.get(entry);
   values.delete(entry);
   const validate = await compile(schema, { schemas: Object.fromEntries(values) });
-  for (const [index, instance] of instances.entries()) {
-    if (typeof answered[index] !== "boolean") continue;
-    const valid = validate(parse(instance));
-    const isDescribed = valid ? validate.errors === null : validate.errors.length > 0;
-    if (valid === answered[index] && isDescribed) continue;
-    throw new Error(`compile: ${JSON.stringify(schema)} of ${instance}: ${valid}, ${JSON.stringify(validate.errors)}`);
-  }
+  const verdict = (instance) => {
+    try {
+      const valid = validate(parse(instance));
+      const isDescribed = valid ? validate.errors === null : validate.errors.length > 0;
+      return isDescribed ? valid : `${valid}, with other errors`;
+    } catch (error) {
+      return String(error);
+    }
+  };
+  const results = instances.map((instance, index) => {
+    if (typeof answered[index] !== "boolean") return answered[index];
+    const valid = verdict(instance);
+    if (valid === answered[index]) return valid;
+    return refusal({ subject: "compile", index: null, kind: JSON.stringify(valid) });
+  });
   validate.schemas.close();
+  return results;
 }
 
 for await (const line of createInterface({ input: process.stdin })) {

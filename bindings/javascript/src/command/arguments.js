@@ -3,20 +3,21 @@ import { FORMATS } from "../engine.js";
 import { Misuse } from "./files.js";
 import { writeOutput } from "./writing.js";
 
-const CHOICES = ["text", ...FORMATS, "json", "github"];
-const USAGE = "npx jschema validate --schema SCHEMA [--ref [URI=]FILE]... [--format FORMAT] [--lines] [--jobs N] " +
-  "INSTANCE...";
-const EXAMPLE = "npx jschema validate --schema person.schema.json ada.json";
+const CHOICES = ["short", ...FORMATS, "json", "github"];
+const USAGE = "npx jschema validate [--ref [URI=]FILE]... [--format FORMAT] [--lines] [--jobs N] " +
+  "(SCHEMA | --schema SCHEMA) INSTANCE...";
+const EXAMPLE = "npx jschema validate person.schema.json ada.json";
 const DESCRIPTION = `usage: ${USAGE}
 
 Validates JSON files against a JSON Schema, draft 2020-12.
 
   INSTANCE            a file; a folder, for its .json files (with --lines .jsonl and .ndjson) at any depth; or -,
                       standard input
-  --schema SCHEMA     the file of the schema; its URI is its $id if that is absolute, else its file's URL
+  --schema SCHEMA     the file of the schema (default: the first file); its URI is its $id if that is absolute, else
+                      its file's URL
   --ref [URI=]FILE    a schema document that is referred to, with the URI to register it under (default: as for the
                       schema); repeat it for each
-  --format FORMAT     text (the default): a line for each error. flag, basic, detailed, verbose or merged: the
+  --format FORMAT     short (the default): a line for each error. flag, basic, detailed, verbose or merged: the
                       validator's output, a line for each instance. json: an array with an object for each instance.
                       github: annotations in GitHub Actions
   --lines             each line of a file is an instance; empty lines don't count
@@ -42,7 +43,7 @@ export function parse(words) {
   if (words[0] !== "validate") {
     throw wrong(words.length > 0 ? `no command '${words[0]}': the only one is validate` : "name the command: validate");
   }
-  const given = { schemas: [], refs: [], format: "text", lines: false, jobs: 1, instances: [] };
+  const given = { schemas: [], refs: [], format: "short", lines: false, jobs: 1, instances: [] };
   for (let at = 1; at < words.length; at++) {
     const word = words[at];
     if (word === "-h" || word === "--help") return help();
@@ -62,12 +63,15 @@ export function parse(words) {
   return given;
 }
 
-/** Throws unless one schema is named, and at least one instance. */
+/** The first file is the schema unless one is named. Throws unless there is one, and at least one instance. */
 function checkCounts({ schemas, instances }) {
-  const missing = [...(schemas.length === 0 ? ["--schema"] : []), ...(instances.length === 0 ? ["INSTANCE"] : [])];
-  if (missing.length > 0) throw wrong(`the following arguments are required: ${missing.join(", ")}`);
   if (schemas.length > 1) {
     throw wrong(`--schema is given ${schemas.length} times: it names one file, and --ref the others`);
+  }
+  if (schemas.length === 0) schemas.push(...instances.splice(0, 1));
+  if (instances.length === 0) {
+    const missing = schemas.length === 0 ? "SCHEMA and INSTANCE" : "INSTANCE";
+    throw wrong(`the following arguments are required: ${missing}`);
   }
 }
 

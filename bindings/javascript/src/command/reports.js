@@ -140,7 +140,7 @@ class JsonReport extends Report {
 
 /** The report of a format. */
 export function reportFor(format) {
-  const others = { text: PeopleReport, github: GithubReport, json: JsonReport };
+  const others = { short: PeopleReport, github: GithubReport, json: JsonReport };
   return format in others ? new others[format]() : new Report(format);
 }
 
