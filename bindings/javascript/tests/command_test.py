@@ -67,17 +67,22 @@ class Refusals(OnThisCommand, expectations.Refusals):
 
 
 class Formats(OnThisCommand, expectations.Formats):
-    def run_command(self, *words, given=""):
-        """The same, where a report of Python's command says more in JSON: where an error ends, and its keyword's
-        place in the file."""
-        out, said, status = super().run_command(*words, given=given)
-        if "json" in words and "bob" in out:
-            report = json.loads(out)
-            self.assertEqual(report[1]["errors"][0].keys() & {"endLine", "endColumn", "schema"}, set())
-            place = {"file": "schema.json", "line": 4, "column": 27}
-            report[1]["errors"][0].update(endLine=2, endColumn=3, schema=place)
-            out = json.dumps(report)
-        return out, said, status
+    def test_json(self):
+        """Errors without what Python's report has beside: where they end, and their keywords' places in the files."""
+        out, said, status = self.run_command("validate", "--schema", "schema.json", "--format", "json",
+                                             "data/ada.json", "data/sub/bob.json", "half.json", "none.json")
+        self.assertEqual((said, status), ("", 4))
+        self.assertEqual(json.loads(out), [
+            {"file": "data/ada.json", "line": 1, "valid": True, "errors": []},
+            {"file": "data/sub/bob.json", "line": 1, "valid": False, "errors": [
+                {"line": 2, "column": 2, "error": "type is integer", "instanceLocation": "/name",
+                 "keywordLocation": "/properties/name/type", "absoluteKeywordLocation": expectations.NAME}]},
+            {"file": "half.json", "line": 1, "valid": None,
+             "refused": {"line": 2, "column": 9, "subject": "instance", "kind": "NotWhole", "place": "/age",
+                         "message": "a number with a fraction, an exponent or a minus before zero, or beyond 64 bits"}},
+            {"file": "none.json", "line": 1, "valid": None, "failed": "No such file or directory"}])
+        self.assertEqual(self.run_command("validate", "--schema", "schema.json", "--format", "json", "--lines", "-"),
+                         ("[]\n", "", 0))
 
 
 def misuses():
