@@ -214,7 +214,7 @@ fn dependences_of(alloc: Global, members: &Members) -> Result<Vec<Dependence>, K
     let mut dependences = Vec::with_capacity(alloc, members.len())?;
     for (name, needs) in members.pairs() {
         let needs = name_list(alloc, needs)?;
-        let name = Text::new(name.clone()?);
+        let name = name.copy()?;
         dependences.push(Dependence { name, needs })?;
     }
     Ok(dependences)

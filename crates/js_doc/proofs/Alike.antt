@@ -1,6 +1,6 @@
 -- Equality of documents, a part further on.
 use Rattle.std.proofs.Common.{◌≡◌, ℕ, ◌==◌, suc, ◌+◌, ◌<◌, Bool, false, ◌&&◌, List, [], ◌∷◌, length, get_or, drop}
-use Rattle.std.proofs.Common.{String, Global, string_bytes, bytes_eq, refl, sym, ap, ap₂, ◌∙◌}
+use Rattle.std.proofs.Common.{bytes_eq, refl, sym, ap, ap₂, ◌∙◌}
 use Rattle.std.proofs.lemmas.List.{drop_more}
 use Rattle.std.proofs.lemmas.Bool.{and_right}
 use Rattle.js_doc.specs.Coding.{to_text, to_items, to_members}
@@ -32,25 +32,25 @@ pub items_apart : (a b : List Doc) → (length a ≡ length b → ⊥) → false
 items_apart = apart (λ x y. same (value_of x) (value_of y)) SameItems (λ y b. refl) (λ x a. refl) (λ x y a b. refl)
 
 abbrev pub Entry : Type 0
-Entry = String Global × Doc
+Entry = List ℕ × Doc
 
 abbrev pub SameEntries : List Entry → List Entry → Bool
 SameEntries a b = same_tree (to_members (members_seen a)) (to_members (members_seen b))
 
 pub entries_apart : (a b : List Entry) → (length a ≡ length b → ⊥) → false ≡ SameEntries a b
 entries_apart =
-    apart (λ x y. same_tree (to_text (string_bytes x.0)) (to_text (string_bytes y.0))
+    apart (λ x y. same_tree (to_text x.0) (to_text y.0)
     && same (value_of x.1) (value_of y.1)) SameEntries (λ y b. refl) (λ x a. refl) (λ x y a b. refl)
 
-entries_head : (x y : Entry) (a b : List Entry) (r s : Bool) → bytes_eq (string_bytes x.0) (string_bytes y.0) ≡ r
+entries_head : (x y : Entry) (a b : List Entry) (r s : Bool) → bytes_eq x.0 y.0 ≡ r
     → same (value_of x.1) (value_of y.1) ≡ s
     → SameEntries (x ∷ a) (y ∷ b) ≡ (r && s) && SameEntries a b
 entries_head x y a b r s e f =
-    ap (λ c. c && SameEntries a b) (ap₂ (λ c d. c && d) (same_text (string_bytes x.0) (string_bytes y.0) ∙ e) f)
+    ap (λ c. c && SameEntries a b) (ap₂ (λ c d. c && d) (same_text x.0 y.0 ∙ e) f)
 
 -- the entries at i decide, or those after them
 pub entries_step : (a b : List Entry) (i : ℕ) (d e : Entry) (r s : Bool) → i < length a → i < length b
-    → bytes_eq (string_bytes (get_or a i d).0) (string_bytes (get_or b i e).0) ≡ r
+    → bytes_eq ((get_or a i d).0) ((get_or b i e).0) ≡ r
     → same (value_of (get_or a i d).1) (value_of (get_or b i e).1) ≡ s
     → SameEntries (drop i a) (drop i b) ≡ (r && s) && SameEntries (drop (i + 1) a) (drop (i + 1) b)
 entries_step a b i d e r s p q f g =

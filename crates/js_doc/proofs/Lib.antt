@@ -24,3 +24,8 @@ pub mod FiniteMaps
 pub mod Placing
 pub mod Smaller
 pub mod EachSame
+pub mod TapeNodes
+pub mod TokenNumbers
+pub mod PositionsFound
+pub mod TokenStarts
+pub mod SpotTable

@@ -1,8 +1,8 @@
 -- Where a name stands among members whose names ascend, and what is got and put there.
 use Rattle.std.proofs.Common.{◌≡◌, ℕ, ◌+◌, ◌-◌, ◌/◌, ◌<◌, ◌≤◌, suc, zero, List, [], ◌∷◌}
 use Rattle.std.proofs.Common.{◌++◌, map, length, get_or, set, insert}
-use Rattle.std.proofs.Common.{Some, None, String, Global, Ordering, Less}
-use Rattle.std.proofs.Common.{Equal, Greater, true, string_bytes, refl, sym, ap, ◌∙◌, subst, arith}
+use Rattle.std.proofs.Common.{Some, None, Ordering, Less}
+use Rattle.std.proofs.Common.{Equal, Greater, true, refl, sym, ap, ◌∙◌, subst, arith}
 use Rattle.std.proofs.lemmas.Cmp.{nat_list_cmp_total}
 use Rattle.std.specs.Cmp.{tied_itself}
 use Rattle.std.specs.Ordering.{match_ordering, ordering_reverse}
@@ -21,17 +21,17 @@ use Rattle.js_doc.proofs.Ascending.{members_ascend-put}
 use Rattle.js_doc.proofs.Shortness.{members_short-put}
 
 abbrev name_at : List Entry → ℕ → Entry → List ℕ
-name_at es i d = string_bytes (get_or es i d).0
+name_at es i d = (get_or es i d).0
 
 -- ---- names before the one at i
 
 head_below : (e : Entry) (es : List Entry) (i : ℕ) (d : Entry) → IsAscending (map pair_of (e ∷ es)) → i < length es
-    → name_cmp (string_bytes e.0) (name_at es i d) ≡ Less
+    → name_cmp e.0 (name_at es i d) ≡ Less
 head_below e [] i d s h = absurd (omega (arith, h))
 head_below e (f ∷ es) zero d s h = s.0
 head_below e (f ∷ es) (suc i) d s h =
     let more = head_below f es i d s.1 (omega (arith, h)) in
-    nat_list_cmp_total.trans (string_bytes e.0) (string_bytes f.0) (name_at es i d) s.0 more
+    nat_list_cmp_total.trans e.0 f.0 (name_at es i d) s.0 more
 
 above : (h k : List ℕ) → name_cmp h k ≡ Less → name_cmp k h ≡ Greater
 above h k e = nat_list_cmp_total.antisymm k h ∙ ap ordering_reverse e
@@ -56,8 +56,8 @@ pub last_place : (n : ℕ) → (n ≡ 0 → ⊥) → (n - 1 < n) × (n - 1 + 1 �
 last_place n some = (omega (arith, some), omega (arith, some))
 
 -- what a comparison says of an entry's name
-pub compared : (k x : List ℕ) (e : Entry) (o r : Ordering) → r ≡ name_cmp k x → x ≡ string_bytes e.0 → r ≡ o
-    → name_cmp k (string_bytes e.0) ≡ o
+pub compared : (k x : List ℕ) (e : Entry) (o r : Ordering) → r ≡ name_cmp k x → x ≡ e.0 → r ≡ o
+    → name_cmp k e.0 ≡ o
 compared k x e o r a b d = ap (name_cmp k) (sym b) ∙ sym a ∙ d
 
 same_at : (es : List Entry) (i : ℕ) (d e : Entry) → i < length es → get_or es i d ≡ get_or es i e
@@ -67,13 +67,13 @@ same_at (f ∷ es) (suc i) d e h = same_at es i d e (omega (arith, h))
 
 pub stands_at : (k : List ℕ) (es : List Entry) (i : ℕ) (e : Entry) → i < length es
     → name_cmp k (name_at es i e) ≡ Equal → StandsAt k es i
-stands_at k es i e h q = (h, λ d. ap (λ f. name_cmp k (string_bytes f.0)) (same_at es i d e h) ∙ q)
+stands_at k es i e h q = (h, λ d. ap (λ f. name_cmp k f.0) (same_at es i d e h) ∙ q)
 
 -- an entry whose name is k, wherever it was looked for
 pub named_stands : (k : List ℕ) (es : List Entry) (i : ℕ) (e : Entry) (x : List ℕ) → i < length es → e ≡ get_or es i e
-    → x ≡ string_bytes e.0 → is_text k x ≡ true → StandsAt k es i
+    → x ≡ e.0 → is_text k x ≡ true → StandsAt k es i
 named_stands k es i e x h at is named =
-    let same : name_at es i e ≡ k = ap (λ f. string_bytes f.0) (sym at) ∙ sym (is_text-sound k x named ∙ is) in
+    let same : name_at es i e ≡ k = ap (λ f. f.0) (sym at) ∙ sym (is_text-sound k x named ∙ is) in
     stands_at k es i e h (ap (name_cmp k) same ∙ tied_itself nat_list_cmp_total k)
 
 past_head : (a n : ℕ) (o : Ordering) → a ≤ n → match_ordering o 0 1 (suc a) ≤ suc n
@@ -88,7 +88,7 @@ goes_below k [] i d h e = absurd (omega (arith, h))
 goes_below k (f ∷ es) zero d h e = rw e (omega arith)
 goes_below k (f ∷ es) (suc i) d h e =
     let more = goes_below k es i d (omega (arith, h)) e in
-    past_head (rank_past k (map pair_of es)) i (name_cmp k (string_bytes f.0)) more
+    past_head (rank_past k (map pair_of es)) i (name_cmp k f.0) more
 
 -- a name that is above the one at i goes past i
 pub goes_above : (k : List ℕ) (es : List Entry) (i : ℕ) (d : Entry) → IsAscending (map pair_of es) → i < length es
@@ -99,7 +99,7 @@ goes_above k (f ∷ es) zero d s h e = rw e (omega arith)
 goes_above k (f ∷ es) (suc i) d s h e =
     let low : i < length es = omega (arith, h) in
     let more : i < rank k (map pair_of es) = goes_above k es i d s.1 low e in
-    rw (above_lower (string_bytes f.0) (name_at es i d) k (head_below f es i d s low) e) (omega (arith, more))
+    rw (above_lower f.0 (name_at es i d) k (head_below f es i d s low) e) (omega (arith, more))
 
 past_fits : (a b n : ℕ) (o : Ordering) → a ≤ b → b ≤ n
     → (match_ordering o 0 0 (suc a) ≤ match_ordering o 0 1 (suc b)) × (match_ordering o 0 1 (suc b) ≤ suc n)
@@ -113,7 +113,7 @@ ranks_fit k [] = (omega arith, omega arith)
 ranks_fit k (f ∷ es) =
     let ms = map pair_of es in
     let more = ranks_fit k es in
-    past_fits (rank k ms) (rank_past k ms) (length es) (name_cmp k (string_bytes f.0)) more.0 more.1
+    past_fits (rank k ms) (rank_past k ms) (length es) (name_cmp k f.0) more.0 more.1
 
 -- where the two ends of a search meet, the name would stand
 pub goes_between : (k : List ℕ) (es : List Entry) (low high : ℕ) → low ≤ rank k (map pair_of es)
@@ -142,7 +142,7 @@ get_at k [] i d s h e = absurd (omega (arith, h))
 get_at k (f ∷ es) zero d s h e = rw e
 get_at k (f ∷ es) (suc i) d s h e =
     let low : i < length es = omega (arith, h) in
-    rw (above_same (string_bytes f.0) (name_at es i d) k (head_below f es i d s low) e) (get_at k es i d s.1 low e)
+    rw (above_same f.0 (name_at es i d) k (head_below f es i d s low) e) (get_at k es i d s.1 low e)
 
 pub get_found : (k : List ℕ) (seen es : List Entry) (i : ℕ) (e : Entry) → seen ≡ es → IsAscending (map pair_of es)
     → StandsAt k seen i → e ≡ get_or es i e → Some (value_of e.1) ≡ get k (map pair_of es)
@@ -180,25 +180,25 @@ stands_or_goes k seen (f ∷ es) i j same s h g =
 
 -- ---- what is put
 
-pub put_at : (n : String Global) (x : Doc) (es : List Entry) (i : ℕ) (d : Entry) → IsAscending (map pair_of es)
-    → i < length es → name_cmp (string_bytes n) (name_at es i d) ≡ Equal
-    → map pair_of (set es i (n, x)) ≡ put (string_bytes n) (value_of x) (map pair_of es)
+pub put_at : (n : List ℕ) (x : Doc) (es : List Entry) (i : ℕ) (d : Entry) → IsAscending (map pair_of es)
+    → i < length es → name_cmp n (name_at es i d) ≡ Equal
+    → map pair_of (set es i (n, x)) ≡ put n (value_of x) (map pair_of es)
 put_at n x [] i d s h e = absurd (omega (arith, h))
 put_at n x (f ∷ es) zero d s h e =
-    rw e (ap (λ k. (k, value_of x) ∷ map pair_of es) (name_equal (string_bytes n) (string_bytes f.0) e))
+    rw e (ap (λ k. (k, value_of x) ∷ map pair_of es) (name_equal n f.0 e))
 put_at n x (f ∷ es) (suc i) d s h e =
     let low : i < length es = omega (arith, h) in
-    rw (above_same (string_bytes f.0) (name_at es i d) (string_bytes n) (head_below f es i d s low) e)
+    rw (above_same f.0 (name_at es i d) n (head_below f es i d s low) e)
     (ap (λ ms. pair_of f ∷ ms) (put_at n x es i d s.1 low e))
 
-abbrev PutsInto : String Global → Doc → List Entry → ℕ → Type 0
-PutsInto n x es i = map pair_of (insert es i (n, x)) ≡ put (string_bytes n) (value_of x) (map pair_of es)
+abbrev PutsInto : List ℕ → Doc → List Entry → ℕ → Type 0
+PutsInto n x es i = map pair_of (insert es i (n, x)) ≡ put n (value_of x) (map pair_of es)
 
-put_past : (n : String Global) (x : Doc) (f : Entry) (es : List Entry) (i : ℕ) (o : Ordering)
-    → name_cmp (string_bytes n) (string_bytes f.0) ≡ o
-    → match_ordering o 0 0 (suc (rank (string_bytes n) (map pair_of es))) ≡ i
-    → match_ordering o 0 1 (suc (rank_past (string_bytes n) (map pair_of es))) ≡ i
-    → ((j : ℕ) → GoesTo (string_bytes n) (map pair_of es) j → PutsInto n x es j) → PutsInto n x (f ∷ es) i
+put_past : (n : List ℕ) (x : Doc) (f : Entry) (es : List Entry) (i : ℕ) (o : Ordering)
+    → name_cmp n f.0 ≡ o
+    → match_ordering o 0 0 (suc (rank n (map pair_of es))) ≡ i
+    → match_ordering o 0 1 (suc (rank_past n (map pair_of es))) ≡ i
+    → ((j : ℕ) → GoesTo n (map pair_of es) j → PutsInto n x es j) → PutsInto n x (f ∷ es) i
 put_past n x f es zero Less e h p more = rw e
 put_past n x f es (suc i) Less e h p more = absurd (omega (arith, h))
 put_past n x f es i Equal e h p more = absurd (omega (arith, h, p))
@@ -206,41 +206,41 @@ put_past n x f es zero Greater e h p more = absurd (omega (arith, h))
 put_past n x f es (suc i) Greater e h p more =
     rw e (ap (λ ms. pair_of f ∷ ms) (more i (omega (arith, h), omega (arith, p))))
 
-pub put_into : (n : String Global) (x : Doc) (es : List Entry) (i : ℕ) → GoesTo (string_bytes n) (map pair_of es) i
+pub put_into : (n : List ℕ) (x : Doc) (es : List Entry) (i : ℕ) → GoesTo n (map pair_of es) i
     → PutsInto n x es i
 put_into n x [] zero h = refl
 put_into n x [] (suc i) h = absurd (omega (arith, h.0))
 put_into n x (f ∷ es) i h =
-    put_past n x f es i (name_cmp (string_bytes n) (string_bytes f.0)) refl h.0 h.1 (λ j g. put_into n x es j g)
+    put_past n x f es i (name_cmp n f.0) refl h.0 h.1 (λ j g. put_into n x es j g)
 
-pub put_over : (l : List ℕ) (n : String Global) (x : Doc) (seen es : List Entry) (i : ℕ) → l ≡ string_bytes n
+pub put_over : (l : List ℕ) (n : List ℕ) (x : Doc) (seen es : List Entry) (i : ℕ) → l ≡ n
     → seen ≡ es → IsAscending (map pair_of es) → StandsAt l seen i
-    → map pair_of (set es i (n, x)) ≡ put (string_bytes n) (value_of x) (map pair_of es)
+    → map pair_of (set es i (n, x)) ≡ put n (value_of x) (map pair_of es)
 put_over l n x seen es i named same s h =
-    let k = string_bytes n in
+    let k = n in
     let there : StandsAt k es i = subst (λ ys. StandsAt k ys i) same (subst (λ l. StandsAt l seen i) named h) in
     put_at n x es i (n, x) s there.0 (there.1 (n, x))
 
-pub put_new : (k : List ℕ) (n : String Global) (x : Doc) (seen es new : List Entry) (i : ℕ) → k ≡ string_bytes n
+pub put_new : (k : List ℕ) (n : List ℕ) (x : Doc) (seen es new : List Entry) (i : ℕ) → k ≡ n
     → seen ≡ es → new ≡ insert es i (n, x) → GoesTo k (map pair_of seen) i
-    → map pair_of new ≡ put (string_bytes n) (value_of x) (map pair_of es)
+    → map pair_of new ≡ put n (value_of x) (map pair_of es)
 put_new k n x seen es new i named same is h =
     let there = subst (λ l. GoesTo l (map pair_of seen) i) named h in
-    ap (map pair_of) is ∙ put_into n x es i (subst (λ ys. GoesTo (string_bytes n) (map pair_of ys) i) same there)
+    ap (map pair_of) is ∙ put_into n x es i (subst (λ ys. GoesTo n (map pair_of ys) i) same there)
 
-pub put_end : (n : String Global) (x : Doc) (es : List Entry) → IsAboveAll (string_bytes n) (map pair_of es)
-    → map pair_of (es ++ (n, x) ∷ []) ≡ put (string_bytes n) (value_of x) (map pair_of es)
+pub put_end : (n : List ℕ) (x : Doc) (es : List Entry) → IsAboveAll n (map pair_of es)
+    → map pair_of (es ++ (n, x) ∷ []) ≡ put n (value_of x) (map pair_of es)
 put_end n x [] h = refl
 put_end n x (f ∷ es) h = rw h.0 (ap (λ ms. pair_of f ∷ ms) (put_end n x es h.1))
 
 -- what was put is as lawful as what stood there
-pub lawful_put : (n : String Global) (x : Doc) (es new : List Entry)
-    → map pair_of new ≡ put (string_bytes n) (value_of x) (map pair_of es) → IsLawful (object (members_seen es))
+pub lawful_put : (n : List ℕ) (x : Doc) (es new : List Entry)
+    → map pair_of new ≡ put n (value_of x) (map pair_of es) → IsLawful (object (members_seen es))
     → IsLawful (value_of x)
     → IsLawful (object (members_seen new))
 lawful_put n x es new is all one =
     let ms = map pair_of es in
-    let k = string_bytes n in (
+    let k = n in (
       subst (λ ns. NamesAscendInMembers (members ns)) (sym is) (members_ascend-put k (value_of x) ms all.0 one.0),
       subst (λ ns. AreShortMembers (members ns)) (sym is) (members_short-put k (value_of x) ms all.1 one.1),
     )

@@ -1,7 +1,7 @@
 -- What stands in a value nests less deep than it does: for a recursion down a value in another crate, whose
 -- measure is `depth (value_of doc)`.
 use Rattle.std.proofs.Common.{◌≡◌, ℕ, ◌<◌, ◌≤◌, zero, suc, map, List, [], ◌∷◌, ◌++◌, length}
-use Rattle.std.proofs.Common.{get_or, String, Global, subst, sym, ap, ◌∙◌, arith}
+use Rattle.std.proofs.Common.{get_or, subst, sym, ap, ◌∙◌, arith}
 use Rattle.js_doc.specs.Value.{Values, Named, items, members, list, object}
 use Rattle.js_doc.specs.Nesting.{depth, values_depth, named_depth, items_depth, members_depth}
 use Rattle.js_doc.specs.Seen.{value_of, pair_of, items_seen, members_seen}
@@ -22,14 +22,14 @@ item_smaller ds vs i x d seen low at =
     subst (λ y. depth (value_of y) ≤ values_depth vs) at (subst
     (λ ws. depth (value_of (get_or ds i d)) ≤ values_depth ws) seen (item_le ds i d low)) in omega (arith, le)
 
-member_le : (done : List (String Global × Doc)) (e : String Global × Doc) (more : List (String Global × Doc))
+member_le : (done : List (List ℕ × Doc)) (e : List ℕ × Doc) (more : List (List ℕ × Doc))
     → depth (value_of e.1) ≤ members_depth (members_seen (done ++ e ∷ more))
 member_le [] e more = omega arith
 member_le (x ∷ done) e more = omega (arith, member_le done e more)
 
 -- a pair among those that `pairs` gives, of an object that is seen as these members
-pub member_smaller : (es done : List (String Global × Doc)) (e : String Global
-    × Doc) (more : List (String Global × Doc)) (ms : Named) → map pair_of es ≡ ms → es ≡ done ++ e ∷ more
+pub member_smaller : (es done : List (List ℕ × Doc)) (e : List ℕ
+    × Doc) (more : List (List ℕ × Doc)) (ms : Named) → map pair_of es ≡ ms → es ≡ done ++ e ∷ more
     → depth (value_of e.1) < depth (object (members ms))
 member_smaller es done e more ms seen split =
     let le : depth (value_of e.1) ≤ named_depth ms = subst (λ ns. depth (value_of e.1) ≤ named_depth ns)

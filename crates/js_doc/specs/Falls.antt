@@ -1,5 +1,5 @@
 -- What stands in a document nests less deep than the document.
-use Rattle.std.specs.Prelude.{ℕ, ◌≤◌, max, List, [], ◌∷◌, map, String}
+use Rattle.std.specs.Prelude.{ℕ, ◌≤◌, max, List, [], ◌∷◌, map}
 use Rattle.std.proofs.Common.{arith}
 use Rattle.std.specs.declared.alloc.Global.{Global}
 use denote.Param.Weighed.{most}
@@ -22,8 +22,8 @@ pub items_fall : (ds : List Doc) → max (most deep-Doc ds) 0 ≤ values_depth (
 items_fall [] = omega arith
 items_fall (d ∷ ds) = omega (arith, deep_le-depth d, items_fall ds)
 
-pairs_fall : (w : String Global × Doc → ℕ) → ((m : String Global × Doc) → w m ≤ depth (value_of m.1))
-    → (ms : List (String Global × Doc)) → max (most w ms) 0 ≤ named_depth (map pair_of ms)
+pairs_fall : (w : List ℕ × Doc → ℕ) → ((m : List ℕ × Doc) → w m ≤ depth (value_of m.1))
+    → (ms : List (List ℕ × Doc)) → max (most w ms) 0 ≤ named_depth (map pair_of ms)
 pairs_fall w h [] = omega arith
 pairs_fall w h (m ∷ ms) = omega (arith, h m, pairs_fall w h ms)
 

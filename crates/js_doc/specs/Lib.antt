@@ -21,4 +21,6 @@ pub mod BytesOut
 pub mod Escapes
 pub mod WholeNumbers
 pub mod Reading
+pub mod Positions
+pub mod Spots
 pub mod code

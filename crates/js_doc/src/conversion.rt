@@ -63,7 +63,7 @@ fn convert_members(alloc: Global, map: Map<String, Value>) -> Result<Members, Re
     let mut members = Members::with_capacity(alloc, map.len())?;
     for (name, value) in map {
         match convert(alloc, value) {
-            Ok(doc) => members.push(name, doc)?,
+            Ok(doc) => members.push(Text::new(name), doc)?,
             Err(fault) => return Err(fault.lifted(Text::new(name))),
         }
     }

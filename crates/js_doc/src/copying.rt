@@ -5,6 +5,7 @@ use crate::doc::Doc;
 use crate::items::Items;
 use crate::members::Members;
 use crate::memory::Memory;
+use crate::string::Text;
 use std::alloc::Global;
 
 impl Doc {
@@ -49,12 +50,12 @@ fn copy_items(alloc: Global, docs: &[Doc]) -> Result<Vec<Doc>, Memory>
 }
 
 #[cycle(copy)]
-fn copy_entries(alloc: Global, entries: &[(String, Doc)]) -> Result<Vec<(String, Doc)>, Memory>
+fn copy_entries(alloc: Global, entries: &[(Text, Doc)]) -> Result<Vec<(Text, Doc)>, Memory>
     ensures { IfOk result (λ v. map pair_of v.items ≡ map pair_of entries.now) }
 {
     let mut copies = Vec::with_capacity(alloc, entries.len())?;
     for (name, doc) in entries {
-        let name = name.clone()?;
+        let name = name.copy()?;
         copies.push_reserved((name, copy_doc(alloc, doc)?));
     }
     Ok(copies)

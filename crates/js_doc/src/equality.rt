@@ -5,6 +5,7 @@ ghost use Rattle.js_doc.specs.Equality.{same, same_tree};
 ghost use Rattle.js_doc.specs.Seen.{value_of, items_seen, members_seen};
 
 use crate::doc::Doc;
+use crate::string::Text;
 
 impl PartialEq for Doc {
     ghost use Rattle.js_doc.specs.Equality.{same, same-equivalence};
@@ -65,7 +66,7 @@ fn equal_items(a: &[Doc], b: &[Doc]) -> bool
 }
 
 #[cycle(equal)]
-fn equal_entries(a: &[(String, Doc)], b: &[(String, Doc)]) -> bool
+fn equal_entries(a: &[(Text, Doc)], b: &[(Text, Doc)]) -> bool
     ensures { result ≡ same_tree (to_members (members_seen a.now)) (to_members (members_seen b.now)) }
 {
     if a.len() != b.len() {

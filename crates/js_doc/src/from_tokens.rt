@@ -60,8 +60,8 @@ fn next_value(alloc: Global, reader: &mut Reader<'_>, depth: usize) -> Result<Op
     };
     match token {
         Token::String(text) => {
-            let text = String::from_str(alloc, text)?;
-            Ok(Some(Doc::Text(Text::new(text))))
+            let text = Text::from_str(alloc, text)?;
+            Ok(Some(Doc::Text(text)))
         }
         Token::Number(text) => Ok(whole_of(text)),
         Token::Bool(b) => Ok(Some(Doc::Truth(b))),
@@ -128,7 +128,7 @@ fn next_members(
                 if MOST_MOVED < found.len() && !found.goes_last(name) {
                     return Ok(None);
                 }
-                let name = String::from_str(alloc, name)?;
+                let name = Text::from_str(alloc, name)?;
                 let Some(doc) = next_value(alloc, reader, depth)? else {
                     return Ok(None);
                 };

@@ -1,4 +1,5 @@
-//! JSON values whose numbers are whole, read from bytes and written to text, and JSON Pointers.
+//! JSON values whose numbers are integers in plain digits, read from bytes and written to text; JSON Pointers, and where
+//! in a text the values at pointers stand.
 #![tactic(auto)]
 
 mod bytes_out;
@@ -19,6 +20,7 @@ mod pairs;
 mod places;
 mod pointer;
 mod pointer_reading;
+mod positions;
 mod printing;
 mod quoting;
 mod reading;
@@ -36,6 +38,7 @@ pub use names::name_order;
 pub use pairs::Pairs;
 pub use pointer::Pointer;
 pub use pointer_reading::PointerFault;
+pub use positions::{Position, Spot, Spots, line_and_column, position_of, positions_of};
 pub use printing::{put_number, put_text, text};
 pub use quoting::{push_string, put_escaped, put_quoted, put_string};
 pub use reading::{ReadFault, from_value, read};

@@ -75,7 +75,7 @@ fn item<'a>(docs: &'a [Doc], token: &str) -> Option<&'a Doc>
 }
 
 // The index that the token is in plain decimals.
-fn index(token: &str) -> Option<usize>
+pub(crate) fn index(token: &str) -> Option<usize>
     ensures some { IfSome result (λ n. token.now ≡ decimal n) }
     ensures none { result ≡ None → (n : ℕ) → n < 2 ^ 64 → ¬ (token.now ≡ decimal n) }
 {

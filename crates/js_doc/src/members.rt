@@ -1,4 +1,4 @@
-ghost use Rattle.std.specs.Prelude.{◌≡◌, ◌↔◌, [], IsTrue, length, map, slice_get, string_bytes};
+ghost use Rattle.std.specs.Prelude.{◌≡◌, ◌↔◌, [], IsTrue, length, map, slice_get};
 ghost use Rattle.std.specs.Prelude.{option_map, IfOk, OnOk, OnErr};
 ghost use Rattle.js_doc.specs.Members.{IsAscending, get, put};
 ghost use Rattle.js_doc.specs.code.Places.{GoesTo, IsAboveAll};
@@ -7,6 +7,7 @@ use crate::doc::Doc;
 use crate::memory::Memory;
 use crate::pairs::Pairs;
 use crate::places::{place, search};
+use crate::string::Text;
 use std::alloc::Global;
 use std::marker::Model;
 use std::mem;
@@ -15,7 +16,7 @@ use std::mem;
 #[cycle(doc)]
 #[derive(Debug)]
 pub struct Members {
-    pub(crate) entries: Vec<(String, Doc)>,
+    pub(crate) entries: Vec<(Text, Doc)>,
 }
 
 // By hand, so that it is proved here alone, and crates that own members call it.
@@ -136,8 +137,8 @@ impl Members {
     ///
     /// # Errors
     /// `Memory`; then the members are as they were.
-    pub fn put(&mut self, name: String, doc: Doc) -> Result<(), Memory>
-        ensures ok { OnOk result (self.new ≡ put (string_bytes name) (value_of doc) self.old) }
+    pub fn put(&mut self, name: Text, doc: Doc) -> Result<(), Memory>
+        ensures ok { OnOk result (self.new ≡ put name (value_of doc) self.old) }
         ensures err { OnErr result (self.new ≡ self.old) }
     {
         doc.lawful();
@@ -153,9 +154,9 @@ impl Members {
     ///
     /// # Errors
     /// `Memory`; then the members are as they were.
-    pub(crate) fn push(&mut self, name: String, value: Doc) -> Result<(), Memory>
-        requires { IsAboveAll (string_bytes name) self.old }
-        ensures ok { OnOk result (self.new ≡ put (string_bytes name) (value_of value) self.old) }
+    pub(crate) fn push(&mut self, name: Text, value: Doc) -> Result<(), Memory>
+        requires { IsAboveAll name self.old }
+        ensures ok { OnOk result (self.new ≡ put name (value_of value) self.old) }
         ensures err { OnErr result (self.new ≡ self.old) }
     {
         value.lawful();

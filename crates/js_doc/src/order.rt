@@ -7,6 +7,7 @@ ghost use Rattle.js_doc.specs.Value.{whole};
 ghost use Rattle.js_doc.specs.code.Kinds.{kind_rank};
 
 use crate::doc::Doc;
+use crate::string::Text;
 use std::cmp::Ordering;
 
 impl Ord for Doc {
@@ -116,7 +117,7 @@ fn compare_items(a: &[Doc], b: &[Doc]) -> Ordering
 }
 
 #[cycle(compare)]
-fn compare_entries(a: &[(String, Doc)], b: &[(String, Doc)]) -> Ordering
+fn compare_entries(a: &[(Text, Doc)], b: &[(Text, Doc)]) -> Ordering
     ensures { result ≡ tree_order (to_members (members_seen a.now)) (to_members (members_seen b.now)) }
 {
     for i in 0..a.len().min(b.len()) {

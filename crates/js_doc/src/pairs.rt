@@ -4,6 +4,7 @@ ghost use Rattle.std.specs.Iterator.{at_most};
 ghost use Rattle.std.specs.Map.Iter.{TakesFirst, deref_pair};
 
 use crate::doc::Doc;
+use crate::string::Text;
 use std::alloc::AllocError;
 use std::iter::FusedIterator;
 use std::marker::Model;
@@ -12,16 +13,15 @@ use std::slice;
 /// The members of an object that are left, by name ascending.
 #[derive(Drop)]
 pub struct Pairs<'a> {
-    rest: slice::Iter<'a, (String, Doc)>,
+    rest: slice::Iter<'a, (Text, Doc)>,
 }
 
 impl<'a> Model for Pairs<'a> {
-    ghost use Rattle.std.specs.Prelude.{List, String};
+    ghost use Rattle.std.specs.Prelude.{List, ℕ};
     ghost use Rattle.std.specs.Slice.Iter.{iter_rest};
-    ghost use Rattle.std.specs.declared.alloc.Global.{Global};
     ghost use Rattle.js_doc.specs.declared.doc.Doc.{Doc};
 
-    ghost Value = { List (String Global × Doc) };
+    ghost Value = { List (List ℕ × Doc) };
 
     ghost use Rattle.std.specs.Coded.{codes};
     ghost use Rattle.js_doc.specs.Coding.{value_code};
@@ -32,7 +32,7 @@ impl<'a> Model for Pairs<'a> {
 }
 
 impl<'a> Pairs<'a> {
-    pub(crate) fn new(entries: &'a [(String, Doc)]) -> Pairs<'a>
+    pub(crate) fn new(entries: &'a [(Text, Doc)]) -> Pairs<'a>
         ensures { result ≡ entries.now }
     {
         Pairs {
@@ -42,14 +42,14 @@ impl<'a> Pairs<'a> {
 }
 
 impl<'a> Iterator for Pairs<'a> {
-    type Item = (&'a String, &'a Doc);
+    type Item = (&'a Text, &'a Doc);
 
     ghost next_gives = { TakesFirst deref_pair };
 
     ghost remaining = { λ s. at_most (length s) };
 
     #[inline]
-    fn next(&mut self) -> Option<(&'a String, &'a Doc)> {
+    fn next(&mut self) -> Option<(&'a Text, &'a Doc)> {
         let (name, doc) = self.rest.next()?;
         Some((name, doc))
     }

@@ -6,10 +6,11 @@ ghost use Rattle.js_doc.specs.code.Places.{StandsAt, GoesTo};
 
 use crate::doc::Doc;
 use crate::names::name_order;
+use crate::string::Text;
 use std::cmp::Ordering;
 
 // The rank of the name's member, or the rank that it would have.
-pub(crate) fn search(entries: &[(String, Doc)], name: &str) -> Result<usize, usize>
+pub(crate) fn search(entries: &[(Text, Doc)], name: &str) -> Result<usize, usize>
     requires { IsAscending (map pair_of entries.now) }
     ensures ok { IfOk result (StandsAt name.now entries.now) }
     ensures err { IfErr result (GoesTo name.now (map pair_of entries.now)) }
@@ -28,7 +29,7 @@ pub(crate) fn search(entries: &[(String, Doc)], name: &str) -> Result<usize, usi
 }
 
 // The same, at once for a name that is above all others.
-pub(crate) fn place(entries: &[(String, Doc)], name: &str) -> Result<usize, usize>
+pub(crate) fn place(entries: &[(Text, Doc)], name: &str) -> Result<usize, usize>
     requires { IsAscending (map pair_of entries.now) }
     ensures ok { IfOk result (StandsAt name.now entries.now) }
     ensures err { IfErr result (GoesTo name.now (map pair_of entries.now)) }

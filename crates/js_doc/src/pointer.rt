@@ -55,7 +55,7 @@ impl Pointer {
         ensures ok { OnOk result (self.new ≡ self.old ++ token ∷ []) }
         ensures err { OnErr result (self.new ≡ self.old) }
     {
-        self.push_made(Token::from_string(token.into_string())?)
+        self.push(token.as_str())
     }
 
     fn push_made(&mut self, token: Token) -> Result<(), Memory>
@@ -71,7 +71,7 @@ impl Pointer {
         ensures ok { OnOk result (self.new ≡ token ∷ self.old) }
         ensures err { OnErr result (self.new ≡ self.old) }
     {
-        let token = Token::from_string(token.into_string())?;
+        let token = Token::new(*self.tokens.allocator(), token.as_str())?;
         self.tokens.insert(0, token)?;
         Ok(())
     }

@@ -10,6 +10,7 @@ use crate::bytes_out::{Out, Stopped};
 use crate::doc::Doc;
 use crate::memory::Memory;
 use crate::quoting::put_string;
+use crate::string::Text;
 use crate::whole::Whole;
 use std::alloc::Global;
 
@@ -71,7 +72,7 @@ fn put_items<O: Out>(docs: &[Doc], out: &mut O) -> Result<(), Stopped>
 }
 
 #[cycle(put_text)]
-fn put_members<O: Out>(entries: &[(String, Doc)], out: &mut O) -> Result<(), Stopped>
+fn put_members<O: Out>(entries: &[(Text, Doc)], out: &mut O) -> Result<(), Stopped>
     ensures { Puts (O.progress out.old) (O.progress out.new) (compact (object (members_seen entries.now))) result }
 {
     out.put(b"{")?;

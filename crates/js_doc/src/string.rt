@@ -3,27 +3,37 @@ ghost use Rattle.std.specs.Cmp.{partial_equiv_from_equiv};
 ghost use Rattle.std.specs.Cmp.Lexicographic.{pointwise, nat_list_eq_equiv};
 
 use crate::memory::Memory;
+use arrayvec::ArrayString;
+use std::alloc::Global;
 use std::marker::Model;
 
 /// A text. Contracts see it as the bytes of its UTF-8, which determine its code points.
 #[derive(Debug)]
 pub struct Text {
-    text: String,
+    kept: Kept,
+}
+
+/// Where a text's bytes are: in place where they are few.
+#[derive(Debug, Drop)]
+enum Kept {
+    Short(ArrayString<16>),
+    Long(String),
 }
 
 // By hand, so that it is proved here alone, and crates that own texts call it.
 impl Drop for Text {
     fn drop(self) {
-        let Text { text: _ } = self;
+        let Text { kept: _ } = self;
     }
 }
 
 impl Model for Text {
-    ghost use Rattle.std.specs.Prelude.{ℕ, List, string_bytes};
+    ghost use Rattle.std.specs.Prelude.{ℕ, List};
+    ghost use Rattle.js_doc.specs.code.Kept.{kept_bytes};
 
     ghost Value = { List ℕ };
 
-    ghost view = { λ t. string_bytes t.text };
+    ghost view = { λ t. kept_bytes t.kept };
 }
 
 impl Text {
@@ -31,14 +41,36 @@ impl Text {
     pub fn new(text: String) -> Text
         ensures { result ≡ string_bytes text }
     {
-        Text { text }
+        Text {
+            kept: Kept::Long(text),
+        }
+    }
+
+    /// A copy of the text, in place where it is short.
+    ///
+    /// # Errors
+    /// `Memory`.
+    pub fn from_str(alloc: Global, text: &str) -> Result<Text, Memory>
+        ensures { IfOk result (λ t. t ≡ text.now) }
+    {
+        if text.len() <= 16 {
+            let mut short = ArrayString::new();
+            short.push_str(text);
+            return Ok(Text {
+                kept: Kept::Short(short),
+            });
+        }
+        Ok(Text::new(String::from_str(alloc, text)?))
     }
 
     /// The text, lent.
     pub fn as_str(&self) -> &str
         ensures { result.now ≡ self.now }
     {
-        self.text.as_str()
+        match &self.kept {
+            Kept::Short(short) => short.as_str(),
+            Kept::Long(string) => string.as_str(),
+        }
     }
 
     /// A copy that shares no memory with the text.
@@ -48,16 +80,15 @@ impl Text {
     pub fn copy(&self) -> Result<Text, Memory>
         ensures { IfOk result (λ t. t ≡ self.now) }
     {
-        let text = self.text.clone()?;
-        Ok(Text::new(text))
-    }
-
-    /// The string that the text was made from.
-    pub fn into_string(self) -> String
-        ensures { string_bytes result ≡ self }
-    {
-        let Text { text: string } = self;
-        string
+        match &self.kept {
+            Kept::Short(short) => Ok(Text {
+                kept: Kept::Short(*short),
+            }),
+            Kept::Long(string) => {
+                let string = string.clone()?;
+                Ok(Text::new(string))
+            }
+        }
     }
 }
 

@@ -6,20 +6,27 @@ use std::marker::Model;
 /// A whole number from -2^63 to 2^64 - 1: the numbers of this profile.
 #[derive(Clone, Copy, Debug, Drop)]
 pub struct Whole {
-    value: i128,
+    // Of a number below 0, -1 less the number.
+    bits: u64,
+    is_below: bool,
 }
 
 impl Model for Whole {
     ghost use Rattle.std.specs.Prelude.{ℤ};
-    ghost use Rattle.js_doc.specs.Whole.{IsWhole};
+    ghost use Rattle.js_doc.specs.Whole.{IsWhole, signed, bits_of, sign_of, bits_back, sign_back};
 
     ghost Value = { ℤ };
 
-    ghost view = { λ w. w.value };
+    ghost view = { λ w. signed w.is_below w.bits };
 
-    ghost invariant = { λ w. IsWhole w.value };
+    ghost invariant = { λ w. IsWhole (signed w.is_below w.bits) };
 
-    ghost inverse = { λ z. record { value = z } };
+    ghost inverse = { λ z. record { bits = bits_of z; is_below = sign_of z } };
+
+    ghost inverse_ok = { λ w h i. record {
+      bits = bits_back w.is_below w.bits i;
+      is_below = sign_back w.is_below w.bits i;
+    } };
 }
 
 impl Whole {
@@ -28,7 +35,14 @@ impl Whole {
         ensures { MatchOption result (¬ IsWhole value) (λ w. IsWhole value × (w ≡ value)) }
     {
         if -(1 << 63) <= value && value < 1 << 64 {
-            Some(Whole { value })
+            Some(if value < 0 {
+                Whole {
+                    bits: (-1 - value) as u64,
+                    is_below: true,
+                }
+            } else {
+                Whole::from_u64(value as u64)
+            })
         } else {
             None
         }
@@ -39,7 +53,8 @@ impl Whole {
         ensures { result ≡ pos unsigned }
     {
         Whole {
-            value: unsigned as i128,
+            bits: unsigned,
+            is_below: false,
         }
     }
 
@@ -47,8 +62,13 @@ impl Whole {
     pub fn from_i64(signed: i64) -> Whole
         ensures { result ≡ signed }
     {
-        Whole {
-            value: signed as i128,
+        if signed < 0 {
+            Whole {
+                bits: (-1 - signed) as u64,
+                is_below: true,
+            }
+        } else {
+            Whole::from_u64(signed as u64)
         }
     }
 
@@ -57,6 +77,10 @@ impl Whole {
         ensures same { result ≡ self }
         ensures range { IsWhole result }
     {
-        self.value
+        if self.is_below {
+            -1 - self.bits as i128
+        } else {
+            self.bits as i128
+        }
     }
 }

@@ -61,16 +61,16 @@ pass_member n m ns ms e a =
     cc
 
 -- so the first name may be passed over, or the first member, by the order that was found
-pub name_passed : (n m : String Global
-    × Doc) (ns ms : List (String Global × Doc)) (whole : Named) (a b : List ℕ) (o : Ordering)
+pub name_passed : (n m : List ℕ
+    × Doc) (ns ms : List (List ℕ × Doc)) (whole : Named) (a b : List ℕ) (o : Ordering)
     → o ≡ name_cmp a b → a ≡ (pair_of n).0 → b ≡ (pair_of m).0 → o ≡ Less → IsAscending (map pair_of (m ∷ ms))
     → names_left (map pair_of (m ∷ ms)) (n ∷ ns) ≡ whole → names_left (map pair_of (m ∷ ms)) ns ≡ whole
 name_passed n m ns ms whole a b o found first second less ascend same =
     let e : name_cmp (pair_of n).0 (pair_of m).0 ≡ Less = sym (found ∙ ap₂ name_cmp first second) ∙ less in
     sym (pass_name (pair_of n) (pair_of m) (map pair_of ns) (map pair_of ms) e ascend) ∙ same
 
-pub member_passed : (n m : String Global
-    × Doc) (ns ms : List (String Global × Doc)) (whole : Named) (a b : List ℕ) (o : Ordering)
+pub member_passed : (n m : List ℕ
+    × Doc) (ns ms : List (List ℕ × Doc)) (whole : Named) (a b : List ℕ) (o : Ordering)
     → o ≡ name_cmp a b → a ≡ (pair_of n).0 → b ≡ (pair_of m).0 → o ≡ Greater → IsAscending (map pair_of (n ∷ ns))
     → names_left (map pair_of (m ∷ ms)) (n ∷ ns) ≡ whole → names_left (map pair_of ms) (n ∷ ns) ≡ whole
 member_passed n m ns ms whole a b o found first second greater ascend same =

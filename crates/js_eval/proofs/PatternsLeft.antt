@@ -16,14 +16,14 @@ use Rattle.js_eval.specs.declared.searching.searchers.NamedPattern.{NamedPattern
 module _ (documents : Documents) where
   -- the present pattern's schema is applied to one member more
   present_more : (o : Option NamedPattern) (p : NamedPattern) (place : ℕ) (name : Text)
-      (left left' : List (String Global × Doc)) (m : List ℕ × Value)
+      (left left' : List (List ℕ × Doc)) (m : List ℕ × Value)
       → o ≡ Some p → filter (λ m. matches p.text.now m.0) (map pair_of left)
       ≡ m ∷ filter (λ m. matches p.text.now m.0) (map pair_of left')
       → present_asked documents o place name left
       ≡ on_matched_member documents place name m ∷ present_asked documents o place name left'
   present_more o p place name left left' m e f = rw e (ap (map (on_matched_member documents place name)) f)
 
-  pub found_in : (c : PatternCursor) (p : NamedPattern) (left' : List (String Global × Doc)) (m : List ℕ × Value)
+  pub found_in : (c : PatternCursor) (p : NamedPattern) (left' : List (List ℕ × Doc)) (m : List ℕ × Value)
       → c.present ≡ Some p → filter (λ m. matches p.text.now m.0) (map pair_of c.left)
       ≡ m ∷ filter (λ m. matches p.text.now m.0) (map pair_of left')
       → patterns_asked documents c
@@ -34,7 +34,7 @@ module _ (documents : Documents) where
 
   -- it is applied to none any more
   present_none : (o : Option NamedPattern) (p : NamedPattern) (place : ℕ) (name : Text)
-      (left : List (String Global × Doc))
+      (left : List (List ℕ × Doc))
       → o ≡ Some p → filter (λ m. matches p.text.now m.0) (map pair_of left) ≡ []
       → present_asked documents o place name left ≡ []
   present_none o p place name left e f = rw e (ap (map (on_matched_member documents place name)) f)
@@ -46,12 +46,12 @@ module _ (documents : Documents) where
       (present_none c.present p c.below c.name.now c.left e f)
 
   -- a pattern is begun
-  pub begun_asks : (c d : PatternCursor) (e : String Global
-      × Doc) (rest : List (String Global × Doc)) (name : Text) (p : NamedPattern)
-      → string_bytes e.0 ≡ name → IsBegun documents name p (record c { patterns = rest }) d
+  pub begun_asks : (c d : PatternCursor) (e : List ℕ
+      × Doc) (rest : List (List ℕ × Doc)) (name : Text) (p : NamedPattern)
+      → e.0 ≡ name → IsBegun documents name p (record c { patterns = rest }) d
       → coming_asked documents c (e ∷ rest) ≡ patterns_asked documents d
   begun_asks c d e rest name p n b =
-      let first : matching_asked documents (numbered_site documents c.place) c.keyword.now (string_bytes e.0)
+      let first : matching_asked documents (numbered_site documents c.place) c.keyword.now (e.0)
       c.members.now ≡ present_asked documents d.present d.below d.name.now d.left =
       ap (λ x. matching_asked documents (numbered_site documents c.place) c.keyword.now x
       c.members.now) n ∙ sym b.asks in

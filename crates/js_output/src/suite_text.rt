@@ -130,7 +130,7 @@ fn text_member(alloc: Global, value: &Value, name: &str) -> Result<Text, Fault>
     ensures err { IfErr result (IsMisfit (member_in as_str name.now (view value.now))) }
 {
     match value.get(name).and_then(Value::as_str) {
-        Some(text) => Ok(Text::new(String::from_str(alloc, text)?)),
+        Some(text) => Ok(Text::from_str(alloc, text)?),
         None => Err(missing(alloc, name)),
     }
 }

@@ -8,13 +8,13 @@ use Rattle.js_doc.specs.declared.doc.Doc.{Doc}
 use Rattle.js_doc.proofs.Smaller.{item_smaller, member_smaller}
 
 abbrev pub Pairs : Type 0
-Pairs = List (String Global × Doc)
+Pairs = List (List ℕ × Doc)
 
 -- some are done, and these are left
 abbrev pub IsSplit : Pairs → Pairs → Type 0
 IsSplit all left = (done : Pairs) × (all ≡ done ++ left)
 
-split_next : (all old left : Pairs) (m : String Global × Doc) → IsSplit all old → old ≡ m ∷ left → IsSplit all left
+split_next : (all old left : Pairs) (m : List ℕ × Doc) → IsSplit all old → old ≡ m ∷ left → IsSplit all left
 split_next all old left m split step = (
   split.0 ++ m ∷ [],
   split.1 ∙ ap (λ es. split.0 ++ es) step ∙ sym (append_assoc split.0 (m ∷ []) left),
@@ -25,13 +25,13 @@ pub record IsLoopOver (all left : Pairs) (Known : Pairs → Type 0) : Type 0 whe
   pub split : IsSplit all left
   pub recorded : Known left
 
-pub loop_next : {all old left : Pairs} {m : String Global × Doc} {Before After : Pairs → Type 0}
+pub loop_next : {all old left : Pairs} {m : List ℕ × Doc} {Before After : Pairs → Type 0}
     → IsLoopOver all old Before → old ≡ m ∷ left → (Before (m ∷ left) → After left) → IsLoopOver all left After
 loop_next {all} {old} {left} {m} {Before} loop step next =
     record { split = split_next all old left m loop.split step; recorded = next (subst Before step loop.recorded) }
 
 -- the next one nests less deep than the object
-pub next_smaller : {pairs all old left : Pairs} {name : String Global} {value : Doc} {ms : Named}
+pub next_smaller : {pairs all old left : Pairs} {name : List ℕ} {value : Doc} {ms : Named}
     → map pair_of pairs ≡ ms → all ≡ pairs → IsSplit all old → old ≡ (name, value) ∷ left
     → depth (value_of value) < depth (object (members ms))
 next_smaller {pairs} {all} {old} {left} {name} {value} {ms} seen same split step =

@@ -66,7 +66,7 @@ fn read_string(alloc: Global, json: &str) -> Result<Text, Memory>
     let Some(text) = string_in(token) else {
         unreachable!()
     };
-    Ok(Text::new(String::from_str(alloc, text)?))
+    Text::from_str(alloc, text)
 }
 
 // The text of the token, if it is a string.

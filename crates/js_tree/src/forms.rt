@@ -238,11 +238,11 @@ fn put_text_member(
 fn put_member(alloc: Global, members: &mut Members, name: &str, doc: Doc) -> Result<(), Memory>
     ensures { OnOk result (members.new ≡ put name.now (value_of doc) members.old) }
 {
-    match String::from_str(alloc, name) {
+    match Text::from_str(alloc, name) {
         Ok(name) => members.put(name, doc),
         Err(refused) => {
             drop(doc);
-            Err(Memory::from(refused))
+            Err(refused)
         }
     }
 }
@@ -252,7 +252,7 @@ fn texts(alloc: Global, names: &[&str]) -> Result<Doc, Memory>
 {
     let mut docs = Vec::with_capacity(alloc, names.len())?;
     for name in names {
-        docs.push(Doc::Text(Text::new(String::from_str(alloc, name)?)))?;
+        docs.push(Doc::Text(Text::from_str(alloc, name)?))?;
     }
     Ok(Doc::List(Items::new(docs)))
 }

@@ -2,7 +2,7 @@
 use Rattle.std.specs.Prelude.{◌≡◌, ◌≢◌, ℕ, ◌-◌, ◌≤◌, ◌⊎◌, List, [], ◌∷◌, take, drop, map, length, Option, Some, None}
 use Rattle.std.specs.Prelude.{IsUtf8, ⊤}
 use Rattle.js_doc.specs.Pointer.{Tokens, pointer_text}
-use Rattle.js_positions.specs.Positions.{spots}
+use Rattle.js_doc.specs.Positions.{spots}
 use Rattle.json.specs.Json.{document}
 use Rattle.jschema_c.specs.declared.position.Position.{Position}
 use Rattle.jschema_c.specs.declared.status.Status.{Status}

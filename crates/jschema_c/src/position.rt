@@ -2,12 +2,11 @@
 ghost use Rattle.std.specs.Prelude.{◌≡◌, ◌≤◌, ◌-◌, IfOk, IfSome, IsUtf8, None, Some};
 ghost use Rattle.std.specs.Prelude.{List, drop, length, map, option_map, take};
 ghost use Rattle.js_doc.specs.Pointer.{Tokens, pointer_text};
-ghost use Rattle.js_positions.specs.Seen.{spot_seen, spots_seen};
+ghost use Rattle.js_doc.specs.Spots.{spot_seen, spots_seen};
 ghost use Rattle.jschema_c.specs.Locating.{ArePointers, AreUtf8, Locates, position_seen, spot_told, spots_told};
 
 use crate::status::Status;
-use js_doc::{Memory, Pointer, PointerFault};
-use js_positions::{Spot, Spots, positions_of};
+use js_doc::{Memory, Pointer, PointerFault, Spot, Spots, positions_of};
 use simdutf8::compat::from_utf8;
 use std::alloc::Global;
 

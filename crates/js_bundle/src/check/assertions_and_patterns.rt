@@ -131,7 +131,7 @@ fn read_patterns(
         (flat_map (λ n. at_pattern (site_of at.entry.site.now) (at.entry.keyword.now ∷ n.0 ∷ []) n.0) members.now)) }
 {
     for (name, _) in members.pairs() {
-        let copied = Text::new(name.clone()?);
+        let copied = name.copy()?;
         let pattern = read_pattern(*out.allocator(), at, name.as_str())?;
         out.push(BuiltPattern {
             name: copied,

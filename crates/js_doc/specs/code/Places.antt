@@ -1,5 +1,5 @@
 -- Where a name stands among members whose names ascend, or where it would.
-use Rattle.std.specs.Prelude.{◌≡◌, ℕ, suc, ◌<◌, List, [], ◌∷◌, String, string_bytes, length, slice_index_or}
+use Rattle.std.specs.Prelude.{◌≡◌, ℕ, suc, ◌<◌, List, [], ◌∷◌, length, slice_index_or}
 use Rattle.std.specs.Ordering.{match_ordering}
 use Rattle.std.specs.declared.alloc.Global.{Global}
 use Rattle.std.specs.declared.cmp.Ordering.TheVariants.{Equal, Greater}
@@ -21,9 +21,9 @@ abbrev pub GoesTo : {A : Type 0} → List ℕ → List (List ℕ × A) → ℕ �
 GoesTo k ms i = (rank k ms ≡ i) × (rank_past k ms ≡ i)
 
 -- k is the name at i
-abbrev pub StandsAt : List ℕ → List (String Global × Doc) → ℕ → Type 0
+abbrev pub StandsAt : List ℕ → List (List ℕ × Doc) → ℕ → Type 0
 StandsAt k es i =
-    (i < length es) × ((d : String Global × Doc) → name_cmp k (string_bytes (slice_index_or es i d).0) ≡ Equal)
+    (i < length es) × ((d : List ℕ × Doc) → name_cmp k ((slice_index_or es i d).0) ≡ Equal)
 
 -- k is above all names
 abbrev pub IsAboveAll : {A : Type 0} → List ℕ → List (List ℕ × A) → Type 0

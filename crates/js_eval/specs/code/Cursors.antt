@@ -71,7 +71,7 @@ is_chosen (choice.Additional adjacent) name =
 is_chosen (choice.Except names) name = not (is_key names.keys name)
 
 -- those of the members that are chosen
-abbrev pub chosen_members : Choice → List (String Global × Doc) → Named
+abbrev pub chosen_members : Choice → List (List ℕ × Doc) → Named
 chosen_members choice members = filter (λ m. is_chosen choice m.0) (map pair_of members)
 
 abbrev pub members_asked : Documents → MemberCursor → List (Application Site)
@@ -91,14 +91,14 @@ on_matched_member documents place pattern m =
     record { place = numbered_site documents place; step = Name pattern; at = Name m.0; value = m.1 }
 
 -- the schema at a place, on those of the members that are left and that its pattern matches
-abbrev pub present_asked : Documents → Option NamedPattern → ℕ → Text → List (String Global × Doc)
+abbrev pub present_asked : Documents → Option NamedPattern → ℕ → Text → List (List ℕ × Doc)
     → List (Application Site)
 present_asked documents None place name left = []
 present_asked documents (Some pattern) place name left =
     map (on_matched_member documents place name) (filter (λ m. matches pattern.text.now m.0) (map pair_of left))
 
 -- the applications of the patterns that are still to come
-abbrev pub coming_asked : Documents → PatternCursor → List (String Global × Doc) → List (Application Site)
+abbrev pub coming_asked : Documents → PatternCursor → List (List ℕ × Doc) → List (Application Site)
 coming_asked documents c patterns = flat_map (λ p.
     matching_asked documents (numbered_site documents c.place) c.keyword.now p.0 c.members.now) (map pair_of patterns)
 

@@ -31,7 +31,7 @@ members_among (All members) = members.now
 members_among (Left members) = map pair_of members
 
 -- those that have a name that is left
-abbrev pub names_left : doc.Named → List (String Global × Doc) → doc.Named
+abbrev pub names_left : doc.Named → List (List ℕ × Doc) → doc.Named
 names_left members names = filter (λ m. has m.0 (map pair_of names)) members
 
 abbrev pub names_asked : Documents → NameCursor → List (Application Site)
@@ -39,7 +39,7 @@ names_asked documents c =
     map (on_member documents c.at.place c.at.keyword.name.now) (names_left (members_among c.among) c.names)
 
 -- of all names, these are left after this many
-abbrev pub AreLeft : doc.Named → ℕ → List (String Global × Doc) → Type 0
+abbrev pub AreLeft : doc.Named → ℕ → List (List ℕ × Doc) → Type 0
 AreLeft all rank names = map pair_of names ≡ drop rank all
 
 -- the names are those of the keyword of a place with this schema, and both sides ascend

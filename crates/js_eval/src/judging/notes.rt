@@ -177,7 +177,7 @@ fn failure_of<'a>(
 fn words<'a>(alloc: Global, words: &str) -> Result<Note<'a>, Memory>
     ensures { IfOk result (λ n. note_of n ≡ spec.error words.now) }
 {
-    Ok(Note::Error(Text::new(String::from_str(alloc, words)?)))
+    Ok(Note::Error(Text::from_str(alloc, words)?))
 }
 
 fn branches_hold<'a>(alloc: Global, count: usize) -> Result<Note<'a>, Memory>
@@ -357,7 +357,7 @@ fn error_of<'a>(
     match value {
         Instance::Doc(doc) => Ok(Some(assertion.error(alloc, doc, matching)?)),
         Instance::Name(name) => {
-            let name = Doc::Text(Text::new(String::from_str(alloc, name)?));
+            let name = Doc::Text(Text::from_str(alloc, name)?);
             Ok(Some(assertion.error(alloc, &name, matching)?))
         }
     }

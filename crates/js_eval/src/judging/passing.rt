@@ -181,7 +181,7 @@ fn holds_alone(
     match value {
         Instance::Doc(doc) => assertion.holds(alloc, doc, matching),
         Instance::Name(name) => {
-            let name = Doc::Text(Text::new(String::from_str(alloc, name)?));
+            let name = Doc::Text(Text::from_str(alloc, name)?);
             assertion.holds(alloc, &name, matching)
         }
     }

@@ -118,7 +118,7 @@ fn member_found(rt: &HostRuntime, members: &Members, name: &str, answers: &mut S
 }
 
 fn member_put(rt: &HostRuntime, mut members: Members, name: &str, answers: &mut String) {
-    if let Ok(name) = String::from_str(rt.alloc(), name) {
+    if let Ok(name) = Text::from_str(rt.alloc(), name) {
         mark_begin(rt);
         let made = members.put(name, Doc::Truth(true));
         mark_end(rt);

@@ -6,7 +6,9 @@ use Rattle.std.specs.Map.{keys_of}
 use Rattle.std.specs.String.{string_cmp}
 use Rattle.serde_json.specs.View.{view, items_view, members_view}
 use Rattle.js_doc.specs.Value.{members}
-use Rattle.js_doc.specs.Seen.{items_seen}
+use Rattle.js_doc.specs.Members.{put}
+use Rattle.js_doc.specs.Seen.{items_seen, value_of}
+use Rattle.js_doc.specs.code.Places.{IsAboveAll}
 use Rattle.js_doc.specs.WholeNumbers.{value_in, items_in, members_in}
 use Rattle.js_doc.specs.Reading.{Lifts}
 use Rattle.js_doc.proofs.Finding.{Entry, items_extend, items_stop, snoc_items_seen, members_extend}
@@ -47,8 +49,9 @@ convert_members-push-requires t c =
     let e : Entry = (c.in-Some.name, c.in-Some.value) in
     let left = c.next.new.self in
     let all : c.args.map.entries ≡ done ++ e ∷ left = l.invariant.1 ∙ ap (λ es. done ++ es) c.in-Some.ensures.steps in
-    above_found done e left l.members l.invariant.2 (subst (λ es. IsStrictlySortedBy string_cmp (keys_of es)) all
-    c.into_iter-name-iterator.ensures.into_iter_gives.5)
+    let above = above_found done e left l.members l.invariant.2
+    (subst (λ es. IsStrictlySortedBy string_cmp (keys_of es)) all c.into_iter-name-iterator.ensures.into_iter_gives.5) in
+    subst (λ k. IsAboveAll k l.members) (sym c.new.ensures) above
 
 pub convert_members-loop-name-preserved : goal.convert_members-loop-name-preserved
 convert_members-loop-name-preserved t c =
@@ -61,6 +64,7 @@ convert_members-loop-name-preserved t c =
       all ∙ sym (append_assoc done (e ∷ []) left),
       members_extend done e left l.members _ l.invariant.2 c.in-Ok.ensures.ok (subst
           (λ es. IsStrictlySortedBy string_cmp (keys_of es)) all c.into_iter-name-iterator.ensures.into_iter_gives.5)
+          ∙ ap (λ k. Ok (members (put k (value_of c.in-Ok.doc) l.members))) (sym c.new.ensures)
           ∙ ap (λ ms. Ok (members ms)) (sym c.in_ok-push-in-Ok.ensures.ok),
     )
 
@@ -72,5 +76,5 @@ convert_members-returns-in-Err-clause-err t c =
     let left = c.next.new.self in
     let all : c.args.map.entries ≡ done ++ e ∷ left = l.invariant.1 ∙ ap (λ es. done ++ es) c.in-Some.ensures.steps in
     lifted_stops _ (value_in (view e.1)) (string_bytes e.0) c.in-Err.fault c.lifted.result c.in-Err.ensures.err
-    (subst (λ k. Lifts k c.in-Err.fault c.lifted.result) c.new.ensures c.lifted.ensures)
+    (subst (λ k. Lifts k c.in-Err.fault c.lifted.result) c.new-in-Err.ensures c.lifted.ensures)
     (λ p is. ap (λ es. members_in (members_view es)) all ∙ members_stop done e left _ p l.invariant.2 is)

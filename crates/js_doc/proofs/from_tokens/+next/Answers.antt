@@ -1,4 +1,4 @@
-use Rattle.std.proofs.Common.{◌≡◌, ◌-◌, ◌<◌, [], ◌∷◌, ◌++◌, length, Some, None, IfSome, Ok, option_map, string_bytes}
+use Rattle.std.proofs.Common.{◌≡◌, ◌-◌, ◌<◌, [], ◌∷◌, ◌++◌, length, Some, None, IfSome, Ok, option_map}
 use Rattle.std.proofs.Common.{refl, sym, ap, ◌∙◌, subst, arith, rules}
 use Rattle.json.proofs.Grammar.{value_is, value-begin_array, value-begin_object, read_key-shorter}
 use Rattle.json.specs.Json.{parse_map, after_end_array, read_key, items, members, value}
@@ -22,7 +22,7 @@ pub next_value-returns-in_ok-text-in-String-clause-is : goal.next_value-returns-
 next_value-returns-in_ok-text-in-String-clause-is t c =
     let rest = c.next.new.self in
     let is = c.in-Some.ensures.value ∙ ap (λ k. token_of k ∷ rest) c.in-String.is in
-    let same : c.in-String.text.now ≡ c.new.result = search rules in (
+    let same : c.in-String.text.now ≡ c.in_ok-text-in-String.text = search rules in (
       tree.string c.in-String.text.now,
       ap (converted of_json) (ap (value c.args.depth) is ∙ value_is c.args.depth _),
       ap (λ s. Ok (doc.text s)) same,
@@ -56,7 +56,7 @@ next_value-returns-in-Some-2-clause-is t c =
     c.in-Some-2.is c.in_ok-docs-in-BeginArray.ensures.are in (
       tree.array read.0,
       opened ∙ ap (parse_map tree.array) read.1,
-      ap (found_map doc.list) read.2 ∙ ap (λ vs. Ok (doc.list (doc.items vs))) (sym c.new-in-Some-2.ensures),
+      ap (found_map doc.list) read.2 ∙ ap (λ vs. Ok (doc.list (doc.items vs))) (sym c.new.ensures),
     )
 
 pub next_value-returns-in-Some-3-clause-is : goal.next_value-returns-in-Some-3-clause-is
@@ -124,7 +124,7 @@ next_members-members-preserved t c =
     c.in_ok-doc-in-Some.ensures.is in
     let lesser = subst (λ o. IfSome o (λ _. length r < length s)) c.in-Some-2.is c.in_ok-doc-in-Some.ensures.shorter in
     let less = read_key-shorter l.reader (Some k) s named in
-    let copied : string_bytes c.in_ok-name-in-Some.name ≡ k = search rules in
+    let copied : c.in_ok-name-in-Some.name ≡ k = search rules in
     let added = c.in_ok-put-in-Some.ensures.ok ∙ ap (λ name. put name (value_of c.in-Some-2.doc) l.found) copied in (
       n - 1,
       omega (arith, l.invariant.1, less, lesser),

@@ -10,7 +10,7 @@ loop-low-preserved-in-Less c =
     let l = c.loop-low in
     let within = middle_within l.low l.high (length c.args.entries.now) c.loop-low-test.true l.invariant.2 in
     let is = compared c.args.name.now _ (get_or c.args.entries.now (l.low + (l.high - l.low) / 2)
-    c.index-entries-middle.result) Less _ c.name_order.ensures c.as_str.ensures.value c.in-Less.is in
+    c.index-entries-middle.result) Less _ c.name_order.ensures c.as_str.ensures c.in-Less.is in
     (l.invariant.0, goes_below c.args.name.now c.args.entries.now _ _ within.1 is, omega (arith, within.1))
 
 pub loop-low-preserved : goal.loop-low-preserved
@@ -18,7 +18,7 @@ loop-low-preserved c =
     let l = c.loop-low in
     let within = middle_within l.low l.high (length c.args.entries.now) c.loop-low-test.true l.invariant.2 in
     let is = compared c.args.name.now _ (get_or c.args.entries.now (l.low + (l.high - l.low) / 2)
-    c.index-entries-middle.result) Greater _ c.name_order.ensures c.as_str.ensures.value c.in-Greater.is in
+    c.index-entries-middle.result) Greater _ c.name_order.ensures c.as_str.ensures c.in-Greater.is in
     let past = goes_above c.args.name.now c.args.entries.now _ _ c.requires within.1 is in
     (omega (arith, past), l.invariant.1, l.invariant.2)
 

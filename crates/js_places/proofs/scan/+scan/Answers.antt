@@ -33,10 +33,10 @@ pub scan_members-loop-name-preserved : goal.scan_members-loop-name-preserved
 scan_members-loop-name-preserved t c =
     let at = c.args.at in
     loop_next c.loop-name.invariant c.in-Some.ensures.steps
-    (member_next c.args.role at.document at.above.now.value at.pointer.now.value (string_bytes c.in-Some.name.now)
+    (member_next c.args.role at.document at.above.now.value at.pointer.now.value (c.in-Some.name.now)
     c.as_str.result.now (value_of c.in-Some.value.now) (members (map pair_of c.next.new.self))
     (map site_of c.loop-name.out.items) (map site_of c.scan_member.new.out.items) _
-    c.as_str.ensures.value c.in_ok-scan_member.ensures)
+    c.as_str.ensures c.in_ok-scan_member.ensures)
 
 pub scan_members-scan_member-requires : goal.scan_members-scan_member-requires
 scan_members-scan_member-requires t c =

@@ -1,4 +1,6 @@
-use Rattle.std.proofs.Common.{Some, option_map, ap, sym, ◌∙◌}
+use Rattle.std.proofs.Common.{◌≡◌, ℕ, List, Some, option_map, ap, sym, ◌∙◌}
+use Rattle.std.proofs.lemmas.Result.{IfOk-weaker}
+use Rattle.js_doc.specs.Compact.{quoted}
 use Rattle.json.specs.Reads.{token_of}
 use Rattle.js_rows.specs.code.Strings.{string_in}
 use Rattle.js_rows.proofs.UndoneEscapes.{gives_some, gives_string, same_read}
@@ -17,10 +19,10 @@ unreachable-requires-in_default-string_in c =
 
 pub returns : goal.returns
 returns c =
-    λ text e.
+    IfOk-weaker c.from_str.result (λ t. t ≡ c.in-Some-string_in.text.now)
+    (λ t. (text : List ℕ) → c.args.json.now ≡ quoted text → t ≡ text)
+    (λ t is text e.
     let given = gives_string c.args.json.now text (token_of c.in-Some.token) c.next.new.self
     (sym c.in_ok-reader.ensures.ok ∙ c.in-Some.ensures.value) e in
     let read = sym c.string_in.ensures ∙ ap (option_map (λ s. s.now)) c.in-Some-string_in.is in
-    c.new-2.ensures
-    ∙ (c.in_ok-from_str.ensures.ok ∙ same_read c.in-Some-string_in.text.now text (string_in (token_of c.in-Some.token))
-    read given)
+    is ∙ same_read c.in-Some-string_in.text.now text (string_in (token_of c.in-Some.token)) read given) c.from_str.ensures

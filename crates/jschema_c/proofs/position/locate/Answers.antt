@@ -1,7 +1,7 @@
 use Rattle.std.proofs.Common.{◌≡◌, ◌≢◌, None, IfSome, IsUtf8, length, map, sym, ap, ◌∙◌, subst}
 use Rattle.json.specs.Json.{document}
-use Rattle.js_positions.specs.Positions.{spots}
-use Rattle.js_positions.specs.Seen.{spots_seen}
+use Rattle.js_doc.specs.Positions.{spots}
+use Rattle.js_doc.specs.Spots.{spots_seen}
 use Rattle.jschema_c.specs.Locating.{ArePointers, spots_told}
 use Rattle.jschema_c.proofs.PointerTexts.{map_twice}
 use Rattle.jschema_c.proofs.position.locate.Goals as goal

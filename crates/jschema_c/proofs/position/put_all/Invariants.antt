@@ -1,5 +1,5 @@
 use Rattle.std.proofs.Common.{◌≡◌, length, map, take}
-use Rattle.js_positions.specs.Seen.{spots_seen}
+use Rattle.js_doc.specs.Spots.{spots_seen}
 use Rattle.jschema_c.specs.Locating.{position_seen, spots_told}
 use Rattle.jschema_c.proofs.position.put_all.Given as goal
 

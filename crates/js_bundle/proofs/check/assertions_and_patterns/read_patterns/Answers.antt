@@ -16,7 +16,7 @@ pub loop-name-preserved : goal.loop-name-preserved
 loop-name-preserved c =
     let l = c.loop-name in
     let f = λ (n : Text × Value). at_pattern (site_of c.args.at.site.now) (c.args.at.keyword.now ∷ n.0 ∷ []) n.0 in
-    let key = string_bytes c.in-Some.name.now in
+    let key = c.in-Some.name.now in
     let v = value_of c.in-Some.field-0-1.now in
     let rest = map pair_of c.next.new.self in
     record {
@@ -24,10 +24,10 @@ loop-name-preserved c =
           (subst (λ es. Leads (flat_map f c.args.members.now) (flat_map f (map pair_of es)))
           c.in-Some.ensures.steps l.invariant.leads)
           (subst (λ k. IsClear (at_pattern (site_of c.args.at.site.now) (c.args.at.keyword.now ∷ k ∷ []) k))
-          c.as_str.ensures.value c.in_ok-pattern.ensures.clear);
-      built = pattern_next l.out.items c.push.new.self.items c.new-copied.result c.in_ok-pattern.pattern key v rest _
+          c.as_str.ensures c.in_ok-pattern.ensures.clear);
+      built = pattern_next l.out.items c.push.new.self.items c.in_ok-copied.copied c.in_ok-pattern.pattern key v rest _
           c.in_ok-push.ensures.items
-          (c.new-copied.ensures ∙ c.in_ok-clone.ensures.cases) (c.in_ok-pattern.ensures.built ∙ c.as_str.ensures.value)
+          c.in_ok-copied.ensures (c.in_ok-pattern.ensures.built ∙ c.as_str.ensures)
           (subst (λ es. l.out.items ++ map pattern_at (map pair_of es)
           ≡ c.args.out.now.items ++ map pattern_at c.args.members.now) c.in-Some.ensures.steps l.invariant.built);
     }

@@ -20,11 +20,11 @@ returns-in_err-check_keyword-clause-err c =
     let e = c.in_err-check_keyword.field-0.0 in
     let v = value_of c.in-Some.argument.now in
     let all = c.args.members.now in
-    rw (p.1, p.2) (leads_stop (flat_map f all) (f (string_bytes c.in-Some.keyword.now, v))
+    rw (p.1, p.2) (leads_stop (flat_map f all) (f (c.in-Some.keyword.now, v))
     (flat_map f (map pair_of c.next.new.self)) e
     (subst (λ es. Leads (flat_map f all) (flat_map f (map pair_of es))) c.in-Some.ensures.steps
     c.loop-keyword.invariant.leads)
-    (subst (λ k. IsStopped (f (k, v)) e) c.as_str.ensures.value c.in_err-check_keyword.ensures.err))
+    (subst (λ k. IsStopped (f (k, v)) e) c.as_str.ensures c.in_err-check_keyword.ensures.err))
 
 pub loop-keyword-preserved : goal.loop-keyword-preserved
 loop-keyword-preserved c =
@@ -33,7 +33,7 @@ loop-keyword-preserved c =
     let f = at_member (map site_of c.args.known.sites.now) (site_of c.args.site.now) in
     let g = assertion_at all in
     let h = patterns_of in
-    let key = string_bytes c.in-Some.keyword.now in
+    let key = c.in-Some.keyword.now in
     let v = value_of c.in-Some.argument.now in
     let rest = map pair_of c.next.new.self in
     let old = l.built in
@@ -42,15 +42,15 @@ loop-keyword-preserved c =
       stand = (subst (λ es. StandIn all (map pair_of es)) c.in-Some.ensures.steps l.invariant.stand).1;
       leads = leads_past (flat_map f all) (f (key, v)) (flat_map f rest)
           (subst (λ es. Leads (flat_map f all) (flat_map f (map pair_of es))) c.in-Some.ensures.steps l.invariant.leads)
-          (subst (λ k. IsClear (f (k, v))) c.as_str.ensures.value c.in_ok-check_keyword.ensures.clear);
+          (subst (λ k. IsClear (f (k, v))) c.as_str.ensures c.in_ok-check_keyword.ensures.clear);
       assertions = piece_next old.assertions.items new.assertions.items (g (key, v)) (flat_map g rest)
           (c.args.built.now.assertions.items ++ flat_map g all)
-          (subst (λ k. new.assertions.items ≡ old.assertions.items ++ g (k, v)) c.as_str.ensures.value
+          (subst (λ k. new.assertions.items ≡ old.assertions.items ++ g (k, v)) c.as_str.ensures
           c.in_ok-check_keyword.ensures.assertions) (subst (λ es. old.assertions.items ++ flat_map g (map pair_of es)
           ≡ c.args.built.now.assertions.items ++ flat_map g all) c.in-Some.ensures.steps l.invariant.assertions);
       patterns = piece_next old.patterns.items new.patterns.items (h (key, v)) (flat_map h rest)
           (c.args.built.now.patterns.items ++ flat_map h all)
-          (subst (λ k. new.patterns.items ≡ old.patterns.items ++ h (k, v)) c.as_str.ensures.value
+          (subst (λ k. new.patterns.items ≡ old.patterns.items ++ h (k, v)) c.as_str.ensures
           c.in_ok-check_keyword.ensures.patterns) (subst (λ es. old.patterns.items ++ flat_map h (map pair_of es)
           ≡ c.args.built.now.patterns.items ++ flat_map h all) c.in-Some.ensures.steps l.invariant.patterns);
     }
@@ -60,8 +60,8 @@ check_keyword-requires-clause-argument c =
     let v = value_of c.in-Some.argument.now in
     let all = c.args.members.now in
     let schema = value_of c.args.site.now.schema.now in
-    subst (λ k. argument k schema ≡ Some v) (sym c.as_str.ensures.value)
-    (argument_stands schema v all (string_bytes c.in-Some.keyword.now) c.requires.members
+    subst (λ k. argument k schema ≡ Some v) (sym c.as_str.ensures)
+    (argument_stands schema v all (c.in-Some.keyword.now) c.requires.members
     (subst (λ es. StandIn all (map pair_of es)) c.in-Some.ensures.steps c.loop-keyword.invariant.stand).0)
 
 pub loop-keyword-init : goal.loop-keyword-init

@@ -15,6 +15,6 @@ returns-in-Some c =
     let ascends = members_ascend-list (map pair_of es) c.self.invariant.0 in
     let at = c.in-Some.ensures.lookup.1 in
     let stands = named_stands name seen hint entry c.as_str.result.now c.in-Some.ensures.lookup.3.0 at
-    c.as_str.ensures.value (sym c.eq.ensures ∙ c.if-eq.true) in
+    c.as_str.ensures (sym c.eq.ensures ∙ c.if-eq.true) in
     rw (← c.self.view_is)
     (get_found name seen es hint entry same ascends stands (at ∙ ap (λ ys. get_or ys hint entry) same))

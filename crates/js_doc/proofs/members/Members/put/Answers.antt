@@ -15,7 +15,7 @@ pub invariant_of-self : goal.invariant_of-self
 invariant_of-self c =
     let es = c.self.inside.entries.items in
     let ascends = members_ascend-list (map pair_of es) c.self.invariant.0 in
-    let is = put_over _ c.args.name c.args.doc _ es c.in-Ok.rank c.as_str.ensures.value c.as_slice.ensures.value
+    let is = put_over _ c.args.name c.args.doc _ es c.in-Ok.rank c.as_str.ensures c.as_slice.ensures.value
     ascends c.in-Ok.ensures.ok in
     let placed = ap (λ e. map pair_of (set es c.in-Ok.rank e)) c.replace.ensures.after in
     lawful_put c.args.name c.args.doc es _ (placed ∙ is) c.self.invariant c.lawful.ensures
@@ -33,7 +33,7 @@ insert-requires c =
 pub invariant_of-self-in-Continue-1 : goal.invariant_of-self-in-Continue-1
 invariant_of-self-in-Continue-1 c =
     let items = c.in_ok-insert-in-Err.ensures.items in
-    let is = put_new _ c.args.name c.args.doc _ _ _ c.in-Err.rank c.as_str.ensures.value c.as_slice.ensures.value items
+    let is = put_new _ c.args.name c.args.doc _ _ _ c.in-Err.rank c.as_str.ensures c.as_slice.ensures.value items
     c.in-Err.ensures.err in
     lawful_put c.args.name c.args.doc _ _ is c.self.invariant c.lawful.ensures
 
@@ -41,7 +41,7 @@ pub returns-in-Ok-clause-ok : goal.returns-in-Ok-clause-ok
 returns-in-Ok-clause-ok c =
     let es = c.self.inside.entries.items in
     let ascends = members_ascend-list (map pair_of es) c.self.invariant.0 in
-    let is = put_over _ c.args.name c.args.doc _ es c.in-Ok.rank c.as_str.ensures.value c.as_slice.ensures.value
+    let is = put_over _ c.args.name c.args.doc _ es c.in-Ok.rank c.as_str.ensures c.as_slice.ensures.value
     ascends c.in-Ok.ensures.ok in
     rw (← c.self.view_is) (ap (λ e. map pair_of (set es c.in-Ok.rank e)) c.replace.ensures.after ∙ is)
 
@@ -49,5 +49,5 @@ pub returns-in_ok-insert-in-Err-clause-ok : goal.returns-in_ok-insert-in-Err-cla
 returns-in_ok-insert-in-Err-clause-ok c =
     let items = c.in_ok-insert-in-Err.ensures.items in
     rw (← c.self.view_is)
-    (put_new _ c.args.name c.args.doc _ _ _ c.in-Err.rank c.as_str.ensures.value c.as_slice.ensures.value
+    (put_new _ c.args.name c.args.doc _ _ _ c.in-Err.rank c.as_str.ensures c.as_slice.ensures.value
     items c.in-Err.ensures.err)

@@ -8,4 +8,4 @@ pub pattern_of-built-requires-clause-pattern : goal.pattern_of-built-requires-cl
 pattern_of-built-requires-clause-pattern c =
     let known = subst (λ es. ArePatternsAt c.args.schemas.now c.args.place (map pair_of es)) c.in-Some-2.ensures.steps
     c.loop-pattern.invariant.known in
-    subst (IsPatternAt c.args.schemas.now c.args.place) (sym c.as_str.ensures.value) (and_parts _ _ known).0
+    subst (IsPatternAt c.args.schemas.now c.args.place) (sym c.as_str.ensures) (and_parts _ _ known).0

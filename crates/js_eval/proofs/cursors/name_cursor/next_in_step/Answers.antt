@@ -16,7 +16,7 @@ returns-in_err-name-clause-next c =
 
 pub returns-in_err-key-clause-left : goal.returns-in_err-key-clause-left
 returns-in_err-key-clause-left c = λ all h.
-    let n : String Global × Doc = (c.in_ok-name.name.now, c.in_ok-name.schema.now) in
+    let n : List ℕ × Doc = (c.in_ok-name.name.now, c.in_ok-name.schema.now) in
     let first : pair_of n ∷ map pair_of c.next.new.self
     ≡ drop c.args.rank.now all = sym (ap (map pair_of) c.in_ok-name.ensures.steps) ∙ h in (
       (next_left all c.args.rank.now (pair_of n) (map pair_of c.next.new.self) first).0,
@@ -26,17 +26,17 @@ returns-in_err-key-clause-left c = λ all h.
 
 pub returns-in_err-name-in-Less-clause-next : goal.returns-in_err-name-in-Less-clause-next
 returns-in_err-name-in-Less-clause-next c =
-    let l = c.loop-names in let n : String Global × Doc = (l.name.now, l.schema.now) in
-    let m : String Global × Doc = (l.key.now, l.member.now) in
-    let passed = name_passed n m l.names l.members _ _ _ _ c.name_order.ensures c.as_str.ensures.value
-    c.as_str-in-loop-names.ensures.value c.in-Less.is l.invariant.members l.invariant.same in
+    let l = c.loop-names in let n : List ℕ × Doc = (l.name.now, l.schema.now) in
+    let m : List ℕ × Doc = (l.key.now, l.member.now) in
+    let passed = name_passed n m l.names l.members _ _ _ _ c.name_order.ensures c.as_str.ensures
+    c.as_str-in-loop-names.ensures c.in-Less.is l.invariant.members l.invariant.same in
     rw c.from_residual-in_err-name-in-Less.ensures
     (sym passed ∙ ap (names_left (map pair_of (m ∷ l.members))) c.in_err-name-in-Less.ensures.steps.0
     ∙ none_named (map pair_of (m ∷ l.members)))
 
 pub returns-in_err-name-in-Less-clause-left : goal.returns-in_err-name-in-Less-clause-left
 returns-in_err-name-in-Less-clause-left c = λ all h.
-    let l = c.loop-names in let n : String Global × Doc = (l.name.now, l.schema.now) in
+    let l = c.loop-names in let n : List ℕ × Doc = (l.name.now, l.schema.now) in
     let behind = left_behind all l.at l.rank (pair_of n) (map pair_of l.names) l.invariant.rank
     (l.invariant.left all h) in (
       ap (map pair_of) (c.in_err-name-in-Less.ensures.steps.1 ∙ sym c.in_err-name-in-Less.ensures.steps.0)
@@ -46,10 +46,10 @@ returns-in_err-name-in-Less-clause-left c = λ all h.
 
 pub loop-names-preserved-in-Less : goal.loop-names-preserved-in-Less
 loop-names-preserved-in-Less c =
-    let l = c.loop-names in let n : String Global × Doc = (l.name.now, l.schema.now) in
-    let m : String Global × Doc = (l.key.now, l.member.now) in
-    let passed = name_passed n m l.names l.members _ _ _ _ c.name_order.ensures c.as_str.ensures.value
-    c.as_str-in-loop-names.ensures.value c.in-Less.is l.invariant.members l.invariant.same in
+    let l = c.loop-names in let n : List ℕ × Doc = (l.name.now, l.schema.now) in
+    let m : List ℕ × Doc = (l.key.now, l.member.now) in
+    let passed = name_passed n m l.names l.members _ _ _ _ c.name_order.ensures c.as_str.ensures
+    c.as_str-in-loop-names.ensures c.in-Less.is l.invariant.members l.invariant.same in
     let steps = c.in_ok-name-in-Less.ensures.steps in
     let many : length l.names ≡ suc (length c.next-in-Less.new.self) = ap length steps in
     record {
@@ -64,10 +64,10 @@ loop-names-preserved-in-Less c =
 
 pub returns-in-Equal-clause-next : goal.returns-in-Equal-clause-next
 returns-in-Equal-clause-next c =
-    let l = c.loop-names in let n : String Global × Doc = (l.name.now, l.schema.now) in
-    let m : String Global × Doc = (l.key.now, l.member.now) in
+    let l = c.loop-names in let n : List ℕ × Doc = (l.name.now, l.schema.now) in
+    let m : List ℕ × Doc = (l.key.now, l.member.now) in
     let equal : name_cmp (pair_of n).0 (pair_of m).0 ≡ Equal = sym (c.name_order.ensures
-    ∙ ap₂ name_cmp c.as_str.ensures.value c.as_str-in-loop-names.ensures.value) ∙ c.in-Equal.is in
+    ∙ ap₂ name_cmp c.as_str.ensures c.as_str-in-loop-names.ensures) ∙ c.in-Equal.is in
     sym l.invariant.same ∙ take_both (pair_of n) (pair_of m) (map pair_of l.names) (map pair_of l.members)
     equal l.invariant.members
     ∙ ap (λ k. (k, value_of l.member.now) ∷ names_left (map pair_of l.members) l.names)
@@ -75,7 +75,7 @@ returns-in-Equal-clause-next c =
 
 pub returns-in-Equal-clause-left : goal.returns-in-Equal-clause-left
 returns-in-Equal-clause-left c = λ all h.
-    let l = c.loop-names in let n : String Global × Doc = (l.name.now, l.schema.now) in
+    let l = c.loop-names in let n : List ℕ × Doc = (l.name.now, l.schema.now) in
     let more = next_left all l.at (pair_of n) (map pair_of l.names) (l.invariant.left all h) in (
       more.0 ∙ ap (λ r. drop r all) (sym l.invariant.rank),
       more.1 ∙ ap (λ k. Some (k, value_of l.schema.now)) (sym c.as_str-in-Equal.ensures.value),
@@ -83,16 +83,16 @@ returns-in-Equal-clause-left c = λ all h.
 
 pub returns-in_err-key-in-Greater-clause-next : goal.returns-in_err-key-in-Greater-clause-next
 returns-in_err-key-in-Greater-clause-next c =
-    let l = c.loop-names in let n : String Global × Doc = (l.name.now, l.schema.now) in
-    let m : String Global × Doc = (l.key.now, l.member.now) in
-    let passed = member_passed n m l.names l.members _ _ _ _ c.name_order.ensures c.as_str.ensures.value
-    c.as_str-in-loop-names.ensures.value c.in-Greater.is l.invariant.names l.invariant.same in
+    let l = c.loop-names in let n : List ℕ × Doc = (l.name.now, l.schema.now) in
+    let m : List ℕ × Doc = (l.key.now, l.member.now) in
+    let passed = member_passed n m l.names l.members _ _ _ _ c.name_order.ensures c.as_str.ensures
+    c.as_str-in-loop-names.ensures c.in-Greater.is l.invariant.names l.invariant.same in
     rw c.from_residual-in_err-key-in-Greater.ensures
     (sym passed ∙ ap (λ ms. names_left (map pair_of ms) (n ∷ l.names)) c.in_err-key-in-Greater.ensures.steps.0)
 
 pub returns-in_err-key-in-Greater-clause-left : goal.returns-in_err-key-in-Greater-clause-left
 returns-in_err-key-in-Greater-clause-left c = λ all h.
-    let l = c.loop-names in let n : String Global × Doc = (l.name.now, l.schema.now) in (
+    let l = c.loop-names in let n : List ℕ × Doc = (l.name.now, l.schema.now) in (
       left_behind all l.at l.rank (pair_of n) (map pair_of l.names) l.invariant.rank (l.invariant.left all h),
       rw
           c.from_residual-in_err-key-in-Greater.ensures tt,
@@ -100,10 +100,10 @@ returns-in_err-key-in-Greater-clause-left c = λ all h.
 
 pub loop-names-preserved : goal.loop-names-preserved
 loop-names-preserved c =
-    let l = c.loop-names in let n : String Global × Doc = (l.name.now, l.schema.now) in
-    let m : String Global × Doc = (l.key.now, l.member.now) in
-    let passed = member_passed n m l.names l.members _ _ _ _ c.name_order.ensures c.as_str.ensures.value
-    c.as_str-in-loop-names.ensures.value c.in-Greater.is l.invariant.names l.invariant.same in
+    let l = c.loop-names in let n : List ℕ × Doc = (l.name.now, l.schema.now) in
+    let m : List ℕ × Doc = (l.key.now, l.member.now) in
+    let passed = member_passed n m l.names l.members _ _ _ _ c.name_order.ensures c.as_str.ensures
+    c.as_str-in-loop-names.ensures c.in-Greater.is l.invariant.names l.invariant.same in
     let steps = c.in_ok-key-in-Greater.ensures.steps in
     record {
       same = ap (λ ms. names_left (map pair_of ms) (n ∷ l.names)) (sym steps) ∙ passed;

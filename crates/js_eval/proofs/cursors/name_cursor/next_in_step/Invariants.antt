@@ -9,8 +9,8 @@ use Rattle.js_eval.proofs.cursors.name_cursor.next_in_step.Given as goal
 
 abbrev pub invariant-loop-names : goal.invariant-loop-names
 invariant-loop-names l =
-    let n : String Global × Doc = (l.name, l.schema) in
-    let m : String Global × Doc = (l.key, l.member) in
+    let n : List ℕ × Doc = (l.name, l.schema) in
+    let m : List ℕ × Doc = (l.key, l.member) in
     record {
       same : names_left (map pair_of (m ∷ l.members)) (n ∷ l.names) ≡ names_left (map pair_of l.fn.members) l.fn.names;
       left : (all : Named) → AreLeft all l.fn.rank l.fn.names → AreLeft all l.at (n ∷ l.names);

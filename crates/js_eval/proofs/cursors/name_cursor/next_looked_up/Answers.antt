@@ -11,7 +11,7 @@ use Rattle.js_eval.proofs.cursors.name_cursor.next_looked_up.Goals as goal
 
 pub returns-in-Some-get-clause-next : goal.returns-in-Some-get-clause-next
 returns-in-Some-get-clause-next c =
-    let n : String Global × Doc = (c.in-Some.name.now, c.in-Some.schema.now) in let rest = c.next.new.self in
+    let n : List ℕ × Doc = (c.in-Some.name.now, c.in-Some.schema.now) in let rest = c.next.new.self in
     let members = c.args.members.now in let l = c.loop-name in let ascend : IsAscending (map pair_of (n ∷ rest)) =
     subst (λ ns. IsAscending (map pair_of ns)) c.in-Some.ensures.steps l.invariant.ascend in
     let found : get (pair_of n).0 members ≡ Some (value_of c.in-Some-get.member.now) =
@@ -23,7 +23,7 @@ returns-in-Some-get-clause-next c =
 
 pub returns-in-Some-get-clause-left : goal.returns-in-Some-get-clause-left
 returns-in-Some-get-clause-left c = λ all h.
-    let x : String Global × Doc = (c.in-Some.name.now, c.in-Some.schema.now) in
+    let x : List ℕ × Doc = (c.in-Some.name.now, c.in-Some.schema.now) in
     let first : pair_of x ∷ map pair_of c.next.new.self ≡ drop c.loop-name.rank all =
     sym (ap (map pair_of) c.in-Some.ensures.steps) ∙ c.loop-name.invariant.left all h in
     let more = next_left all c.loop-name.rank (pair_of x) (map pair_of c.next.new.self) first in
@@ -35,7 +35,7 @@ returns-in-Some-get-clause-ascend c =
 
 pub loop-name-preserved : goal.loop-name-preserved
 loop-name-preserved c =
-    let n : String Global × Doc = (c.in-Some.name.now, c.in-Some.schema.now) in let rest = c.next.new.self in
+    let n : List ℕ × Doc = (c.in-Some.name.now, c.in-Some.schema.now) in let rest = c.next.new.self in
     let members = c.args.members.now in let l = c.loop-name in let ascend : IsAscending (map pair_of (n ∷ rest)) =
     subst (λ ns. IsAscending (map pair_of ns)) c.in-Some.ensures.steps l.invariant.ascend in
     let none : get (pair_of n).0 members ≡ None =

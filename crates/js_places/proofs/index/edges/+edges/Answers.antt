@@ -31,7 +31,7 @@ link_members-link_one-requires t c =
 
 pub link_members-loop-schema-preserved : goal.link_members-loop-schema-preserved
 link_members-loop-schema-preserved t c =
-    let name = string_bytes c.in-Some.field-0-0.now in
+    let name = c.in-Some.field-0-0.now in
     let value = value_of c.in-Some.schema.now in
     let rest = members (map pair_of c.next.new.self) in
     let l = c.loop-schema in
@@ -56,12 +56,12 @@ link_schema-set_keywords-requires t c =
 
 pub keywords_of-loop-keyword-preserved : goal.keywords_of-loop-keyword-preserved
 keywords_of-loop-keyword-preserved t c =
-    let name = string_bytes c.in-Some.keyword.now in
+    let name = c.in-Some.keyword.now in
     let value = value_of c.in-Some.argument.now in
     let rest = members (map pair_of c.next.new.self) in
     let l = c.loop-keyword in
     let e = c.in_ok-link_keyword.ensures in
-    let same = c.as_str.ensures.value in
+    let same = c.as_str.ensures in
     loop_next l.invariant c.in-Some.ensures.steps (λ recorded. (
       keyword_edges_next c.as_str.result.now name value rest l.edges.items c.link_keyword.new.edges.items _
           same e.edges recorded.0,

@@ -1,3 +1,0 @@
-pub mod Positions
-pub mod Seen
-pub mod code
