@@ -17,7 +17,7 @@ use crate::check::check_whole;
 use crate::check::fault::CheckFault;
 use crate::refusal::{Refusal, RefusalKind};
 use crate::schemas::Schemas;
-use js_doc::{Doc, Pointer, ReadFault, read};
+use js_doc::{Doc, Memory, Pointer, ReadFault, read};
 use js_places::Document;
 use js_places::uri::{LONGEST, has_no_fragment, without_fragment};
 use std::alloc::Global;
@@ -108,6 +108,28 @@ impl Bundle {
             return Err((refusal, document.root));
         }
         Ok(())
+    }
+
+    /// Adds a document whose URI has been read, after the others.
+    ///
+    /// # Errors
+    /// `Memory`. The bundle is as it was.
+    pub fn add_document(&mut self, document: Document) -> Result<(), Memory>
+        ensures ok { OnOk result (self.new ≡ self.old ++ document_of document ∷ []) }
+        ensures err { OnErr result (self.new ≡ self.old) }
+    {
+        document.root.lawful();
+        match append(&mut self.documents, document) {
+            Ok(()) => Ok(()),
+            Err(_) => Err(Memory),
+        }
+    }
+
+    /// The documents, in order.
+    pub fn documents(&self) -> &[Document]
+        ensures { map document_of result.now ≡ self.now }
+    {
+        self.documents.as_slice()
     }
 }
 

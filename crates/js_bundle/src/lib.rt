@@ -15,7 +15,7 @@ mod schemas;
 pub mod sharing_laws;
 
 pub use bundle::Bundle;
-pub use js_places::KeywordName;
+pub use js_places::{Document, KeywordName};
 pub use place::{Place, Step};
 pub use refusal::{EntryFault, Refusal, RefusalKind};
 pub use schemas::Schemas;
