@@ -17,7 +17,7 @@ use crate::check::check_whole;
 use crate::check::fault::CheckFault;
 use crate::refusal::{Refusal, RefusalKind};
 use crate::schemas::Schemas;
-use js_doc::{Doc, Memory, Pointer, ReadFault, read};
+use js_doc::{Doc, Pointer, ReadFault, read};
 use js_places::Document;
 use js_places::uri::{LONGEST, has_no_fragment, without_fragment};
 use std::alloc::Global;
@@ -114,14 +114,14 @@ impl Bundle {
     ///
     /// # Errors
     /// `Memory`. The bundle is as it was.
-    pub fn add_document(&mut self, document: Document) -> Result<(), Memory>
+    pub fn add_document(&mut self, document: Document) -> Result<(), js_doc::Memory>
         ensures ok { OnOk result (self.new ≡ self.old ++ document_of document ∷ []) }
         ensures err { OnErr result (self.new ≡ self.old) }
     {
         document.root.lawful();
         match append(&mut self.documents, document) {
             Ok(()) => Ok(()),
-            Err(_) => Err(Memory),
+            Err(_) => Err(js_doc::Memory),
         }
     }
 
