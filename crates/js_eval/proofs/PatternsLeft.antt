@@ -1,6 +1,6 @@
 -- What patterns have left, one member or one pattern further.
-use Rattle.std.proofs.Common.{◌≡◌, ℕ, List, [], ◌∷◌, ◌++◌, Option, Some, String, Global}
-use Rattle.std.proofs.Common.{string_bytes, map, filter, sym, ap, ap₂, ◌∙◌}
+use Rattle.std.proofs.Common.{◌≡◌, ℕ, List, [], ◌∷◌, ◌++◌, Option, Some}
+use Rattle.std.proofs.Common.{map, filter, sym, ap, ap₂, ◌∙◌}
 use Rattle.js_assert.specs.Pattern.{matches}
 use Rattle.js_bundle.specs.Document.{Documents}
 use Rattle.js_doc.specs.Seen.{pair_of}

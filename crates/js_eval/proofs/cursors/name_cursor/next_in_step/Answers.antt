@@ -1,6 +1,5 @@
-use Rattle.std.proofs.Common.{◌≡◌, ◌∷◌, suc, Some, String, Equal, drop, length, map}
+use Rattle.std.proofs.Common.{◌≡◌, ◌∷◌, suc, Some, ℕ, List, Equal, drop, length, map}
 use Rattle.std.proofs.Common.{refl, ap, ap₂, subst, sym, ◌∙◌, arith}
-use Rattle.std.specs.Global.{Global}
 use Rattle.js_doc.specs.Members.{IsAscending, name_cmp}
 use Rattle.js_doc.specs.Seen.{pair_of, value_of}
 use Rattle.js_doc.specs.declared.doc.Doc.{Doc}

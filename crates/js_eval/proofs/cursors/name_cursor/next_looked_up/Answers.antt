@@ -1,6 +1,5 @@
 use Rattle.std.proofs.Common.{◌≡◌, ◌∷◌, suc, Some, None, option_map, drop, length, map}
-use Rattle.std.proofs.Common.{String, ap, subst, sym, ◌∙◌, arith}
-use Rattle.std.specs.Global.{Global}
+use Rattle.std.proofs.Common.{ℕ, List, ap, subst, sym, ◌∙◌, arith}
 use Rattle.js_doc.specs.Members.{IsAscending, get}
 use Rattle.js_doc.specs.Seen.{pair_of, value_of}
 use Rattle.js_doc.specs.declared.doc.Doc.{Doc}
