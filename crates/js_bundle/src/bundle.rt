@@ -31,7 +31,7 @@ const MOST_DOCUMENTS: usize = 1_000;
 /// Schema documents, each under the URI that it was added with (JSON Schema Core, section 9.1.1). Contracts see
 /// it as the list of its documents.
 pub struct Bundle {
-    documents: Vec<Document>,
+    pub(crate) documents: Vec<Document>,
 }
 
 // By hand, so that it is proved here alone, and crates that own bundles call it.

@@ -8,6 +8,7 @@ ghost use Rattle.js_bundle.specs.Schemas.{place_numbers};
 ghost use Rattle.js_places.specs.Seen.{document_of};
 ghost use Rattle.js_bundle.specs.code.CheckedSite.{checked_site, checked_site_of};
 
+use crate::bundle::Bundle;
 use crate::check::Checked;
 use crate::check::checked_site::CheckedSite;
 use crate::place::Place;
@@ -52,6 +53,17 @@ impl Schemas {
         ensures { result ≡ is_place self.now place }
     {
         place.number < self.checked.sites.len()
+    }
+
+    /// A bundle with the same documents, each a copy.
+    ///
+    /// # Errors
+    /// `Memory`.
+    pub fn to_bundle(&self, alloc: Global) -> Result<Bundle, Memory>
+        ensures { IfOk result (λ b. b ≡ self.now) }
+    {
+        let documents = copies(alloc, self.documents.as_slice())?;
+        Ok(Bundle { documents })
     }
 
     // The documents alone.
@@ -158,4 +170,23 @@ impl Schemas {
         }
         Ok(places)
     }
+}
+
+fn copies(alloc: Global, documents: &[Document]) -> Result<Vec<Document>, Memory>
+    ensures { IfOk result (λ ds. map document_of ds.items ≡ map document_of documents.now) }
+{
+    let mut all = Vec::new(alloc);
+    for document in documents {
+        let copy = copy_of(alloc, document)?;
+        all.push(copy)?;
+    }
+    Ok(all)
+}
+
+fn copy_of(alloc: Global, document: &Document) -> Result<Document, Memory>
+    ensures { IfOk result (λ d. document_of d ≡ document_of document.now) }
+{
+    let uri = document.uri.clone()?;
+    let root = document.root.copy(alloc)?;
+    Ok(Document { uri, root })
 }
