@@ -32,6 +32,6 @@ const it = await import({json.dumps((HERE.parent / "src" / "command" / module).a
 const given = JSON.parse(readFileSync(0, "utf8"));
 process.stdout.write(JSON.stringify({expression}));
 """
-    done = subprocess.run([NODE, "--input-type=module", "-e", code], input=json.dumps(given, ensure_ascii=False), check=True,
-                          stdout=subprocess.PIPE, encoding="utf-8")
+    done = subprocess.run([NODE, "--input-type=module", "-e", code], input=json.dumps(given, ensure_ascii=False),
+                          check=True, stdout=subprocess.PIPE, encoding="utf-8")
     return json.loads(done.stdout)

@@ -87,8 +87,8 @@ failed: none.json: No such file or directory
         self.assertEqual(self.run_inside("validate", "--input", "jsonc", "age.jsonc", "less.jsonc")[2], 1)
         self.write("less.txt", "// é\n7,")
         self.assertEqual(self.run_inside("validate", "--input", "jsonc", "age.jsonc", "less.txt")[1],
-                         "refused[NotJson]: not a JSON text, or nested deeper than 127\n --> less.txt:2:2\n  |\n2 | 7,\n"
-                         "  |  ^ root\n\n0 valid, 0 invalid, 1 refused\n")
+                         "refused[NotJson]: not a JSON text, or nested deeper than 127\n --> less.txt:2:2\n"
+                         "  |\n2 | 7,\n  |  ^ root\n\n0 valid, 0 invalid, 1 refused\n")
 
     def test_wide_characters(self):
         """What is underlined stands below the value, as a terminal shows it; control characters have signs."""

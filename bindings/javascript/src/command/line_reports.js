@@ -14,7 +14,8 @@ export class ShortReport extends Report {
 
   writeResult(result) {
     complain(result);
-    writeOutput(result.problems.filter((it) => it.kind === ERROR).map((it) => this.line(result.input.file, it)).join(""));
+    const errors = result.problems.filter((it) => it.kind === ERROR);
+    writeOutput(errors.map((it) => this.line(result.input.file, it)).join(""));
   }
 
   /** The line for an error. */

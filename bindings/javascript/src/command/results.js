@@ -14,8 +14,8 @@ export const STATUS = Object.freeze({ VALID: 0, INVALID: 1, MISUSE: 2, REFUSED: 
 export const ERROR = "error", REFUSED = "refused", FAILED = "failed";
 
 /**
- * A problem in a file: of a `kind`; its `rule` is the keyword, or the name of the refusal; `range` is what of the file is
- * meant, with lines counted in the file; `pointer` leads to the value; `keywordUri` and `keywordPlace` say where the
+ * A problem in a file: of a `kind`; its `rule` is the keyword, or the name of the refusal; `range` is what of the file
+ * is meant, with lines counted in the file; `pointer` leads to the value; `keywordUri` and `keywordPlace` say where the
  * keyword is, by its URI and in a file; `error` and `refused` are what the package has of it.
  *
  * @typedef {{ kind: string, rule: string, message: string, range: import("./sources.js").Range, pointer: string,

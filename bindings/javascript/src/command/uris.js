@@ -57,8 +57,8 @@ export function fragmentOf(uri) {
 export function documentOf(uri) {
   const { scheme, authority, path, query } = parts(withoutFragment(uri));
   const lower = scheme?.toLowerCase();
-  const whole = WITH_HOST.has(lower) && path === "" ? "/" : path;
-  return made({ scheme: lower, authority: authority?.toLowerCase(), path: quoted(whole), query: query && quoted(query) });
+  const whole = quoted(WITH_HOST.has(lower) && path === "" ? "/" : path);
+  return made({ scheme: lower, authority: authority?.toLowerCase(), path: whole, query: query && quoted(query) });
 }
 
 /** What a part of a URI escapes. What isn't UTF-8 then has signs for that. */
