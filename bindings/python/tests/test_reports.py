@@ -9,6 +9,8 @@ import subprocess
 import unittest
 from xml.etree import ElementTree
 
+import jschema
+import sarif
 from commands import AGE, NAME, Case
 from jschema.command.snippets import WIDTH, snippet, width
 from jschema.interface import MEANINGS
@@ -211,6 +213,39 @@ class Html(Case):
 
 
 class Sarif(Case):
+    def logs(self):
+        """What the report may have: problems of each kind, of lines, of lint, of a refused schema; and nothing."""
+        self.write("rows.jsonl", '{"name": "A"}\n{"name": "é", "age": -1}\n{\n')
+        self.write("lint.json", '{"requierd": 1, "format": "date", "$ref": "#/nowhere"}')
+        self.write("é [x].json", "1")
+        for words in (("validate", "schema.json", *ALL, "é [x].json"), ("validate", "bad.json", "two.json"),
+                      ("validate", "--lines", "schema.json", "rows.jsonl"),
+                      ("lint", "lint.json", "bad.json", "none.json"),
+                      ("validate", "schema.json", "data/ada.json"), ("lint", "schema.json"),
+                      ("validate", "schema.json", str(self.folder / "two.json"))):
+            yield words, self.run_inside(words[0], "--format", "sarif", *words[1:])[0]
+
+    def test_structure(self):
+        """What the standard asks of each object, by hand."""
+        with jschema.Schemas({sarif.URI: sarif.SCHEMA}) as schemas:
+            for words, log in self.logs():
+                with self.subTest(words):
+                    self.assertEqual([str(it) for it in schemas.errors(sarif.URI, log)], [])
+            for wrong in ('{"runs": []}', '{"version": "2.1.0", "runs": [{}]}',
+                          '{"version": "2.1.0", "runs": [{"tool": {"driver": {"name": "x"}}, "results": [{}]}]}'):
+                self.assertFalse(schemas.is_valid(sarif.URI, wrong))
+
+    def test_published_schema(self):
+        """The same by the schema that OASIS publishes, of a package of pip or Debian that has it."""
+        path = sarif.published()
+        if path is None or importlib.util.find_spec("jsonschema") is None:
+            self.skipTest("no package with SARIF's published schema, or pip's jsonschema isn't installed")
+        import jsonschema
+        validator = jsonschema.Draft7Validator(json.loads(path.read_text("utf-8")))
+        for words, log in self.logs():
+            with self.subTest(words):
+                self.assertEqual([it.message for it in validator.iter_errors(json.loads(log))], [])
+
     def test_results(self):
         out, _, status = self.run_inside("validate", "--format", "sarif", "schema.json", *ALL)
         log = json.loads(out)

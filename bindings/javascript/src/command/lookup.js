@@ -76,7 +76,7 @@ export class Lookup {
     this.#isBeside = isBeside;
   }
 
-  /** The files that these refer to, and those in turn, as far as they are found: each with the one that refers to it. */
+  /** The files that these refer to, and those in turn, as far as they are found: each with what refers to it. */
   taken(files) {
     const found = [];
     const paths = new Set(files.map((it) => realPath(it.path)));
