@@ -1,4 +1,5 @@
-"""A YAML text after a change: only the block that holds the change is read again, where that comes to the same."""
+"""A YAML text after a change: only the block that holds the change is read again, where that comes to the same; and of
+a text that isn't YAML any more, only what stands near the change, where that tells why."""
 from __future__ import annotations
 
 import re
@@ -7,9 +8,10 @@ from typing import Callable, NamedTuple, Optional
 from ..errors import Refused
 from ..positions import Text
 from ..scanner import DEEPEST
-from ..sources import Member, Node, Source, read
+from ..sources import Member, Node, Range, Source, Unreadable, read
 from ..sources.source import MarkedSource
 from ..sources.writing import written
+from ..sources.yaml import fault
 
 # What a block may not have: an anchor, which other parts may refer to, and line ends that aren't line feeds.
 _FAR = re.compile(rb"&|\r|\xc2\x85|\xe2\x80[\xa8\xa9]")
@@ -18,6 +20,9 @@ _BEFORE_BLOCK = re.compile(rb" *(?:- +)*")
 _INDENTATION = re.compile(rb"^ *(?=[^ \n])", re.MULTILINE)
 # A block that is a larger part of the text takes as long as the text.
 _PART = 4
+# How far behind a change a text is read to find out that it isn't YAML any more, and the name of the members around it.
+_NEAR = 2048
+_STAND_IN = b"jschema\xef\xb7\x90"
 
 
 class _Change(NamedTuple):
@@ -30,9 +35,12 @@ class _Change(NamedTuple):
 
 def reread(source: Source, data: bytes) -> Optional[Source]:
     """The source of a YAML text, for which that of the text before is used up. None, and nothing is used up, where the
-    text must be read as a whole."""
+    text must be read as a whole. Raises `Unreadable`, and nothing is used up, for a fault of the text that shows near
+    the change; it may not be its first one."""
     if source.kind != "yaml" or _FAR.search(source.data) or source.data.startswith(b"%"):
         return None
+    if source.data == data:
+        return source
     root = source.tree()
     change = _change(source.data, data)
     for path in _paths(source.data, root, change):
@@ -43,7 +51,60 @@ def reread(source: Source, data: bytes) -> Optional[Source]:
         if made is not None and is_same and len(path) + _levels(made) <= DEEPEST:
             _put(path, made, _column(source.data, path[-1]), change.more)
             return MarkedSource("yaml", data, written(root), root, Text(data))
+    found = _fault(source.data, root, data, change)
+    if found is not None:
+        raise found
     return None
+
+
+def _fault(before: bytes, root: Node, data: bytes, change: _Change) -> Optional[Unreadable]:
+    """A fault of a text near its change. It is read from the line of the innermost member or item that begins before
+    the change on, below a frame that stands for the arrays and objects around it."""
+    frame = _frame(before, root, change)
+    if frame is None:
+        return None
+    text, line = frame
+    found = fault(text + data[line:], len(text) + change.end + change.more - line + _NEAR)
+    if found is None or found.range.begin.offset < len(text):
+        return None
+    positions = Text(data)
+    begin, end = (positions.at(it.offset - len(text) + line) for it in found.range)
+    return Unreadable(found.kind, found.meaning, Range(begin, end))
+
+
+def _frame(data: bytes, root: Node, change: _Change) -> Optional[tuple[bytes, int]]:
+    """A text that opens the arrays and objects of which the parser knows at a line, and the byte at which that line
+    begins: the line of the innermost member or item that begins before a change."""
+    path, first = _last_before(data, root, change.begin)
+    line = data.rfind(b"\n", 0, first) + 1
+    indentation = len(data[line:first]) - len(data[line:first].lstrip(b" "))
+    columns = [_column(data, node) for node in path]
+    if not path or -1 in columns or not _BEFORE_BLOCK.fullmatch(data, line, first):
+        return None
+    kind = list if data[line + indentation:line + indentation + 1] == b"-" and line + indentation < first else dict
+    above = next((at for at, node in enumerate(path) if columns[at] == indentation and isinstance(node.content, kind)),
+                 None)
+    if above is None:
+        return None
+    opened = (b" " * column + (b"-\n" if isinstance(node.content, list) else _STAND_IN + b":\n")
+              for column, node in zip(columns[:above], path))
+    return b"".join(opened), line
+
+
+def _last_before(data: bytes, root: Node, end: int) -> tuple[list[Node], int]:
+    """The blocks that begin before a byte, each in the one before it, and where the last member or item begins that the
+    innermost has before that byte."""
+    path: list[Node] = []
+    node, first = root, root.begin
+    while _is_block(data, node) and node.begin < end:
+        path.append(node)
+        begins = [(it.begin, it.value) for it in node.content.values()] if isinstance(node.content, dict) \
+            else [(it.begin, it) for it in node.content if isinstance(it, Node)]
+        before = [it for it in begins if it[0] < end]
+        if not before:
+            break
+        first, node = before[-1]
+    return path, first
 
 
 def _change(before: bytes, after: bytes) -> _Change:
@@ -71,7 +132,7 @@ def _paths(data: bytes, root: Node, change: _Change) -> list[list[Node]]:
         path.append(node)
         last = None
         for _, child in node.children():
-            if child.begin >= change.begin:
+            if child.begin > change.begin:
                 break
             last = child
         node = last
@@ -88,8 +149,11 @@ def _is_open_ended(data: bytes, node: Node) -> bool:
 
 
 def _holds(data: bytes, node: Node, change: _Change) -> bool:
-    is_block = not isinstance(node.content, str) and data[node.begin:node.begin + 1] not in (b"[", b"{")
-    return is_block and node.begin < change.begin and change.end <= _end(data, node)
+    return _is_block(data, node) and node.begin <= change.begin and change.end <= _end(data, node)
+
+
+def _is_block(data: bytes, node: Node) -> bool:
+    return not isinstance(node.content, str) and data[node.begin:node.begin + 1] not in (b"[", b"{")
 
 
 def _end(data: bytes, node: Node) -> int:
