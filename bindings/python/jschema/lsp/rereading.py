@@ -3,6 +3,7 @@ a text that isn't YAML any more, only what stands near the change, where that te
 from __future__ import annotations
 
 import re
+from bisect import bisect_left
 from typing import Callable, NamedTuple, Optional
 
 from ..errors import Refused
@@ -11,7 +12,7 @@ from ..scanner import DEEPEST
 from ..sources import Member, Node, Range, Source, Unreadable, read
 from ..sources.source import MarkedSource
 from ..sources.writing import written
-from ..sources.yaml import fault
+from ..sources.yaml import fault, opened
 
 # What a block may not have: an anchor, which other parts may refer to, and line ends that aren't line feeds.
 _FAR = re.compile(rb"&|\r|\xc2\x85|\xe2\x80[\xa8\xa9]")
@@ -43,6 +44,10 @@ def reread(source: Source, data: bytes) -> Optional[Source]:
         return source
     root = source.tree()
     change = _change(source.data, data)
+    places = _places(source.data, root, change.begin)
+    if not _FAR.search(data, change.begin, change.end + change.more) and \
+            _put_again(source.data, places, change, data):
+        return MarkedSource("yaml", data, written(root), root, Text(data))
     for path in _paths(source.data, root, change):
         end = _end(source.data, path[-1])
         made = _block(data[path[-1].begin:end + change.more], _column(source.data, path[-1]))
@@ -51,60 +56,143 @@ def reread(source: Source, data: bytes) -> Optional[Source]:
         if made is not None and is_same and len(path) + _levels(made) <= DEEPEST:
             _put(path, made, _column(source.data, path[-1]), change.more)
             return MarkedSource("yaml", data, written(root), root, Text(data))
-    found = _fault(source.data, root, data, change)
+    found = _fault(source.data, places, change, data)
     if found is not None:
         raise found
     return None
 
 
-def _fault(before: bytes, root: Node, data: bytes, change: _Change) -> Optional[Unreadable]:
+def _fault(data: bytes, places: list[_Place], change: _Change, after: bytes) -> Optional[Unreadable]:
     """A fault of a text near its change. It is read from the line of the innermost member or item that begins before
-    the change on, below a frame that stands for the arrays and objects around it."""
-    frame = _frame(before, root, change)
+    the change on."""
+    frame = _frame(data, places)
     if frame is None:
         return None
-    text, line = frame
-    found = fault(text + data[line:], len(text) + change.end + change.more - line + _NEAR)
-    if found is None or found.range.begin.offset < len(text):
+    stop = change.end + change.more + _NEAR
+    found = fault(frame.text + after[frame.line:], frame.moved(stop))
+    if found is None or found.range.begin.offset < len(frame.text):
         return None
-    positions = Text(data)
-    begin, end = (positions.at(it.offset - len(text) + line) for it in found.range)
+    positions = Text(after)
+    begin, end = (positions.at(it.offset - frame.moved(0)) for it in found.range)
     return Unreadable(found.kind, found.meaning, Range(begin, end))
 
 
-def _frame(data: bytes, root: Node, change: _Change) -> Optional[tuple[bytes, int]]:
-    """A text that opens the arrays and objects of which the parser knows at a line, and the byte at which that line
-    begins: the line of the innermost member or item that begins before a change."""
-    path, first = _last_before(data, root, change.begin)
-    line = data.rfind(b"\n", 0, first) + 1
-    indentation = len(data[line:first]) - len(data[line:first].lstrip(b" "))
-    columns = [_column(data, node) for node in path]
-    if not path or -1 in columns or not _BEFORE_BLOCK.fullmatch(data, line, first):
+class _Place(NamedTuple):
+    """An array or an object that is a block, and its last member or item that begins before a change: its number, where
+    it begins, and where the next one does."""
+
+    holder: Node
+    number: int
+    begin: int
+    next: Optional[int]
+
+
+class _Frame(NamedTuple):
+    """A text that opens the arrays and objects of which the parser knows where a line begins."""
+
+    text: bytes
+    line: int
+
+    def moved(self, offset: int) -> int:
+        """Where a byte stands if that line follows the frame."""
+        return offset + len(self.text) - self.line
+
+
+def _places(data: bytes, root: Node, end: int) -> list[_Place]:
+    """The blocks that begin before a byte, each in the one before it."""
+    found: list[_Place] = []
+    node = root
+    while _is_block(data, node) and node.begin < end:
+        children: list[tuple[int, Node]] = []
+        if isinstance(node.content, dict):
+            children = [(it.begin, it.value) for it in node.content.values()]
+        elif isinstance(node.content, list):
+            children = [(it.begin, it) for it in node.content]
+        index = bisect_left(children, end, key=lambda it: it[0]) - 1
+        if index < 0:
+            break
+        following = children[index + 1][0] if index + 1 < len(children) else None
+        found.append(_Place(node, index, children[index][0], following))
+        node = children[index][1]
+    return found
+
+
+def _frame(data: bytes, places: list[_Place]) -> Optional[_Frame]:
+    """The frame of the line on which the last of these members and items begins; None where that isn't told by columns
+    alone."""
+    if not places:
         return None
-    kind = list if data[line + indentation:line + indentation + 1] == b"-" and line + indentation < first else dict
-    above = next((at for at, node in enumerate(path) if columns[at] == indentation and isinstance(node.content, kind)),
-                 None)
+    first = places[-1].begin
+    line = data.rfind(b"\n", 0, first) + 1
+    columns = [_column(data, it.holder) for it in places]
+    if -1 in columns or not _BEFORE_BLOCK.fullmatch(data, line, first):
+        return None
+    indentation = len(data[line:first]) - len(data[line:first].lstrip(b" "))
+    kind = list if b"-" in data[line:first] else dict
+    above = next((at for at, it in enumerate(places) if columns[at] == indentation and
+                  isinstance(it.holder.content, kind)), None)
     if above is None:
         return None
-    opened = (b" " * column + (b"-\n" if isinstance(node.content, list) else _STAND_IN + b":\n")
-              for column, node in zip(columns[:above], path))
-    return b"".join(opened), line
+    lines = (b" " * column + (b"-\n" if isinstance(it.holder.content, list) else _STAND_IN + b":\n")
+             for column, it in zip(columns[:above], places))
+    return _Frame(b"".join(lines), line)
 
 
-def _last_before(data: bytes, root: Node, end: int) -> tuple[list[Node], int]:
-    """The blocks that begin before a byte, each in the one before it, and where the last member or item begins that the
-    innermost has before that byte."""
-    path: list[Node] = []
-    node, first = root, root.begin
-    while _is_block(data, node) and node.begin < end:
-        path.append(node)
-        begins = [(it.begin, it.value) for it in node.content.values()] if isinstance(node.content, dict) \
-            else [(it.begin, it) for it in node.content if isinstance(it, Node)]
-        before = [it for it in begins if it[0] < end]
-        if not before:
-            break
-        first, node = before[-1]
-    return path, first
+def _put_again(data: bytes, places: list[_Place], change: _Change, after: bytes) -> bool:
+    """Reads the innermost member or item again that holds the change and isn't the last one, and puts what it has
+    become into the tree. Where the next one begins, the parser must come to where it was before."""
+    for count in range(len(places), 0, -1):
+        place = places[count - 1]
+        if place.next is None or data.rfind(b"\n", 0, place.next) < change.end:
+            continue
+        frame = None if _PART * (place.next - place.begin) > len(data) else _frame(data, places[:count])
+        if frame is None:
+            return False
+        try:
+            made = opened(frame.text + after[frame.line:], frame.moved(place.next + change.more))
+        except Refused:
+            return False
+        return made is not None and len(made) == count and \
+            _replaced(place, made[-1], -frame.moved(0), change.more) and _moved_above(places[:count - 1], change.more)
+    return False
+
+
+def _replaced(place: _Place, made: Node, moved: int, more: int) -> bool:
+    """Puts members or items in place of one of a block, and moves those behind it; not if a name were there twice."""
+    holder, number = place.holder, place.number
+    if isinstance(holder.content, list) and isinstance(made.content, list):
+        _move(made, moved)
+        for it in holder.content[number + 1:]:
+            _move(it, more)
+        holder.content[number:number + 1] = made.content
+    elif isinstance(holder.content, dict) and isinstance(made.content, dict):
+        members = [*holder.content.items()]
+        before, behind = members[:number], members[number + 1:]
+        if not made.content.keys().isdisjoint(name for name, _ in [*before, *behind]):
+            return False
+        _move(made, moved)
+        following: dict[str, Member] = dict(behind)
+        _move(Node(0, 0, following), more)
+        holder.content = {**dict(before), **made.content, **following}
+    else:
+        return False
+    holder.end += more
+    return True
+
+
+def _moved_above(places: list[_Place], more: int) -> bool:
+    """Moves the ends of blocks, and what stands in them behind their last members and items before a change."""
+    for holder, number, _, _ in places:
+        holder.end += more
+        content = holder.content
+        if isinstance(content, list):
+            for it in content[number + 1:]:
+                _move(it, more)
+        elif isinstance(content, dict):
+            for name, (begin, end, value) in [*content.items()][number + 1:]:
+                content[name] = Member(begin + more, end + more, value)
+                _move(value, more)
+    return True
 
 
 def _change(before: bytes, after: bytes) -> _Change:

@@ -39,6 +39,23 @@ def read(data: bytes) -> list[Source]:
     return sources
 
 
+def opened(data: bytes, stop: int) -> Optional[list[Node]]:
+    """The arrays and objects that are open where a name or a value begins at a byte, each in the one before it; None if
+    none begins there. Raises `Unreadable`."""
+    yaml = library("yaml", "YAML is read")
+    lines = _Lines(data)
+    reader = _Reader(yaml, lines)
+    for event in _events(yaml, lines):
+        begin, end = (lines.offset(it.index) for it in (event.start_mark, event.end_mark))
+        # (The end of a block, or a value that isn't written, stands where something else begins.)
+        is_written = not isinstance(event, yaml.CollectionEndEvent) and begin < end or \
+            isinstance(event, yaml.CollectionStartEvent)
+        if begin >= stop and is_written:
+            return reader.open_nodes() if begin == stop else None
+        reader.take(event)
+    return None
+
+
 def fault(data: bytes, stop: int) -> Optional[Unreadable]:
     """What is first wrong with a text, if that shows before an event of the parser that begins after a byte."""
     yaml = library("yaml", "YAML is read")
@@ -139,6 +156,10 @@ class _Reader:
         self._anchors: dict[str, _Anchored] = {}
         self._open: list[_Holder] = []
         self._root: Optional[Node] = None
+
+    def open_nodes(self) -> list[Node]:
+        """The arrays and objects whose end hasn't come."""
+        return [it.node for it in self._open]
 
     def take(self, event: Any) -> Optional[Node]:
         """Takes the next event. Where a document ends, returns its value."""
