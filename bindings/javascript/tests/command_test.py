@@ -16,8 +16,7 @@ ELSEWHERE = (
     (["check"], "no command 'check': the only one is validate\n"),
     (["lint", "schema.json"], "lint is a command of the Python package: this one is validate\n"),
     ([*expectations.SOME, "--formats", "two.json"], "--formats is an option of the Python package's command\n"),
-    *(([*expectations.SOME, "--format", format, "two.json"],
-       f"the format {format} is one of the Python package's command\n") for format in ("html", "sarif", "junit")),
+    ([*expectations.SOME, "--format", "html", "two.json"], "the format html is one of the Python package's command\n"),
 )
 
 
@@ -63,6 +62,18 @@ class Terminal(OnThisCommand, expectations.Terminal):
 
 
 class TextReport(OnThisCommand, reports.TextReport):
+    pass
+
+
+class Sarif(OnThisCommand, reports.Sarif):
+    LINTS = ()
+
+
+class Junit(OnThisCommand, reports.Junit):
+    pass
+
+
+class RefusedSchema(OnThisCommand, reports.RefusedSchema):
     pass
 
 

@@ -9,7 +9,6 @@ import subprocess
 import unittest
 from xml.etree import ElementTree
 
-import jschema
 import sarif
 from commands import AGE, NAME, Case
 from jschema.command.snippets import WIDTH, snippet, width
@@ -198,6 +197,10 @@ class Html(Case):
         self.assertEqual(keywords, ["anyOf", "type", "allOf", "minimum", "maximum"])
         self.assertEqual(out.count("<mark>1</mark>"), 4)
 
+    def test_refused_schema(self):
+        out, _ = self.page("bad.json", "two.json")
+        self.assertIn("BadKeyword", out)
+
     @unittest.skipUnless(shutil.which("chromium"), "needs chromium")
     def test_browser(self):
         """What a browser makes of the page: the counts come first, and a problem is below its file."""
@@ -213,6 +216,9 @@ class Html(Case):
 
 
 class Sarif(Case):
+    #: What lint is asked for. (The JavaScript package's command hasn't any.)
+    LINTS = (("lint", "schema.json"), ("lint", "lint.json", "bad.json", "none.json"))
+
     def logs(self):
         """What the report may have: problems of each kind, of lines, of lint, of a refused schema; and nothing."""
         self.write("rows.jsonl", '{"name": "A"}\n{"name": "é", "age": -1}\n{\n')
@@ -220,20 +226,22 @@ class Sarif(Case):
         self.write("é [x].json", "1")
         for words in (("validate", "schema.json", *ALL, "é [x].json"), ("validate", "bad.json", "two.json"),
                       ("validate", "--lines", "schema.json", "rows.jsonl"),
-                      ("lint", "lint.json", "bad.json", "none.json"),
-                      ("validate", "schema.json", "data/ada.json"), ("lint", "schema.json"),
-                      ("validate", "schema.json", str(self.folder / "two.json"))):
+                      ("validate", "schema.json", "data/ada.json"),
+                      ("validate", "schema.json", str(self.folder / "two.json")), *self.LINTS):
             yield words, self.run_inside(words[0], "--format", "sarif", *words[1:])[0]
 
     def test_structure(self):
         """What the standard asks of each object, by hand."""
-        with jschema.Schemas({sarif.URI: sarif.SCHEMA}) as schemas:
-            for words, log in self.logs():
-                with self.subTest(words):
-                    self.assertEqual([str(it) for it in schemas.errors(sarif.URI, log)], [])
-            for wrong in ('{"runs": []}', '{"version": "2.1.0", "runs": [{}]}',
-                          '{"version": "2.1.0", "runs": [{"tool": {"driver": {"name": "x"}}, "results": [{}]}]}'):
-                self.assertFalse(schemas.is_valid(sarif.URI, wrong))
+        self.write("sarif.json", json.dumps(sarif.SCHEMA))
+        for words, log in self.logs():
+            with self.subTest(words):
+                self.write("log.json", log)
+                self.assertEqual(self.run_inside("validate", "sarif.json", "log.json"),
+                                 ("", "1 valid, 0 invalid\n", 0))
+        for wrong in ('{"runs": []}', '{"version": "2.1.0", "runs": [{}]}',
+                      '{"version": "2.1.0", "runs": [{"tool": {"driver": {"name": "x"}}, "results": [{}]}]}'):
+            self.write("log.json", wrong)
+            self.assertEqual(self.run_inside("validate", "sarif.json", "log.json")[2], 1)
 
     def test_published_schema(self):
         """The same by the schema that OASIS publishes, of a package of pip or Debian that has it."""
@@ -280,7 +288,7 @@ class Sarif(Case):
         self.assertEqual(uris, ["%C3%A9%20x.json", (self.folder / "torn.json").as_uri()])
 
     def test_nothing(self):
-        for words in (("validate", "schema.json", "data/ada.json"), ("lint", "schema.json")):
+        for words in (("validate", "schema.json", "data/ada.json"), *self.LINTS[:1]):
             out, _, status = self.run_inside(words[0], "--format", "sarif", *words[1:])
             [run] = json.loads(out)["runs"]
             self.assertEqual((run["results"], run["invocations"][0]["executionSuccessful"], status), ([], True, 0))
@@ -312,9 +320,6 @@ class RefusedSchema(Case):
             reads(out)
             self.assertIn("BadKeyword", out)
             self.assertEqual((said.count("\n"), status), (1, 3))
-        out, _, _ = self.run_inside("validate", "--format", "html", "bad.json", "two.json")
-        Page().feed(out)
-        self.assertIn("BadKeyword", out)
 
 
 class Sources(unittest.TestCase):

@@ -55,7 +55,7 @@ function walked(uri, source) {
 }
 
 /** The URL of a file, as the URL standard writes it, so that others can refer to it by its name. */
-function fileUrl(path) {
+export function fileUrl(path) {
   return pathToFileURL(resolve(path)).href.replace(ESCAPED, decodeURIComponent);
 }
 

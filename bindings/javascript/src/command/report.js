@@ -38,12 +38,17 @@ export class Report {
   /** After the last result. */
   end(_withSummary = true) {}
 
+  /** How many results have a status. */
+  count(status) {
+    return this.#statuses[status];
+  }
+
   /** How many instances came to what. */
   summary() {
     const errors = this.#errors > 0 ? ` (${this.#errors} error${this.#errors === 1 ? "" : "s"})` : "";
-    const parts = [`${this.#statuses[STATUS.VALID]} valid`, `${this.#statuses[STATUS.INVALID]} invalid${errors}`];
+    const parts = [`${this.count(STATUS.VALID)} valid`, `${this.count(STATUS.INVALID)} invalid${errors}`];
     for (const [status, word] of [[STATUS.REFUSED, "refused"], [STATUS.FAILED, "failed"]]) {
-      if (this.#statuses[status] > 0) parts.push(`${this.#statuses[status]} ${word}`);
+      if (this.count(status) > 0) parts.push(`${this.count(status)} ${word}`);
     }
     return parts.join(", ");
   }

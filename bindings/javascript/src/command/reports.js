@@ -1,10 +1,14 @@
 /** How results are written: for people, for other programs, or as the validator's output. */
 import { FORMATS } from "../engine.js";
 import { GithubReport, ShortReport } from "./line_reports.js";
+import { JunitReport } from "./junit_report.js";
 import { JsonReport, OutputReport } from "./machine_reports.js";
+import { SarifReport } from "./sarif_report.js";
 import { TextReport } from "./text_report.js";
 
-const REPORTS = { text: TextReport, short: ShortReport, json: JsonReport, github: GithubReport };
+const REPORTS = {
+  text: TextReport, short: ShortReport, json: JsonReport, github: GithubReport, sarif: SarifReport, junit: JunitReport,
+};
 
 /** What `--format` may name. */
 export const CHOICES = Object.freeze([...Object.keys(REPORTS), ...FORMATS]);

@@ -2,9 +2,13 @@
 import { readFileSync } from "node:fs";
 import { sharedEngine } from "../engine.js";
 
-/** The version of the package, and that of the module, which checks. */
+/** The version of the package. */
+export function packageVersion() {
+  return JSON.parse(readFileSync(new URL("../../package.json", import.meta.url), "utf8")).version;
+}
+
+/** That, and the version of the module, which checks. */
 export async function versions() {
-  const { version } = JSON.parse(readFileSync(new URL("../../package.json", import.meta.url), "utf8"));
   const { instance } = await sharedEngine();
-  return `jschema ${version}\nengine: the WebAssembly module, version ${instance.version}\n`;
+  return `jschema ${packageVersion()}\nengine: the WebAssembly module, version ${instance.version}\n`;
 }
