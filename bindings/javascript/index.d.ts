@@ -97,6 +97,8 @@ export class ValidationError implements Position {
   readonly absoluteKeywordLocation: string;
   /** The keyword that isn't met; `false` for a schema `false` in a list or an object of schemas. */
   readonly keyword: string;
+  /** Whether a member's name is wrong, and not its value: the error is of `propertyNames`. */
+  readonly isAboutName: boolean;
   /** Where the value begins; for errors of `propertyNames`, where the member's name begins. */
   readonly position: Position;
   readonly offset: number;

@@ -63,6 +63,12 @@ export class Instance {
     return this.#calls.memory.buffer.byteLength;
   }
 
+  /** The version of the library that the module is made of. */
+  get version() {
+    const number = this.#call("jschema_version");
+    return [number / 10_000, number / 100 % 100, number % 100].map(Math.floor).join(".");
+  }
+
   /** Makes a handle, and begins the documents of it. */
   newHandle() {
     const handle = this.#allocated(HANDLE + NUMBER);

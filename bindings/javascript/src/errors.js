@@ -26,8 +26,12 @@ export class ValidationError {
 
   /** Where the value begins in the text; for errors of `propertyNames`, where the member's name begins. */
   get position() {
-    const isName = schemaSteps(this.keywordLocation).some((it) => it.isKeyword && it.token === "propertyNames");
-    return isName ? this.#text.name(this.instanceLocation) : this.#text.value(this.instanceLocation);
+    return this.isAboutName ? this.#text.name(this.instanceLocation) : this.#text.value(this.instanceLocation);
+  }
+
+  /** Whether a member's name is wrong, and not its value: the error is of `propertyNames`. */
+  get isAboutName() {
+    return schemaSteps(this.keywordLocation).some((it) => it.isKeyword && it.token === "propertyNames");
   }
 
   get offset() {

@@ -47,6 +47,17 @@ export class Text {
     return { offset, end };
   }
 
+  /** The same of the member's name; of an item, or the root, of the value. */
+  nameRange(pointer) {
+    const { offset, end, name } = this.#found(pointer).node;
+    return name === undefined ? { offset, end } : { offset: name, end: endOfString(this.string, name) };
+  }
+
+  /** The value of the text as the scanner has it. Throws `NotJson`. */
+  get root() {
+    return this.#found("").node;
+  }
+
   /** A JSON Pointer as the names of members and the indices of items. */
   path(pointer) {
     return this.#found(pointer).path;
@@ -100,6 +111,13 @@ export class Text {
     }
     return this.#lineStarts;
   }
+}
+
+/** The index after the string that begins at an index. */
+function endOfString(text, begin) {
+  let at = begin + 1;
+  for (; text[at] !== '"'; at++) at += text[at] === "\\" ? 1 : 0;
+  return at + 1;
 }
 
 /** How many characters begin between two indices. */

@@ -206,7 +206,7 @@ test("of the requests that wait only the newest is asked, and a slow worker is e
   const wait = () => new Promise((resolve) => {
     told = resolve;
   });
-  const checker = new Checker({ start: () => new Echo(), module, tell, milliseconds: 50 });
+  const checker = new Checker({ start: () => new Echo(), module, tell, milliseconds: 1000 });
   for (const it of ["a", "b", "c", "never"]) checker.ask(it);
   await wait();
   assert.deepEqual([Echo.asked, Echo.started], [["a", "never"], 1]);
@@ -214,7 +214,7 @@ test("of the requests that wait only the newest is asked, and a slow worker is e
   await wait();
   assert.equal(Echo.started, 2);
   await wait();
-  assert.deepEqual(answers, [["a", "a!"], ["never", "no answer after 0.05 s"], ["d", "d!"]]);
+  assert.deepEqual(answers, [["a", "a!"], ["never", "no answer after 1 s"], ["d", "d!"]]);
 });
 
 test("a link holds the whole state", async () => {

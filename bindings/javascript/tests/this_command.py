@@ -1,4 +1,5 @@
 """How the expectations of the Python package's command are put to the command of this package."""
+import json
 import os
 import subprocess
 import sys
@@ -10,20 +11,27 @@ sys.path[:0] = [str(HERE.parents[2]), str(PYTHON), str(PYTHON / "tests")]
 
 NODE = os.environ.get("JSCHEMA_NODE", "node")
 SCRIPT = str(HERE.parent / "bin" / "jschema.js")
-COMMAND = [NODE, SCRIPT]
 
 
 class OnThisCommand:
     """Runs the command of this package."""
 
-    def run_command(self, *words, given=""):
-        """Standard output, standard error, and the exit status."""
-        done = subprocess.run([*COMMAND, *words], input=given, cwd=self.folder, check=False,
-                              stdout=subprocess.PIPE, stderr=subprocess.PIPE, encoding="utf-8")
-        return done.stdout, done.stderr, done.returncode
+    COMMAND = [NODE, SCRIPT]
+    NAME = "npx jschema"
 
-    def run_in_shell(self, script, *words):
-        """The same of a script for bash, whose arguments are the command and these words."""
-        done = subprocess.run(["bash", "-c", script, "bash", *COMMAND, *words], cwd=self.folder, check=False,
-                              stdin=subprocess.DEVNULL, stdout=subprocess.PIPE, stderr=subprocess.PIPE, text=True)
-        return done.stdout, done.stderr, done.returncode
+    def run_inside(self, *words):
+        """Standard output, standard error, and the exit status. (Python's command runs in the tests' process there.)"""
+        return self.run_command(*words)
+
+
+def evaluated(module, expression, given):
+    """The value of an expression in JavaScript, in which `it` is a module of the command, and `given` this value."""
+    code = f"""
+import {{ readFileSync }} from "node:fs";
+const it = await import({json.dumps((HERE.parent / "src" / "command" / module).as_uri())});
+const given = JSON.parse(readFileSync(0, "utf8"));
+process.stdout.write(JSON.stringify({expression}));
+"""
+    done = subprocess.run([NODE, "--input-type=module", "-e", code], input=json.dumps(given, ensure_ascii=False),
+                          check=True, stdout=subprocess.PIPE, encoding="utf-8")
+    return json.loads(done.stdout)

@@ -1,6 +1,7 @@
 """The files that the tests of the command validate, and how they run it."""
 import io
 import os
+import pty
 import subprocess
 import sys
 import tempfile
@@ -43,6 +44,10 @@ SOME = ["validate", "--schema", "schema.json", "--format", "short"]
 
 
 class Case(unittest.TestCase):
+    #: The command, and how it is called. (The JavaScript package puts these expectations to its own.)
+    COMMAND = [sys.executable, "-m", "jschema"]
+    NAME = "python -m jschema"
+
     @classmethod
     def setUpClass(cls):
         folder = tempfile.TemporaryDirectory()
@@ -55,9 +60,37 @@ class Case(unittest.TestCase):
 
     def run_command(self, *words, given=""):
         """Standard output, standard error, and the exit status."""
-        done = subprocess.run([sys.executable, "-m", "jschema", *words], input=given, cwd=self.folder, check=False,
+        done = subprocess.run([*self.COMMAND, *words], input=given, cwd=self.folder, check=False,
                               stdout=subprocess.PIPE, stderr=subprocess.PIPE, encoding="utf-8")
         return done.stdout, done.stderr, done.returncode
+
+    def run_in_shell(self, script, *words):
+        """The same of a script for bash, whose arguments are the command and these words."""
+        done = subprocess.run(["bash", "-c", script, "bash", *self.COMMAND, *words], cwd=self.folder, check=False,
+                              stdin=subprocess.DEVNULL, stdout=subprocess.PIPE, stderr=subprocess.PIPE, text=True)
+        return done.stdout, done.stderr, done.returncode
+
+    def on_terminal(self, *words, **environment):
+        """What a terminal gets of both streams."""
+        ours, theirs = pty.openpty()
+        environment = {name: it for name, it in {**os.environ, **environment}.items() if it}
+        with subprocess.Popen([*self.COMMAND, *words], cwd=self.folder, stdin=subprocess.DEVNULL, stdout=theirs,
+                              stderr=theirs, env=environment):
+            os.close(theirs)
+            found = b""
+            while True:
+                try:
+                    found += os.read(ours, 1 << 16)
+                except OSError:
+                    break
+        os.close(ours)
+        return found.decode()
+
+    def output(self, environment, *words):
+        """The bytes of standard output, in an environment."""
+        return subprocess.run([*self.COMMAND, "validate", *words], cwd=self.folder, check=False,
+                              stdout=subprocess.PIPE, stderr=subprocess.DEVNULL,
+                              env={**os.environ, **environment}).stdout
 
     def run_inside(self, *words):
         """The same, in this process: without standard input, and sooner."""

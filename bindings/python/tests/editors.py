@@ -36,6 +36,13 @@ vim.api.nvim_win_set_cursor(0, { 3, 0 })
 vim.api.nvim_feedkeys(vim.api.nvim_replace_termcodes('A, "<Esc>', true, false, true), "xt", false)
 vim.api.nvim_win_set_cursor(0, { 3, 12 })
 line("completion", vim.tbl_map(function(it) return it.label end, ask("completion").items))
+vim.cmd("edit! empty.person.json")
+wait(1)
+local params = vim.lsp.util.make_range_params()
+params.context = { diagnostics = {} }
+local _, fixes = next(vim.lsp.buf_request_sync(0, "textDocument/codeAction", params, 20000))
+vim.lsp.util.apply_workspace_edit(fixes.result[1].edit, "utf-16")
+line("fixed", vim.api.nvim_buf_get_lines(0, 0, -1, false))
 vim.cmd("qa!")
 """
 

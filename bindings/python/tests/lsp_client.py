@@ -139,6 +139,7 @@ CAPABILITIES = {"textDocument": {
     "hover": {"contentFormat": ["markdown", "plaintext"]},
     "completion": {"completionItem": {"snippetSupport": True}},
     "documentSymbol": {"hierarchicalDocumentSymbolSupport": True},
+    "codeAction": {"codeActionLiteralSupport": {"codeActionKind": {"valueSet": ["quickfix"]}}},
     "publishDiagnostics": {"relatedInformation": True}}}
 
 
@@ -169,9 +170,13 @@ class Session(unittest.TestCase):
     def uri(self, name):
         return (self.folder / name).as_uri()
 
+    #: What the client can do beside.
+    WORKSPACE = {}
+
     def start(self, **settings):
         """Begins a session, and returns what the server can do."""
-        result = self.client.call("initialize", processId=None, rootUri=self.folder.as_uri(), capabilities=CAPABILITIES,
+        result = self.client.call("initialize", processId=None, rootUri=self.folder.as_uri(),
+                                  capabilities={**CAPABILITIES, "workspace": self.WORKSPACE},
                                   initializationOptions=settings or {"schemas": SCHEMAS})
         self.client.notify("initialized")
         return result

@@ -1,21 +1,16 @@
 """The command: what it writes, its exit statuses, and what it says of a misuse."""
 import json
 import os
-import pty
 import subprocess
 import sys
 
 from commands import AGE, NAME, SOME, TWO_LINES, Case
 
 MISUSES = (
-    ([], "name the command: validate or lint\n"),
-    (["check"], "no command 'check': there are validate and lint\n"),
     (["validate"], "the following arguments are required: SCHEMA and INSTANCE\n"),
     (["validate", "schema.json"], "the following arguments are required: INSTANCE\n"),
     (SOME, "the following arguments are required: INSTANCE\n"),
-    (["lint"], "the following arguments are required: SCHEMA\n"),
     ([*SOME, "--format", "xml", "two.json"], "argument --format: invalid choice: 'xml' (choose from "),
-    (["lint", "--format", "basic", "schema.json"], "argument --format: invalid choice: 'basic' (choose from "),
     ([*SOME, "--input", "xml", "two.json"], "argument --input: invalid choice: 'xml' (choose from "),
     ([*SOME, "--lines", "--input", "yaml", "two.json"], "--lines is for JSON: no line of yaml is a document\n"),
     ([*SOME, "--jobs", "0", "two.json"], "argument --jobs: '0' isn't a number from 1 to 256\n"),
@@ -26,12 +21,25 @@ MISUSES = (
     ([*SOME, "--input", "toml", "empty"], "empty has no file .toml: name its files one by one\n"),
     ([*SOME, "--schema", "other.json", "two.json"], "--schema is given 2 times: it names one file"),
     ([*SOME, ""], "an INSTANCE has an empty name"),
-    (["lint", ""], "a SCHEMA has an empty name"),
     (["validate", "--schema", "", "two.json"], "--schema has an empty name"),
     ([*SOME, "--ref", "urn:x=", "two.json"], "--ref has an empty name"),
-    ([*SOME, "--ref", "urn:\udcff=string.json", "two.json"], "the URI 'urn:\\udcff' isn't UTF-8"),
     ([*SOME, "-", "-"], "- is named 2 times: standard input"),
+    (["validate", "--bad", "x"], "unrecognized arguments: --bad\n"),
+    (["validate", "--schema"], "argument --schema: expected one argument\n"),
+    (["validate", "--jobs=999", "x"], "argument --jobs: '999' isn't a number from 1 to 256\n"),
+    (["validate", "--ref", "urn:x=data", "schema.json", "two.json"],
+     "data is a folder: name the file of one schema after --ref\n"),
 )
+# Those of this command alone.
+OWN_MISUSES = (
+    ([], "name the command: validate or lint\n"),
+    (["check"], "no command 'check': there are validate and lint\n"),
+    (["lint"], "the following arguments are required: SCHEMA\n"),
+    (["lint", "--format", "basic", "schema.json"], "argument --format: invalid choice: 'basic' (choose from "),
+    (["lint", ""], "a SCHEMA has an empty name"),
+    ([*SOME, "--ref", "urn:\udcff=string.json", "two.json"], "the URI 'urn:\\udcff' isn't UTF-8"),
+)
+NO_INPUT = "<stdin>: failed: standard input is closed\n0 valid, 0 invalid, 1 failed\n"
 
 
 class Files(Case):
@@ -107,6 +115,8 @@ class Refusals(Case):
                    "none.json: failed: No such file or directory\n0 valid, 1 invalid (2 errors), 1 failed\n", 4)
         self.judge(["two.json"], "", "jschema: none.json: No such file or directory\n", 4, schema="none.json")
 
+
+class Engines(Case):
     def test_engine_is_missing(self):
         for environment, said in (({"JSCHEMA": "/nowhere", "JSCHEMA_LIBRARY": "off"},
                                    "JSCHEMA names /nowhere, which is no program"),
@@ -117,46 +127,57 @@ class Refusals(Case):
                                   env={**os.environ, **environment})
             self.assertEqual((done.stderr, done.returncode), (f"jschema: {said}\n", 2))
 
+
+class Streams(Case):
+    #: Streams that are closed, what is said then, and the status.
+    CLOSED = (("two.json >&-", "jschema: standard output is closed\n", 4),
+              ("- <&-", NO_INPUT, 4), ("--lines - <&-", NO_INPUT, 4))
+
     def test_closed_streams(self):
-        for words, said in (("two.json >&-", "jschema: standard output is closed\n"),
-                            ("- <&-", "<stdin>: failed: standard input is closed\n0 valid, 0 invalid, 1 failed\n"),
-                            ("--lines - <&-",
-                             "<stdin>: failed: standard input is closed\n0 valid, 0 invalid, 1 failed\n")):
+        for words, said, status in self.CLOSED:
             with self.subTest(words):
-                done = subprocess.run(["bash", "-c", f'"$@" {words}', "bash", sys.executable, "-m", "jschema", *SOME],
-                                      cwd=self.folder, check=False, stdout=subprocess.PIPE, stderr=subprocess.PIPE,
-                                      text=True)
-                self.assertEqual((done.stdout, done.stderr, done.returncode), ("", said, 4))
+                self.assertEqual(self.run_in_shell(f'"$@" {words}', *SOME), ("", said, status))
 
     def test_closed_error_stream(self):
         for words, status in (("two.json", 1), ("none.json", 4), ("", 2)):
-            done = subprocess.run(["bash", "-c", f'"$@" --format flag {words} 2>&-', "bash", sys.executable, "-m",
-                                   "jschema", *SOME], cwd=self.folder, check=False, stdout=subprocess.PIPE, text=True)
-            self.assertEqual(done.returncode, status)
-            self.assertNotIn("jschema:", done.stdout)
+            out, _, ended = self.run_in_shell(f'"$@" --format flag {words} 2>&-', *SOME)
+            self.assertEqual(ended, status)
+            self.assertNotIn("jschema:", out)
 
-    def test_any_exception(self):
-        """Whatever is raised, a run doesn't end like one with an invalid instance."""
-        for error in ("ZeroDivisionError('a\\nb')", "RecursionError()", "MemoryError()", "AssertionError()"):
-            with self.subTest(error):
-                code = f"""
+    def test_full_streams(self):
+        """A write that fails ends with 4, and so does a message of this that can't be written."""
+        said = "jschema: standard output: No space left on device\n"
+        self.assertEqual(self.run_in_shell('"$@" two.json >/dev/full', *SOME), ("", said, 4))
+        for words, status in (("two.json", 4), ("none.json", 4), ("", 2)):
+            self.assertEqual(self.run_in_shell(f'"$@" {words} 2>/dev/full', *SOME)[1:], ("", status))
+
+    def test_closed_pipe(self):
+        self.assertEqual(self.run_in_shell('{ sleep 0.5; "$@"; echo "$?" >&2; } | true', *SOME, "two.json"),
+                         ("", "4\n", 0))
+
+
+class Exceptions(Case):
+    #: What is raised.
+    RAISED = ("ZeroDivisionError('a\\nb')", "RecursionError()", "MemoryError()", "AssertionError()")
+
+    def raising(self, raised):
+        """A command that raises this."""
+        return [sys.executable, "-c", f"""
 import sys
 from unittest import mock
 from jschema import command
-with mock.patch.object(command, "validate", side_effect={error}):
+with mock.patch.object(command, "validate", side_effect={raised}):
     sys.exit(command.main(sys.argv[1:]))
-"""
-                done = subprocess.run([sys.executable, "-c", code, *SOME, "two.json"], cwd=self.folder, check=False,
+"""]
+
+    def test_any_exception(self):
+        """Whatever is raised, a run doesn't end like one with an invalid instance."""
+        for raised in self.RAISED:
+            with self.subTest(raised):
+                done = subprocess.run([*self.raising(raised), *SOME, "two.json"], cwd=self.folder, check=False,
                                       stdout=subprocess.PIPE, stderr=subprocess.PIPE, text=True)
                 self.assertEqual((done.stdout, done.returncode), ("", 4))
                 self.assertRegex(done.stderr, r"\Ajschema: \w.*\n\Z")
-
-    def test_closed_pipe(self):
-        done = subprocess.run(["bash", "-c", '"$@" | true; echo "${PIPESTATUS[0]}"', "bash", sys.executable, "-c",
-                               "import sys, time; from jschema.command import main; time.sleep(0.3); "
-                               "sys.exit(main(sys.argv[1:]))", "validate", "--schema", "schema.json", "two.json"],
-                              cwd=self.folder, check=True, stdout=subprocess.PIPE, stderr=subprocess.PIPE, text=True)
-        self.assertEqual((done.stdout, done.stderr), ("4\n", ""))
 
 
 class Formats(Case):
@@ -213,8 +234,10 @@ class Formats(Case):
 
 
 class Misuse(Case):
+    OWN = OWN_MISUSES
+
     def test_misuse(self):
-        for words, said in MISUSES:
+        for words, said in (*MISUSES, *self.OWN):
             with self.subTest(words):
                 out, errors, status = self.run_command(*words)
                 self.assertEqual((out, status), ("", 2))
@@ -222,25 +245,18 @@ class Misuse(Case):
 
     def test_example_in_the_message(self):
         _, errors, _ = self.run_command("validate", "two.json")
-        self.assertIn("\nfor example: python -m jschema validate person.schema.json ada.json\n", errors)
+        self.assertIn(f"\nfor example: {self.NAME} validate person.schema.json ada.json\n", errors)
+
+    def test_help(self):
+        out, errors, status = self.run_command("--help")
+        self.assertTrue(out.startswith(f"usage: {self.NAME} validate"))
+        self.assertEqual((errors, status), ("", 0))
 
 
 class Terminal(Case):
     def shown(self, *words, **environment):
-        """What a terminal gets of both streams."""
-        ours, theirs = pty.openpty()
-        environment = {name: it for name, it in {**os.environ, **environment}.items() if it}
-        with subprocess.Popen([sys.executable, "-m", "jschema", *SOME, *words],
-                              cwd=self.folder, stdin=subprocess.DEVNULL, stdout=theirs, stderr=theirs, env=environment):
-            os.close(theirs)
-            found = b""
-            while True:
-                try:
-                    found += os.read(ours, 1 << 16)
-                except OSError:
-                    break
-        os.close(ours)
-        return found.decode()
+        """What a terminal gets of a validation."""
+        return self.on_terminal(*SOME, *words, **environment)
 
     def test_colours(self):
         line = "\x1b[1mdata/sub/bob.json:2:2:\x1b[0m \x1b[31mtype is integer\x1b[0m " \

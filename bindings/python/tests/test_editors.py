@@ -59,6 +59,7 @@ class Editors(unittest.TestCase):
         self.write("schemas/person.schema.json", PERSON)
         self.write("schemas/address.schema.json", "{}")
         self.write("ada.person.json", ADA)
+        self.write("empty.person.json", "{}\n")
         self.write("bin/jschema-lsp", f'#!/bin/sh\nexec {sys.executable} -m jschema.lsp "$@"\n')
         (self.folder / "bin" / "jschema-lsp").chmod(0o755)
 
@@ -85,7 +86,7 @@ class Editors(unittest.TestCase):
         self.assertEqual(said["typed"], [[2, 8, 10, "minimum"]])
         self.assertEqual(said["hover"], "**Name**\n\nAs *written*.\n\nexamples: `\"Ada\"`, `\"Bob\"`")
         self.assertEqual(said["completion"], ["colour", "address", "friends"])
-        self.assertEqual(said["definition"], 1)
+        self.assertEqual((said["definition"], said["fixed"]), (1, ['{"name": ""}']))
 
     @unittest.skipUnless(has_eglot(), "emacs with eglot isn't installed")
     def test_emacs(self):

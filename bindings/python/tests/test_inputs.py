@@ -6,7 +6,6 @@ import resource
 import socket
 import string
 import subprocess
-import sys
 from urllib.parse import quote
 
 from commands import AGE, SOME, Case
@@ -20,21 +19,22 @@ PR_CAPBSET_DROP = 24
 CAP_DAC_OVERRIDE, CAP_DAC_READ_SEARCH = 1, 2
 
 
-def bounded():
-    """Bounds the memory of this process, and takes root's right to read everything from what it runs."""
-    resource.setrlimit(resource.RLIMIT_AS, (ROOM, ROOM))
-    for right in (CAP_DAC_OVERRIDE, CAP_DAC_READ_SEARCH):
-        ctypes.CDLL(None).prctl(PR_CAPBSET_DROP, right, 0, 0, 0)
-
-
 class Inputs(Case):
+    #: What the memory of a process counts as.
+    LIMIT = resource.RLIMIT_AS
+
+    def bounded(self):
+        """Bounds the memory of this process, and takes root's right to read everything from what it runs."""
+        resource.setrlimit(self.LIMIT, (ROOM, ROOM))
+        for right in (CAP_DAC_OVERRIDE, CAP_DAC_READ_SEARCH):
+            ctypes.CDLL(None).prctl(PR_CAPBSET_DROP, right, 0, 0, 0)
+
     def ended(self, *words, given=None):
         """The status, standard output and standard error of a run that may not take much memory, nor read what nobody
         may read."""
-        command = [sys.executable, "-m", "jschema", "validate", "--format", "short"]
-        done = subprocess.run([*command, *words], cwd=self.folder, check=False,
+        done = subprocess.run([*self.COMMAND, "validate", "--format", "short", *words], cwd=self.folder, check=False,
                               stdin=given or subprocess.DEVNULL, stdout=subprocess.PIPE, stderr=subprocess.PIPE,
-                              timeout=60, preexec_fn=bounded)
+                              timeout=180, preexec_fn=self.bounded)
         return done.returncode, done.stdout.decode(), done.stderr.decode()
 
 

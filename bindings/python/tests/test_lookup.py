@@ -1,4 +1,5 @@
 """Documents that others refer to, found in folders and beside the files: on this disk alone."""
+import importlib.util
 import json
 import os
 import socket
@@ -6,7 +7,6 @@ import unittest
 from unittest import mock
 
 from commands import Case
-from jschema.lookup import Lookup, schema_file
 from jschema.uris import document_of, joined
 
 STRING = '{"type": "string"}'
@@ -24,17 +24,27 @@ RESOLVED = (
 )
 
 
+# URIs, and the form in which the validator writes them.
+WRITTEN = (("HTTPS://A.example", "https://a.example/"), ("https://a/b c#d", "https://a/b%20c"),
+           ("file:///é", "file:///%C3%A9"), ("https://a/%20", "https://a/%20"), ("urn:X", "urn:X"))
+
+
 class Uris(unittest.TestCase):
+    def joined(self, base, references):
+        """References, resolved against a base."""
+        return [joined(base, reference) for reference in references]
+
+    def written(self, uris):
+        """URIs in the form of the validator."""
+        return [document_of(uri) for uri in uris]
+
     def test_resolution(self):
-        for reference, expected in RESOLVED:
-            self.assertEqual(joined("http://a/b/c/d;p?q", reference), expected)
-        self.assertEqual(joined("urn:a:b", "#c"), "urn:a:b#c")
-        self.assertEqual(joined("schema:///", "x.json"), "schema:///x.json")
+        self.assertEqual(self.joined("http://a/b/c/d;p?q", [it for it, _ in RESOLVED]), [it for _, it in RESOLVED])
+        self.assertEqual(self.joined("urn:a:b", ["#c"]), ["urn:a:b#c"])
+        self.assertEqual(self.joined("schema:///", ["x.json"]), ["schema:///x.json"])
 
     def test_the_form_of_the_validator(self):
-        for uri, expected in (("HTTPS://A.example", "https://a.example/"), ("https://a/b c#d", "https://a/b%20c"),
-                              ("file:///é", "file:///%C3%A9"), ("https://a/%20", "https://a/%20"), ("urn:X", "urn:X")):
-            self.assertEqual(document_of(uri), expected)
+        self.assertEqual(self.written([it for it, _ in WRITTEN]), [it for _, it in WRITTEN])
 
 
 class Commands(Case):
@@ -52,16 +62,16 @@ class Commands(Case):
 
     def test_siblings(self):
         main = self.write("beside/main.json", '{"$ref": "./one.schema.json"}')
-        self.write("beside/one.schema.json", '{"$ref": "sub/two.yaml#/$defs/s"}')
-        self.write("beside/sub/two.yaml", "$defs:\n  s: {$ref: ../three%20é.json}\n")
+        self.write("beside/one.schema.json", '{"$ref": "sub/two.jsonc#/$defs/s"}')
+        self.write("beside/sub/two.jsonc", '{"$defs": {"s": {"$ref": "../three%20é.json"}}} // é\n')
         self.write("beside/three é.json", STRING)
         status, said = self.verdict(main)
         self.assertEqual(status, 0)
         self.assertEqual(said, "".join(
             f"jschema: beside/{name} is taken for file:///beside/{uri}, which beside/{by} refers to\n"
             for name, uri, by in (("one.schema.json", "one.schema.json", "main.json"),
-                                  ("sub/two.yaml", "sub/two.yaml", "one.schema.json"),
-                                  ("three é.json", "three%20%C3%A9.json", "sub/two.yaml"))))
+                                  ("sub/two.jsonc", "sub/two.jsonc", "one.schema.json"),
+                                  ("three é.json", "three%20%C3%A9.json", "sub/two.jsonc"))))
         self.assertEqual(self.verdict("--no-ref-siblings", main)[0], 3)
 
     def test_siblings_of_a_document_with_a_name(self):
@@ -97,8 +107,8 @@ class Commands(Case):
     def test_folder(self):
         """Of a folder those are taken that are referred to: the others may be anything."""
         main = self.write("main.json", '{"allOf": [{"$ref": "https://a.example/s"}, {"$ref": "urn:t#/$defs/u"}]}')
-        self.write("folder/deep/s.json", '{"$id": "https://a.example/s", "$ref": "file.yaml"}')
-        self.write("folder/deep/file.yaml", "type: string\n")
+        self.write("folder/deep/s.json", '{"$id": "https://a.example/s", "$ref": "file.jsonc"}')
+        self.write("folder/deep/file.jsonc", '{"type": "string",}')
         self.write("folder/t.json", '{"$defs": {"t": {"$id": "urn:t", "$defs": {"u": true}}}}')
         for name, text in (("broken.json", "{"), ("wrong.json", '{"type": 1}'), ("list.json", "[1]"),
                            ("twice.json", '{"$id": "https://c.example/x"}'), ("x.yaml", "a: [")):
@@ -115,15 +125,39 @@ class Commands(Case):
         self.assertEqual(self.verdict("--ref", "elsewhere", main)[0], 0)
 
     def test_broken_sibling(self):
-        main = self.write("bad/main.json", '{"$ref": "s.yaml"}')
-        self.write("bad/s.yaml", "a: 1\nb: [\n")
-        out, said, status = self.run_inside("validate", "--format", "short", main, "a.json")
+        main = self.write("bad/main.json", '{"$ref": "s.json"}')
+        self.write("bad/s.json", '{"a": 1,\n b}')
+        out, said, status = self.run_inside("validate", "--format", "short", main, "two.json")
         self.assertEqual((out, status), ("", 3))
-        self.assertRegex(said, r"\Abad/s\.yaml:3:1: refused: .* \(root; NotYaml\)\n")
+        self.assertEqual(said, "bad/s.json:2:2: refused: not a JSON text, or nested deeper than 127 (root; NotJson)\n")
 
     def test_each_is_taken_once(self):
         """A document that refers to itself, and two that refer to one another by several names."""
         first = self.write("once/a.json", '{"$ref": "b.json", "$defs": {"a": {"$ref": "../once/./b.json"}}}')
         self.write("once/b.json", '{"$ref": "#/$defs/s", "$defs": {"s": {"type": "string"}, "a": {"$ref": "a.json"}}}')
-        file = schema_file(str(self.folder / first))
-        self.assertEqual([os.path.basename(it.file.path) for it in Lookup([], True).taken([file])], ["b.json"])
+        status, said = self.verdict(first)
+        self.assertEqual((status, said), (0, "jschema: once/b.json is taken for file:///once/b.json, which once/a.json "
+                                             "refers to\n"))
+
+    def test_place_in_a_sibling(self):
+        """The report shows where a keyword stands in the file that was taken."""
+        main = self.write("shown/main.json", '{"$id": "https://a.example/main", "$ref": "sub.json#/$defs/s~1"}')
+        self.write("shown/sub.json", '{"$defs": {\n "s/": {"minimum": 0}}}')
+        self.write("minus.json", "-1")
+        out, _, _ = self.run_inside("validate", main, "minus.json")
+        self.assertIn("  = shown/sub.json:2:9: minimum\n  = https://a.example/sub.json#/$defs/s~1/minimum\n", out)
+
+
+@unittest.skipUnless(importlib.util.find_spec("yaml"), "needs PyYAML")
+class Yaml(Case):
+    def test_sibling(self):
+        main = self.write("yaml/main.json", '{"$ref": "s.yaml"}')
+        self.write("yaml/s.yaml", "type: string\n")
+        self.assertEqual(self.run_inside("validate", main, "two.json")[2], 1)
+
+    def test_broken_sibling(self):
+        main = self.write("bad/main.json", '{"$ref": "s.yaml"}')
+        self.write("bad/s.yaml", "a: 1\nb: [\n")
+        out, said, status = self.run_inside("validate", "--format", "short", main, "two.json")
+        self.assertEqual((out, status), ("", 3))
+        self.assertRegex(said, r"\Abad/s\.yaml:3:1: refused: .* \(root; NotYaml\)\n")

@@ -45,28 +45,45 @@ class Rereading(unittest.TestCase):
         end = begin + numbers.choice((0, 0, 1, 1, 2, 8))
         return text[:begin] + numbers.choice(LINES) + numbers.choice(("", "", "\n", "\n      ")) + text[end:]
 
-    def test_random_edits(self):
+    def setUp(self):
         once(self)
+        # How often a text was read in part and as a whole; how often one that isn't YAML was, and with the same fault.
+        self.again = self.whole = self.faults = self.unread = self.same = 0
+
+    def test_random_edits(self):
         numbers = random.Random(6)
-        again = whole = 0
         for _ in range(40):
             text = document(numbers)
             source = read(text.encode(), "yaml")[0]
             for _ in range(8):
                 changed = self.edited(numbers, text)
-                found = reread(source, changed.encode())
-                try:
-                    expected = read(changed.encode(), "yaml")
-                except Refused:
-                    expected = []
-                if found is not None:
-                    again += 1
-                    self.assertEqual(len(expected), 1, (text, changed))
-                    self.assertEqual((found.json, shape(found.tree())), (expected[0].json, shape(expected[0].tree())),
-                                     (text, changed))
-                elif len(expected) == 1:
-                    whole += 1
-                if len(expected) != 1:
-                    continue
-                text, source = changed, found or expected[0]
-        self.assertGreater(again, whole / 4)
+                source, text = self.judged(source, text, changed)
+        self.assertGreater(self.again, self.whole / 4)
+        self.assertGreater(self.faults, self.unread)
+        self.assertGreater(self.same, self.faults * 0.8)
+
+    def judged(self, source, text, changed):
+        """Compares the two ways to read a changed text, and returns the last that could be read."""
+        refused = None
+        try:
+            expected = read(changed.encode(), "yaml")
+        except Refused as error:
+            expected, refused = [], error
+        try:
+            found = reread(source, changed.encode())
+        except Refused as error:
+            self.assertIsNotNone(refused, (text, changed))
+            self.faults += 1
+            self.same += (error.meaning, error.range) == (refused.meaning, refused.range)
+            # (What is wrong with it shows; it may have other faults before.)
+            self.assertGreaterEqual(error.range.begin.offset, refused.range.begin.offset, (text, changed))
+            return source, text
+        if found is not None:
+            self.again += 1
+            self.assertEqual(len(expected), 1, (text, changed))
+            self.assertEqual((found.json, shape(found.tree())), (expected[0].json, shape(expected[0].tree())),
+                             (text, changed))
+        elif len(expected) == 1:
+            self.whole += 1
+        self.unread += refused is not None
+        return (found or expected[0], changed) if len(expected) == 1 else (source, text)

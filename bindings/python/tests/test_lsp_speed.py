@@ -18,6 +18,9 @@ SCHEMA = {
 # What is typed, what was there, and how many problems the document then has.
 CHANGES = {"another letter in a string": ("name ", "nane ", 0), "a value that breaks off": (": true", ": tru1", 1),
            "a name that isn't allowed": ("tags", "tagz", 1)}
+YAML_CHANGES = {"another letter in a string": ("name ", "nane ", 0), "a quote without its end": ("name ", '"name ', 1),
+                "a bracket without its end": ("name ", "[name ", 1), "a colon too many": ("name ", "name: ", 1),
+                "a line further left": ("  active", " active", 1), "another first name": ("id: ", "jd: ", 2)}
 
 
 def rows(size):
@@ -38,13 +41,15 @@ class Speed(Session):
                 self.typed("json", text, *change)
 
     def test_yaml(self):
-        """Of a text that stays YAML only the block with the change is read again."""
+        """Only the block with the change is read again; of a text that isn't YAML any more, what stands near it."""
         try:
             import yaml
         except ImportError:
             self.skipTest("PyYAML isn't installed")
         text = yaml.safe_dump(json.loads(rows(SIZE)), sort_keys=False)
-        self.typed("yaml", text, *CHANGES["another letter in a string"])
+        for what, change in YAML_CHANGES.items():
+            with self.subTest(what):
+                self.typed("yaml", text, *change)
 
     def typed(self, kind, text, found, new, problems):
         """Types in the middle of a document, and there again."""

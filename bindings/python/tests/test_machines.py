@@ -1,8 +1,6 @@
 """The formats for machines: a line or an object for each instance, in UTF-8 whatever the locale is."""
 import json
 import os
-import subprocess
-import sys
 
 from commands import NAME, SOME, Case
 
@@ -65,11 +63,6 @@ class Encodings(Case):
     ENVIRONMENTS = ({"PYTHONIOENCODING": "utf-16"},
                     {"LC_ALL": "POSIX", "PYTHONCOERCECLOCALE": "0", "PYTHONUTF8": "0"})
 
-    def output(self, environment, *words):
-        return subprocess.run([sys.executable, "-m", "jschema", "validate", *words], cwd=self.folder, check=False,
-                              stdout=subprocess.PIPE, stderr=subprocess.DEVNULL,
-                              env={**os.environ, **environment}).stdout
-
     def test_encodings(self):
         (self.folder / "é.json").write_text('{"/é\U0001f600": 1}', "utf-8")
         (self.folder / "odd.json").write_text('{"additionalProperties": false}', "utf-8")
@@ -90,6 +83,8 @@ class Encodings(Case):
         out = self.output({"PYTHONIOENCODING": "ascii"}, *SOME[1:], "data/sub/bob.json")
         self.assertEqual(out.decode("ascii"), f"data/sub/bob.json:2:2: type is integer (/name; type, {NAME})\n")
 
+
+class Names(Case):
     def test_name_that_is_not_utf_8(self):
         name = os.fsencode(self.folder) + b"/\xff.json"
         with open(name, "wb") as file:

@@ -1,5 +1,6 @@
 """The reports: the line of each problem, a page, and what other programs read."""
 import html.parser
+import importlib.util
 import json
 import os
 import re
@@ -8,6 +9,7 @@ import subprocess
 import unittest
 from xml.etree import ElementTree
 
+import sarif
 from commands import AGE, NAME, Case
 from jschema.command.snippets import WIDTH, snippet, width
 from jschema.interface import MEANINGS
@@ -67,22 +69,61 @@ failed: none.json: No such file or directory
         self.assertEqual((out, status), ("", 3))
         self.assertIn('--> bad.json:3:14\n  |\n3 |     {"type": 1}]}\n  |              ^ /allOf/1/type\n', said)
 
-    def test_lines_and_yaml(self):
+    def test_lines(self):
         """Lines are those of the file, and what is underlined is what stands there."""
         self.write("rows.jsonl", '\n{"name": "A"}\n{"name": "A", "age": -1}\n')
         out = self.run_inside("validate", "--lines", "schema.json", "rows.jsonl")[0]
         self.assertIn('\n --> rows.jsonl:3:22\n  |\n3 | {"name": "A", "age": -1}\n'
                       '  |                      ^^ /age\n', out)
+
+    def test_comments(self):
+        """A comment takes as many columns as it has characters; the schema may have some too."""
+        self.write("age.jsonc", '// é\n{"minimum": 0, /* é */ "type": "integer",}\n')
+        self.write("minus.jsonc", '\ufeff[\n] // not read: "\n')
+        self.assertIn(f"\n --> minus.jsonc:1:2\n  |\n1 | \\ufeff[\n  | {' ' * 6}^ root\n  = age.jsonc:2:24: type\n",
+                      self.run_inside("validate", "age.jsonc", "minus.jsonc")[0])
+        self.write("less.jsonc", '/* é\n*/ /* é */ -1')
+        out = self.run_inside("validate", "--format", "short", "age.jsonc", "less.jsonc")[0]
+        self.assertEqual(out.partition(" ")[0], "less.jsonc:2:12:")
+        self.assertEqual(self.run_inside("validate", "--input", "jsonc", "age.jsonc", "less.jsonc")[2], 1)
+        self.write("less.txt", "// é\n7,")
+        self.assertEqual(self.run_inside("validate", "--input", "jsonc", "age.jsonc", "less.txt")[1],
+                         "refused[NotJson]: not a JSON text, or nested deeper than 127\n --> less.txt:2:2\n"
+                         "  |\n2 | 7,\n  |  ^ root\n\n0 valid, 0 invalid, 1 refused\n")
+
+    def test_wide_characters(self):
+        """What is underlined stands below the value, as a terminal shows it; control characters have signs."""
+        self.write("wide.json", '{"日本": "e\u0301", "😀\\u0000": 1}\n')
+        self.write("none.schema.json", '{"additionalProperties": false}')
+        out = self.run_inside("validate", "none.schema.json", "wide.json")[0]
+        self.assertIn(f'1 | {{"日本": "e\u0301", "😀\\u0000": 1}}\n  | {" " * 9}^^^ /日本\n', out)
+        self.assertIn(f"  | {' ' * 26}^ /😀\\u0000\n", out)
+
+    def test_colours(self):
+        shown = self.on_terminal("validate", "schema.json", "data/sub/bob.json", TERM="xterm", NO_COLOR="")
+        self.assertIn("\x1b[31merror[type]\x1b[0m: \x1b[1mtype is integer\x1b[0m\r\n"
+                      " \x1b[34m-->\x1b[0m data/sub/bob.json:2:2\r\n  \x1b[34m|\x1b[0m\r\n"
+                      "\x1b[34m2\x1b[0m \x1b[34m|\x1b[0m  1}\r\n  \x1b[34m|\x1b[0m  \x1b[31m^\x1b[0m /name\r\n"
+                      "  \x1b[34m=\x1b[0m schema.json:4:27: type\r\n", shown)
+        shown = self.on_terminal("validate", "schema.json", "half.json", "none.json", TERM="xterm", NO_COLOR="")
+        self.assertIn("\x1b[31mrefused[NotWhole]\x1b[0m: ", shown)
+        self.assertIn("\x1b[31mfailed\x1b[0m: none.json: ", shown)
+
+
+@unittest.skipUnless(importlib.util.find_spec("yaml"), "needs PyYAML")
+class TextOfYaml(Case):
+    def test_place(self):
         self.write("rows.yaml", "name: A\n---\nname: B\nfriends:\n- age: 1\n  é: 1\n")
-        try:
-            out = self.run_inside("validate", "schema.json", "rows.yaml")[0]
-        except ImportError as error:
-            self.skipTest(str(error))
+        out = self.run_inside("validate", "schema.json", "rows.yaml")[0]
         self.assertIn("\n --> rows.yaml:5:3\n  |\n5 | - age: 1\n  |   ^^^^^^ /friends/0\n", out)
 
 
 class Snippets(unittest.TestCase):
+    def width(self, text):
+        return width(text)
+
     def shown(self, text, begin, end):
+        """The three parts of a line for what stands between two characters of a text."""
         data = text.encode()
         lines = Text(data)
         at = [lines.at(len(text[:index].encode())) for index in (begin, end)]
@@ -106,7 +147,8 @@ class Snippets(unittest.TestCase):
                 self.assertEqual((meant + after).endswith("…"), begin < 999_999)
 
     def test_width(self):
-        self.assertEqual([width(it) for it in ("", "abc", "é", "e\u0301", "日本")], [0, 3, 1, 1, 4])
+        self.assertEqual([self.width(it) for it in ("", "abc", "é", "e\u0301", "日本", "\u0345ａ😀\u200d")],
+                         [0, 3, 1, 1, 4, 5])
 
 
 class Page(html.parser.HTMLParser):
@@ -155,6 +197,10 @@ class Html(Case):
         self.assertEqual(keywords, ["anyOf", "type", "allOf", "minimum", "maximum"])
         self.assertEqual(out.count("<mark>1</mark>"), 4)
 
+    def test_refused_schema(self):
+        out, _ = self.page("bad.json", "two.json")
+        self.assertIn("BadKeyword", out)
+
     @unittest.skipUnless(shutil.which("chromium"), "needs chromium")
     def test_browser(self):
         """What a browser makes of the page: the counts come first, and a problem is below its file."""
@@ -170,6 +216,44 @@ class Html(Case):
 
 
 class Sarif(Case):
+    #: What lint is asked for. (The JavaScript package's command hasn't any.)
+    LINTS = (("lint", "schema.json"), ("lint", "lint.json", "bad.json", "none.json"))
+
+    def logs(self):
+        """What the report may have: problems of each kind, of lines, of lint, of a refused schema; and nothing."""
+        self.write("rows.jsonl", '{"name": "A"}\n{"name": "é", "age": -1}\n{\n')
+        self.write("lint.json", '{"requierd": 1, "format": "date", "$ref": "#/nowhere"}')
+        self.write("é [x].json", "1")
+        for words in (("validate", "schema.json", *ALL, "é [x].json"), ("validate", "bad.json", "two.json"),
+                      ("validate", "--lines", "schema.json", "rows.jsonl"),
+                      ("validate", "schema.json", "data/ada.json"),
+                      ("validate", "schema.json", str(self.folder / "two.json")), *self.LINTS):
+            yield words, self.run_inside(words[0], "--format", "sarif", *words[1:])[0]
+
+    def test_structure(self):
+        """What the standard asks of each object, by hand."""
+        self.write("sarif.json", json.dumps(sarif.SCHEMA))
+        for words, log in self.logs():
+            with self.subTest(words):
+                self.write("log.json", log)
+                self.assertEqual(self.run_inside("validate", "sarif.json", "log.json"),
+                                 ("", "1 valid, 0 invalid\n", 0))
+        for wrong in ('{"runs": []}', '{"version": "2.1.0", "runs": [{}]}',
+                      '{"version": "2.1.0", "runs": [{"tool": {"driver": {"name": "x"}}, "results": [{}]}]}'):
+            self.write("log.json", wrong)
+            self.assertEqual(self.run_inside("validate", "sarif.json", "log.json")[2], 1)
+
+    def test_published_schema(self):
+        """The same by the schema that OASIS publishes, of a package of pip or Debian that has it."""
+        path = sarif.published()
+        if path is None or importlib.util.find_spec("jsonschema") is None:
+            self.skipTest("no package with SARIF's published schema, or pip's jsonschema isn't installed")
+        import jsonschema
+        validator = jsonschema.Draft7Validator(json.loads(path.read_text("utf-8")))
+        for words, log in self.logs():
+            with self.subTest(words):
+                self.assertEqual([it.message for it in validator.iter_errors(json.loads(log))], [])
+
     def test_results(self):
         out, _, status = self.run_inside("validate", "--format", "sarif", "schema.json", *ALL)
         log = json.loads(out)
@@ -204,7 +288,7 @@ class Sarif(Case):
         self.assertEqual(uris, ["%C3%A9%20x.json", (self.folder / "torn.json").as_uri()])
 
     def test_nothing(self):
-        for words in (("validate", "schema.json", "data/ada.json"), ("lint", "schema.json")):
+        for words in (("validate", "schema.json", "data/ada.json"), *self.LINTS[:1]):
             out, _, status = self.run_inside(words[0], "--format", "sarif", *words[1:])
             [run] = json.loads(out)["runs"]
             self.assertEqual((run["results"], run["invocations"][0]["executionSuccessful"], status), ([], True, 0))
@@ -236,9 +320,6 @@ class RefusedSchema(Case):
             reads(out)
             self.assertIn("BadKeyword", out)
             self.assertEqual((said.count("\n"), status), (1, 3))
-        out, _, _ = self.run_inside("validate", "--format", "html", "bad.json", "two.json")
-        Page().feed(out)
-        self.assertIn("BadKeyword", out)
 
 
 class Sources(unittest.TestCase):

@@ -1,87 +1,30 @@
-/** The schema documents and the instances, read. Of each no more is read than the validator takes, and one byte. */
-import { existsSync } from "node:fs";
-import { resolve } from "node:path";
-import { pathToFileURL } from "node:url";
+/** The instances, read. Of each file no more is read than the validator takes, and one byte. */
 import { LARGEST_TEXT } from "../limits.js";
-import { Misuse, STDIN, isFile, isFolder } from "./files.js";
-import { Reader } from "./reader.js";
+import { STDIN } from "./files.js";
+import { Reader, readWhole } from "./reader.js";
+import { NotRead, Source, sourceOf, suffixKind } from "./sources.js";
 
-// (A zero byte or a lone surrogate is left to the validator.)
-const ABSOLUTE = /^[A-Za-z][A-Za-z0-9+.-]*:[^#\0\ud800-\udfff]*#?$/u;
-// What Node escapes in a path, and the URL standard doesn't: [ ] ^ | ~ (`^` is left to the validator).
-const ESCAPED = /%(?:5B|5D|5E|7C|7E)/gi;
 const LINE_FEED = 10, RETURN = 13, SPACES = new Set([32, 9, LINE_FEED, RETURN]);
 const BLOCK = 1 << 16;
 
 /**
- * The document that the argument `[URI=]FILE` of an option names. Without a URI its `$id` counts, else its file's URL.
+ * The instances in files, read one after another: each with its file, the line at which it begins, and its source, or
+ * with the `fault` that there is none. With `lines` each line is one; empty lines don't count. Without a kind, that of
+ * each file is what its suffix says.
  */
-export function readDocument(argument, option) {
-  const mark = argument.lastIndexOf("=");
-  const [uri, path] = mark < 0 || isFile(argument) ? ["", argument]
-    : [argument.slice(0, mark), argument.slice(mark + 1)];
-  checkName(path, option);
-  const text = within(new Reader(path), textOf);
-  return { path, uri: uri || ownUri(text) || fileUrl(path), text };
-}
-
-function checkName(path, option) {
-  if (path === "") throw new Misuse(`${option} has an empty name: is a variable of the shell empty?`);
-  if (path.includes("://") && !existsSync(path)) {
-    throw new Misuse(`nothing is fetched: save ${path} as a file, and name that; for a document that others refer ` +
-      `to, --ref ${path}=FILE`);
-  }
-  if (isFolder(path)) {
-    throw new Misuse(`${path} is a folder: name the file of one schema after --schema, and others after --ref`);
-  }
-}
-
-/** The URL of a file, as the URL standard writes it, so that others can refer to it by its name. */
-function fileUrl(path) {
-  return pathToFileURL(resolve(path)).href.replace(ESCAPED, decodeURIComponent);
-}
-
-/** The `$id` of a schema document, if it is an absolute URI. */
-function ownUri(text) {
-  if (text.length > LARGEST_TEXT) return undefined;
-  let schema;
-  try {
-    schema = JSON.parse(new TextDecoder("utf-8", { fatal: true, ignoreBOM: true }).decode(text));
-  } catch {
-    return undefined;
-  }
-  const uri = schema?.$id;
-  return typeof uri === "string" && ABSOLUTE.test(uri) ? uri : undefined;
-}
-
-/** The instances in files, read one after another. With `lines` each line is one; empty lines don't count. */
-export function* inputs(files, lines) {
+export function* inputs(files, kind, lines) {
   for (const { name, fault } of files) {
     const file = name === STDIN ? "<stdin>" : name;
+    const path = name === STDIN ? undefined : name;
     try {
       if (fault !== undefined) throw fault;
-      const reader = new Reader(name === STDIN ? undefined : name);
-      if (lines) yield* linesOf(reader, file);
-      else yield { file, line: 1, text: within(reader, textOf) };
+      if (lines) yield* linesOf(new Reader(path), file);
+      else yield { file, line: 1, source: sourceOf(readWhole(path), kind ?? suffixKind(name) ?? "json") };
     } catch (error) {
-      if (error !== fault && error.syscall === undefined) throw error;
-      yield { file, line: 1, text: new Uint8Array(), fault: error };
+      if (error !== fault && error.syscall === undefined && !(error instanceof NotRead)) throw error;
+      yield { file, line: 1, source: new Source(new Uint8Array()), fault: error };
     }
   }
-}
-
-/** What is read of a file, which is closed then. */
-function within(reader, read) {
-  try {
-    return read(reader);
-  } finally {
-    reader.close();
-  }
-}
-
-/** What a file has; of one that is too large, one byte more than the validator takes. */
-function textOf(reader) {
-  return reader.read(LARGEST_TEXT + 1);
 }
 
 function* linesOf(reader, file) {
@@ -89,7 +32,9 @@ function* linesOf(reader, file) {
     let number = 0, next;
     while ((next = nextLine(reader)) !== undefined) {
       number += 1;
-      if (!next.text.every((it) => SPACES.has(it))) yield { file, line: number, text: next.text };
+      if (!next.text.every((it) => SPACES.has(it))) {
+        yield { file, line: number, source: new Source(next.text) };
+      }
       // After a line that is too large nothing more is read of a device or a pipe: it may not end.
       if (!next.isWhole && !reader.isRegular) return;
       if (!next.isWhole) skipLine(reader);

@@ -1,8 +1,19 @@
 /** A file that is read in blocks, and no further than is asked for. */
 import { closeSync, fstatSync, openSync, readSync } from "node:fs";
+import { LARGEST_TEXT } from "../limits.js";
 
 const STDIN = 0, BLOCK = 1 << 16, LINE_FEED = 10, PAUSE = 10;
 const waiting = new Int32Array(new SharedArrayBuffer(4));
+
+/** What a file has, or standard input; of one that is too large, one byte more than the validator takes. */
+export function readWhole(path = undefined) {
+  const reader = new Reader(path);
+  try {
+    return reader.read(LARGEST_TEXT + 1);
+  } finally {
+    reader.close();
+  }
+}
 
 /** Of one file. */
 export class Reader {

@@ -1,51 +1,110 @@
-/** The result of each instance. */
+/** The result of each instance: its status, and the problems that are reported. */
 import { OutOfMemory, Refused, Stopped, ValidationError } from "../errors.js";
 import { steps } from "../locations.js";
 import { parse } from "../outputs.js";
 import { Text } from "../positions.js";
+import { NotRegular } from "./files.js";
+import { NotRead, START, WHOLE } from "./sources.js";
 import { reason } from "./writing.js";
 
 /** The exit statuses, as the program `jschema` has them. */
 export const STATUS = Object.freeze({ VALID: 0, INVALID: 1, MISUSE: 2, REFUSED: 3, FAILED: 4 });
 
+/** The kinds of problems. */
+export const ERROR = "error", REFUSED = "refused", FAILED = "failed";
+
 /**
- * Checks an instance: its answer and errors, or the refusal or failure that came instead. The errors are found where
- * the format is `basic`, those deepest in the instance first: they say most precisely what to change.
+ * A problem in a file: of a `kind`; its `rule` is the keyword, or the name of the refusal; `range` is what of the file
+ * is meant, with lines counted in the file; `pointer` leads to the value; `keywordUri` and `keywordPlace` say where the
+ * keyword is, by its URI and in a file; `error` and `refused` are what the package has of it.
+ *
+ * @typedef {{ kind: string, rule: string, message: string, range: import("./sources.js").Range, pointer: string,
+ *     keywordUri?: string, keywordPlace?: { file: string, position: import("./sources.js").Position },
+ *     error?: ValidationError, refused?: Refused }} Problem
  */
-export function resultOf(schemas, entry, format, input) {
-  if (input.fault !== undefined) return { input, status: STATUS.FAILED, failure: reason(input.fault), errors: [] };
-  let answer;
-  try {
-    answer = schemas.check(entry, input.text, format);
-  } catch (error) {
-    if (error instanceof Refused) {
-      const refusal = { position: inFile(input, error.position ?? { line: 1, column: 1 }), refused: error };
-      return { input, status: STATUS.REFUSED, refusal, errors: [] };
-    }
-    if (!(error instanceof OutOfMemory || error instanceof Stopped)) throw error;
-    return { input, status: STATUS.FAILED, failure: messageOf(error), errors: [] };
+
+/** Checks instances against the schema that `entry` names. `places` says where keywords stand. */
+export class Checker {
+  #schemas;
+  #entry;
+  #places;
+  #output;
+
+  /** @param {string} [output] the format of the validator's output, where the report writes that */
+  constructor(schemas, entry, places, output = undefined) {
+    this.#schemas = schemas;
+    this.#entry = entry;
+    this.#places = places;
+    this.#output = output;
   }
-  const status = answer.valid ? STATUS.VALID : STATUS.INVALID;
-  const errors = answer.valid || format !== "basic" ? [] : errorsOf(input, answer);
-  return { input, status, answer, errors };
+
+  /** What comes of an instance. */
+  result(input) {
+    if (input.fault !== undefined) return failure(input, messageOf(input.fault));
+    try {
+      return this.#judged(input);
+    } catch (error) {
+      if (error instanceof Refused) return refusal(input, error);
+      if (error instanceof OutOfMemory || error instanceof Stopped) return failure(input, messageOf(error));
+      throw error;
+    }
+  }
+
+  /** The result of an instance that has a verdict. */
+  #judged(input) {
+    const { json } = input.source;
+    if (this.#output !== undefined) {
+      const { valid, output } = this.#schemas.check(this.#entry, json, this.#output);
+      return { input, status: valid ? STATUS.VALID : STATUS.INVALID, problems: [], output };
+    }
+    // (So most instances end, without an output.)
+    if (this.#schemas.isValid(this.#entry, json)) return { input, status: STATUS.VALID, problems: [] };
+    return { input, status: STATUS.INVALID, problems: this.#errors(input) };
+  }
+
+  /** The errors of an invalid instance, those deepest in it first: they say most precisely what to change. */
+  #errors(input) {
+    const { output } = this.#schemas.check(this.#entry, input.source.json, "basic");
+    const text = new Text(input.source.json);
+    return parse(output).errors
+      .map((unit) => new ValidationError(unit, text))
+      .map((error) => ({ error, depth: steps(error.instanceLocation).length }))
+      .sort((a, b) => b.depth - a.depth)
+      .map(({ error }) => this.#problem(input, error));
+  }
+
+  #problem(input, error) {
+    const { message, instanceLocation: pointer, absoluteKeywordLocation: keywordUri } = error;
+    const where = error.isAboutName ? input.source.name(pointer) : input.source.value(pointer);
+    return { kind: ERROR, rule: error.keyword, message, range: inFile(input, where), pointer, keywordUri,
+      keywordPlace: this.#places.find(keywordUri), error };
+  }
+}
+
+/** The result of what is refused. */
+export function refusal(input, refused) {
+  const problem = { kind: REFUSED, rule: refused.kind, message: refused.meaning,
+    range: inFile(input, input.source.refusal(refused)), pointer: refused.place ?? "", refused };
+  return { input, status: STATUS.REFUSED, problems: [problem] };
+}
+
+/** The result of what failed. */
+function failure(input, message) {
+  const start = { ...START, line: input.line };
+  const range = input.line > 1 ? { begin: start, end: start } : WHOLE;
+  return { input, status: STATUS.FAILED, problems: [{ kind: FAILED, rule: FAILED, message, range, pointer: "" }] };
 }
 
 /** What was thrown says, in one line. What the package doesn't throw itself is named. */
 export function messageOf(error) {
+  if (error?.syscall !== undefined) return reason(error);
   const text = String(error?.message ?? error).split(/\s+/).filter(Boolean).join(" ");
-  if (error instanceof OutOfMemory || error instanceof Stopped) return text;
-  return error instanceof Error ? `${error.name}: ${text}` : text;
+  const isOurs = [OutOfMemory, Stopped, NotRead, NotRegular].some((it) => error instanceof it);
+  return error instanceof Error && !isOurs ? `${error.name}: ${text}` : text;
 }
 
-function errorsOf(input, answer) {
-  const text = new Text(input.text);
-  return parse(answer.output).errors
-    .map((unit) => new ValidationError(unit, text))
-    .map((error) => ({ error, depth: steps(error.instanceLocation).length }))
-    .sort((a, b) => b.depth - a.depth)
-    .map(({ error }) => ({ error, position: inFile(input, error.position) }));
-}
-
-function inFile(input, position) {
-  return { ...position, line: position.line + input.line - 1 };
+/** A part of an instance as a part of its file: of a line, which is a text of its own. */
+function inFile({ line }, { begin, end }) {
+  const moved = (position) => ({ ...position, line: position.line + line - 1 });
+  return { begin: moved(begin), end: moved(end) };
 }

@@ -1,8 +1,8 @@
 /** Colours and a progress bar, where there is a terminal. */
 import { isatty } from "node:tty";
-import { writeError } from "./writing.js";
+import { STDERR, writeError } from "./writing.js";
 
-const CODES = { bold: 1, dim: 2, red: 31 };
+const CODES = { bold: 1, dim: 2, red: 31, blue: 34 };
 const WIDTH = 30;
 // The bar is for more instances than this, and is drawn ten times a second.
 const FEW = 20, PAUSE = 100;
@@ -12,9 +12,9 @@ function isTerminal(descriptor) {
   return isatty(descriptor) && (process.env.TERM ?? "dumb") !== "dumb";
 }
 
-/** Whether to write colours to standard output: to a terminal, unless NO_COLOR is set (https://no-color.org). */
-export function hasColours() {
-  return isTerminal(1) && !process.env.NO_COLOR;
+/** Whether to write colours to a descriptor: to a terminal, unless NO_COLOR is set (https://no-color.org). */
+export function hasColours(descriptor) {
+  return isTerminal(descriptor) && !process.env.NO_COLOR;
 }
 
 /** A text in a style, or as it is without colours. */
@@ -31,7 +31,7 @@ export class Progress {
 
   constructor(total) {
     this.#total = total;
-    this.#isShown = isTerminal(2) && (total === undefined || total > FEW);
+    this.#isShown = isTerminal(STDERR) && (total === undefined || total > FEW);
   }
 
   /** Draws how many are done. */

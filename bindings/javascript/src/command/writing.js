@@ -2,6 +2,9 @@
 import { writeSync } from "node:fs";
 import { getSystemErrorMap } from "node:util";
 
+/** The descriptors of the two. */
+export const STDOUT = 1, STDERR = 2;
+
 const encoder = new TextEncoder();
 
 /** Writes a text to a descriptor, all of it. */
@@ -18,11 +21,11 @@ function write(descriptor, text) {
 }
 
 export function writeOutput(text) {
-  write(1, text);
+  write(STDOUT, text);
 }
 
 export function writeError(text) {
-  write(2, text);
+  write(STDERR, text);
 }
 
 // Where the words of Node aren't those of C.

@@ -33,7 +33,7 @@ def _run(read: Callable[[], Arguments]) -> int:
     if sys.stderr is None:
         sys.stderr = open(os.devnull, "w", encoding="utf-8")
     if sys.stdout is None:
-        print("jschema: standard output is closed", file=sys.stderr)
+        _say("standard output is closed")
         return Status.FAILED
     if isinstance(sys.stdout, io.TextIOWrapper):
         sys.stdout.reconfigure(errors="backslashreplace")
@@ -49,17 +49,25 @@ def _run(read: Callable[[], Arguments]) -> int:
         print(versions())
         return Status.VALID
     except (Misuse, EngineNotFound, NotOneDocument) as misuse:
-        print(f"jschema: {misuse}", file=sys.stderr)
+        _say(str(misuse))
         return Status.MISUSE
     except BrokenPipeError:
         # Nothing more can be written, not even what Python flushes at its end.
         os.dup2(os.open(os.devnull, os.O_WRONLY), sys.stdout.fileno())
         return Status.FAILED
     except OSError as error:
-        print(f"jschema: {error.filename or 'standard output'}: {error.strerror}", file=sys.stderr)
+        _say(f"{error.filename or 'standard output'}: {error.strerror}")
         return Status.FAILED
     except Exception as error:  # Whatever it is: it must not end like an instance that is invalid.
-        print(f"jschema: {message_of(error)}", file=sys.stderr)
+        _say(message_of(error))
         return Status.FAILED
     except KeyboardInterrupt:
         return 130
+
+
+def _say(message: str) -> None:
+    """Says on standard error why the run ends. Where that can't be written to, the status alone says it."""
+    try:
+        print(f"jschema: {message}", file=sys.stderr)
+    except OSError:
+        pass

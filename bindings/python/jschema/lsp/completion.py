@@ -136,11 +136,11 @@ def _item(document: Document, context: Context, it: Suggestion, client: Client) 
     """A suggestion as the protocol has it."""
     is_yaml = document.kind == "yaml"
     label = it.value if isinstance(it.value, str) else json.dumps(it.value, ensure_ascii=False)
-    text, is_snippet = _written(it.value, is_yaml), False
+    text, is_snippet = written(it.value, is_yaml), False
     if context.is_name:
         text, is_snippet = _name_text(document, context, it, client)
     item: dict[str, Any] = {
-        "label": label, "kind": it.kind, "filterText": _written(it.value, is_yaml),
+        "label": label, "kind": it.kind, "filterText": written(it.value, is_yaml),
         "sortText": ("0" if it.is_required else "1") + label,
         "insertTextFormat": _SNIPPET if is_snippet else _PLAIN,
         "textEdit": {"range": document.lines.range(*context.span), "newText": text}}
@@ -154,7 +154,7 @@ def _item(document: Document, context: Context, it: Suggestion, client: Client) 
     return item
 
 
-def _written(value: Any, is_yaml: bool) -> str:
+def written(value: Any, is_yaml: bool) -> str:
     """A value as it is written."""
     if is_yaml and isinstance(value, str) and _BARE.fullmatch(value):
         return value
@@ -164,7 +164,7 @@ def _written(value: Any, is_yaml: bool) -> str:
 def _name_text(document: Document, context: Context, it: Suggestion, client: Client) -> tuple[str, bool]:
     """What is inserted for a name, and whether it is a snippet. Where a colon follows, nothing is added."""
     is_yaml = document.kind == "yaml"
-    name = _written(it.value, is_yaml)
+    name = written(it.value, is_yaml)
     after = document.text[context.span.end:context.span.end + 200].lstrip()
     if after.startswith(":"):
         return name, False
@@ -180,7 +180,7 @@ def _first_value(schema: Any, is_yaml: bool, has_snippets: bool) -> tuple[str, b
     about = schema if isinstance(schema, dict) else {}
     known = about.get("const", about.get("default"))
     if "const" in about or "default" in about and not isinstance(known, (dict, list)):
-        return _written(known, is_yaml), False
+        return written(known, is_yaml), False
     brackets = {"string": '""', "object": "{}", "array": "[]"}.get(str(about.get("type")))
     if is_yaml or not has_snippets:
         return "", False

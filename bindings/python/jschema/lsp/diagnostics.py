@@ -3,13 +3,12 @@ validator refuses and what lint says."""
 from __future__ import annotations
 
 from collections.abc import Iterator
-from typing import Any, NamedTuple, Optional
+from typing import Any, NamedTuple, Optional, Union
 
 from ..errors import Refused, ValidationError, best_first
 from ..lint import Finding, lint_all
 from ..locations import schema_steps
 from ..schemas import errors_of
-from ..sources import Source
 from .documents import Document
 from .ranges import Edit, Lines, Span
 from .schemas import SchemaSet
@@ -31,6 +30,14 @@ class Related(NamedTuple):
     message: str
 
 
+class Missing(NamedTuple):
+    """An object lacks members: the number of its source, where it stands there, and the keyword that asks for them."""
+
+    source: int
+    instance: str
+    keyword: str
+
+
 class Diagnostic(NamedTuple):
     """Something that is wrong with a document."""
 
@@ -39,6 +46,8 @@ class Diagnostic(NamedTuple):
     code: str
     message: str
     related: Optional[Related] = None
+    #: What puts it right: the name that is meant, or members that are missing.
+    remedy: Union[str, Missing, None] = None
 
     def moved(self, edits: list[Edit]) -> Diagnostic:
         """The same after changes of the text."""
@@ -78,6 +87,10 @@ class Diagnoses:
         self._last[document.uri] = last
         return [Diagnostic(fault.span, ERROR, "syntax", fault.message), *last]
 
+    def last(self, document: Document) -> list[Diagnostic]:
+        """The diagnostics of a document as they were last made."""
+        return self._last.get(document.uri, [])
+
     def forget(self, uri: str) -> None:
         """Forgets a document that was closed."""
         self._last.pop(uri, None)
@@ -97,8 +110,8 @@ class Diagnoses:
         if choice.set.schemas is None:
             yield Diagnostic(place_of_name(document), WARNING, "schema", f"its schema is refused: {choice.set.refused}")
             return
-        for source in document.reading().sources:
-            yield from _of_source(document, source, choice)
+        for number in range(len(document.reading().sources)):
+            yield from _of_source(document, number, choice)
 
     def _of_schema(self, document: Document) -> Iterator[Diagnostic]:
         found = self._workspace.set_of_schema(document)
@@ -111,11 +124,12 @@ class Diagnoses:
         yield from of_lint
 
 
-def _of_source(document: Document, source: Source, choice: Choice) -> Iterator[Diagnostic]:
+def _of_source(document: Document, number: int, choice: Choice) -> Iterator[Diagnostic]:
     """What is wrong with one JSON text of a document."""
     schemas = choice.set.schemas
     assert schemas is not None
     reading = document.reading()
+    source = reading.sources[number]
     try:
         answer = schemas.check(choice.entry, source.json, "basic")
     except Refused as refused:
@@ -132,7 +146,9 @@ def _of_source(document: Document, source: Source, choice: Choice) -> Iterator[D
     for error in errors[:MOST]:
         is_name = _is_of_name(error)
         span = reading.place(source, error.instance_location, is_name)
-        yield Diagnostic(span, ERROR, error.keyword, error.message, _related(choice.set, error))
+        missing = Missing(number, error.instance_location, error.absolute_keyword_location)
+        yield Diagnostic(span, ERROR, error.keyword, error.message, _related(choice.set, error),
+                         missing if error.keyword == "required" else None)
     if len(errors) > MOST:
         yield Diagnostic(Span(0, 1), INFORMATION, "more", f"{len(errors) - MOST} more errors")
 
@@ -153,7 +169,7 @@ def _related(found: SchemaSet, error: ValidationError) -> Optional[Related]:
 def _of_lint(document: Document, finding: Finding) -> Diagnostic:
     """What lint says of a schema."""
     span = document.reading().characters.span(*(it.offset for it in finding.range))
-    return Diagnostic(span, _SEVERITIES[finding.severity], finding.rule, finding.message)
+    return Diagnostic(span, _SEVERITIES[finding.severity], finding.rule, finding.message, remedy=finding.suggestion)
 
 
 def _refused_schema(document: Document, found: SchemaSet, refused: Refused) -> Diagnostic:

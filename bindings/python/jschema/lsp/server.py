@@ -9,13 +9,14 @@ from typing import Any, Callable, Optional
 
 from ..errors import EngineError
 from ..interface import VERSION
+from . import actions
 from .completion import Client, completion
 from .definition import definition
 from .diagnostics import Diagnoses
 from .documents import Document
 from .hover import hover
 from .protocol import Code, Connection, Failure, Id, Message
-from .ranges import path_of
+from .ranges import Span, path_of
 from .settings import read as read_settings
 from .settings import read_file
 from .symbols import symbols
@@ -43,7 +44,12 @@ class Server:
         self._workspace = Workspace()
         self._diagnoses = Diagnoses(self._workspace)
         self._client = Client()
-        self._can_watch = self._is_initialized = self._is_shut_down = False
+        self._taker = actions.Client()
+        # The settings that the client has sent without being asked.
+        self._sent: Any = None
+        self._can_watch = self._can_register = self._can_ask = self._is_initialized = self._is_shut_down = False
+        # What is done with the answer to each request of the server, by its id.
+        self._asked: dict[Id, Callable[[Any], None]] = {}
         # The documents whose diagnostics are to be made, by their URIs.
         self._pending: dict[str, None] = {}
         self._shown: set[str] = set()
@@ -60,6 +66,8 @@ class Server:
                 return 0 if self._is_shut_down else 1
             if "method" in message:
                 self._handle(message)
+            elif message.get("id") in self._asked:
+                self._take_answer(self._asked.pop(message["id"]), message)
 
     def _handle(self, message: Message) -> None:
         method, params = message["method"], message.get("params") or {}
@@ -80,6 +88,14 @@ class Server:
         except Exception as error:  # The session goes on, whatever one request comes to.
             traceback.print_exc()
             self._fail(message, Failure(Code.INTERNAL_ERROR, f"{method}: {type(error).__name__}: {error}"))
+
+    def _take_answer(self, taker: Callable[[Any], None], message: Message) -> None:
+        """Takes the client's answer to a request; of one that fails nothing comes."""
+        try:
+            if "result" in message:
+                taker(message["result"])
+        except Exception:  # The session goes on, whatever the client answers.
+            traceback.print_exc()
 
     def _fail(self, message: Message, failure: Failure) -> None:
         if "id" in message:
@@ -115,24 +131,52 @@ class Server:
                               has_snippets=bool(_at(text, "completion", "completionItem", "snippetSupport")),
                               has_related=bool(_at(text, "publishDiagnostics", "relatedInformation")),
                               has_tree=bool(_at(text, "documentSymbol", "hierarchicalDocumentSymbolSupport")))
-        self._can_watch = bool(_at(given, "workspace", "didChangeWatchedFiles", "dynamicRegistration"))
+        space = given.get("workspace") or {}
+        self._taker = actions.Client(has_literals=bool(_at(text, "codeAction", "codeActionLiteralSupport")),
+                                     has_versions=bool(_at(space, "workspaceEdit", "documentChanges")),
+                                     has_related=self._client.has_related)
+        self._can_watch = bool(_at(space, "didChangeWatchedFiles", "dynamicRegistration"))
+        self._can_register = bool(_at(space, "didChangeConfiguration", "dynamicRegistration"))
+        self._can_ask = bool(_at(space, "configuration"))
         self._is_initialized = True
-        self._configured(params.get("initializationOptions"))
-        return {"capabilities": _CAPABILITIES, "serverInfo": {"name": "jschema-lsp", "version": VERSION}}
+        self._sent = params.get("initializationOptions")
+        self._configured(self._sent)
+        fixes = {"codeActionProvider": {"codeActionKinds": [actions.QUICK_FIX]}} if self._taker.has_literals else {}
+        return {"capabilities": {**_CAPABILITIES, **fixes},
+                "serverInfo": {"name": "jschema-lsp", "version": VERSION}}
 
     # ---- notifications
 
     def _initialized(self, params: Message) -> None:
+        wanted: list[Message] = []
         if self._can_watch:
             options = {"watchers": [{"globPattern": it} for it in _WATCHED]}
-            self._connection.request("client/registerCapability", {"registrations": [
-                {"id": "files", "method": "workspace/didChangeWatchedFiles", "registerOptions": options}]})
+            wanted.append({"id": "files", "method": "workspace/didChangeWatchedFiles", "registerOptions": options})
+        if self._can_register:
+            wanted.append({"id": "settings", "method": "workspace/didChangeConfiguration"})
+        if wanted:
+            self._connection.request("client/registerCapability", {"registrations": wanted})
+        self._ask_for_settings()
+
+    def _ask_for_settings(self) -> None:
+        """Asks for the settings below `jschema`, of clients that have an answer."""
+        if self._can_ask:
+            asked = self._connection.request("workspace/configuration", {"items": [{"section": "jschema"}]})
+            self._asked[asked] = self._answered
+
+    def _answered(self, result: Any) -> None:
+        """Takes the settings that the client answers; without any, those that it has sent."""
+        settings = result[0] if isinstance(result, list) and result else None
+        self._configured(settings or self._sent)
+        self._all_pending()
 
     def _configure(self, params: Message) -> None:
         settings = params.get("settings")
         # (Without any settings the ones of before stay: some clients only say that something has changed.)
         if settings:
+            self._sent = settings
             self._configured(settings)
+        self._ask_for_settings()
         self._all_pending()
 
     def _configured(self, given: Any) -> None:
@@ -201,22 +245,32 @@ class Server:
         found = symbols(document, lambda: self._connection.check_cancelled(request))
         return found if self._client.has_tree else None
 
+    def _actions(self, _: Id, document: Document, params: Message) -> Any:
+        context = params.get("context") or {}
+        if not self._taker.has_literals or not actions.is_asked(context.get("only")):
+            return []
+        if document.uri in self._pending:
+            self._diagnose(document)
+        asked = Span(*(document.lines.offset(params["range"][it]) for it in ("start", "end")))
+        return actions.actions(self._workspace, document, self._diagnoses.last(document), asked, self._taker)
+
     # ---- diagnostics
 
     def _diagnose_while_idle(self) -> None:
         """Makes the diagnostics that are due, until a message comes."""
         while self._pending and self._connection.is_idle():
             document = self._workspace.documents[next(iter(self._pending))]
-            del self._pending[document.uri]
             try:
-                self._publish(document)
+                self._diagnose(document)
             except EngineError as error:
                 self._show(_ERROR, f"jschema has no validator: {error}")
             except Exception as error:  # Other documents are still served.
                 traceback.print_exc()
                 self._show(_ERROR, f"{document.uri}: {type(error).__name__}: {error}")
 
-    def _publish(self, document: Document) -> None:
+    def _diagnose(self, document: Document) -> None:
+        """Makes the diagnostics of a document, and sends them."""
+        del self._pending[document.uri]
         found = [it.written(document.lines, self._client.has_related) for it in self._diagnoses.of(document)]
         self._connection.notify("textDocument/publishDiagnostics",
                                 {"uri": document.uri, "version": document.version, "diagnostics": found})
@@ -252,6 +306,7 @@ _REQUESTS: dict[str, Callable[[Server, Id, Document, Message], Any]] = {
     "textDocument/hover": Server._hover,
     "textDocument/completion": Server._completion,
     "textDocument/definition": Server._definition,
+    "textDocument/codeAction": Server._actions,
     "textDocument/documentSymbol": Server._symbols,
 }
 

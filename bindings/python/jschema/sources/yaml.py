@@ -39,10 +39,51 @@ def read(data: bytes) -> list[Source]:
     return sources
 
 
+def opened(data: bytes, stop: int) -> Optional[list[Node]]:
+    """The arrays and objects that are open where a name or a value begins at a byte, each in the one before it; None if
+    none begins there. Raises `Unreadable`."""
+    yaml = library("yaml", "YAML is read")
+    lines = _Lines(data)
+    reader = _Reader(yaml, lines)
+    for event in _events(yaml, lines):
+        begin, end = (lines.offset(it.index) for it in (event.start_mark, event.end_mark))
+        # (The end of a block, or a value that isn't written, stands where something else begins.)
+        is_written = not isinstance(event, yaml.CollectionEndEvent) and begin < end or \
+            isinstance(event, yaml.CollectionStartEvent)
+        if begin >= stop and is_written:
+            return reader.open_nodes() if begin == stop else None
+        reader.take(event)
+    return None
+
+
+def fault(data: bytes, stop: int) -> Optional[Unreadable]:
+    """What is first wrong with a text, if that shows before an event of the parser that begins after a byte."""
+    yaml = library("yaml", "YAML is read")
+    lines = _Lines(data)
+    reader = _Reader(yaml, lines)
+    try:
+        for event in _events(yaml, lines):
+            if lines.offset(event.start_mark.index) > stop:
+                return None
+            reader.take(event)
+    except Unreadable as refused:
+        return refused
+    return None
+
+
 def _roots(yaml: Any, lines: _Lines) -> Iterator[Node]:
     """The value of each document."""
+    reader = _Reader(yaml, lines)
+    for event in _events(yaml, lines):
+        root = reader.take(event)
+        if root is not None:
+            yield root
+
+
+def _events(yaml: Any, lines: _Lines) -> Iterator[Any]:
+    """What the parser finds, one after another."""
     try:
-        yield from _Reader(yaml, lines).documents(yaml.parse(lines.text, getattr(yaml, "CLoader", yaml.Loader)))
+        yield from yaml.parse(lines.text, getattr(yaml, "CLoader", yaml.Loader))
     except yaml.MarkedYAMLError as error:
         at = error.problem_mark or error.context_mark
         raise lines.refused(error.problem or error.context or "isn't YAML", at.index if at else 0) from None
@@ -116,23 +157,27 @@ class _Reader:
         self._open: list[_Holder] = []
         self._root: Optional[Node] = None
 
-    def documents(self, events: Any) -> Iterator[Node]:
-        """The value of each document."""
+    def open_nodes(self) -> list[Node]:
+        """The arrays and objects whose end hasn't come."""
+        return [it.node for it in self._open]
+
+    def take(self, event: Any) -> Optional[Node]:
+        """Takes the next event. Where a document ends, returns its value."""
         yaml = self._yaml
-        for event in events:
-            if isinstance(event, yaml.ScalarEvent):
-                self._scalar(event)
-            elif isinstance(event, (yaml.MappingStartEvent, yaml.SequenceStartEvent)):
-                self._begin(event, isinstance(event, yaml.MappingStartEvent))
-            elif isinstance(event, (yaml.MappingEndEvent, yaml.SequenceEndEvent)):
-                self._end(event)
-            elif isinstance(event, yaml.AliasEvent):
-                self._alias(event)
-            elif isinstance(event, yaml.DocumentStartEvent):
-                self._anchors.clear()
-            elif isinstance(event, yaml.DocumentEndEvent) and self._root is not None:
-                yield self._root
-                self._root = None
+        root = None
+        if isinstance(event, yaml.ScalarEvent):
+            self._scalar(event)
+        elif isinstance(event, (yaml.MappingStartEvent, yaml.SequenceStartEvent)):
+            self._begin(event, isinstance(event, yaml.MappingStartEvent))
+        elif isinstance(event, (yaml.MappingEndEvent, yaml.SequenceEndEvent)):
+            self._end(event)
+        elif isinstance(event, yaml.AliasEvent):
+            self._alias(event)
+        elif isinstance(event, yaml.DocumentStartEvent):
+            self._anchors.clear()
+        elif isinstance(event, yaml.DocumentEndEvent):
+            root, self._root = self._root, None
+        return root
 
     def _scalar(self, event: Any) -> None:
         begin, end = self._span(event)

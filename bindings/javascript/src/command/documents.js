@@ -1,0 +1,39 @@
+/** The schema documents that the arguments name, and those that they refer to. */
+import { existsSync } from "node:fs";
+import { Misuse, isFile, isFolder } from "./files.js";
+import { Lookup, schemaFile } from "./lookup.js";
+import { suffixKind } from "./sources.js";
+import { writeError } from "./writing.js";
+
+/** The schema and the documents of `--ref`, and those that are found in its folders and beside the files. */
+export function documentsOf({ schema, refs, siblings, input, verbose }) {
+  const folders = refs.filter(isFolder);
+  const named = refs.filter((it) => !folders.includes(it)).map((it) => document(it, "--ref", input));
+  const files = [document(schema, "--schema", input), ...named];
+  const taken = new Lookup(folders, siblings).taken(files);
+  for (const { file, referring } of verbose ? taken : []) {
+    writeError(`jschema: ${file.path} is taken for ${file.uri}, which ${referring} refers to\n`);
+  }
+  return [...files, ...taken.map((it) => it.file)];
+}
+
+/** The document that the argument `[URI=]FILE` of an option names. */
+function document(argument, option, input) {
+  const mark = argument.lastIndexOf("=");
+  const [uri, path] = mark < 0 || isFile(argument) ? ["", argument]
+    : [argument.slice(0, mark), argument.slice(mark + 1)];
+  checkName(path, option);
+  return schemaFile(path, uri, suffixKind(path) ?? input);
+}
+
+function checkName(path, option) {
+  if (path === "") throw new Misuse(`${option} has an empty name: is a variable of the shell empty?`);
+  if (path.includes("://") && !existsSync(path)) {
+    throw new Misuse(`nothing is fetched: save ${path} as a file, and name that; for a document that others refer ` +
+      `to, --ref ${path}=FILE`);
+  }
+  if (isFolder(path)) {
+    throw new Misuse(`${path} is a folder: name the file of one schema after ${option}` +
+      (option === "--ref" ? "" : ", and others after --ref"));
+  }
+}
