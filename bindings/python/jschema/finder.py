@@ -13,7 +13,9 @@ _GAP = re.compile(rb"[ \t\n\r,]*")
 _COLON = re.compile(rb"[ \t\n\r]*:[ \t\n\r]*")
 _WORD = re.compile(rb"[^ \t\n\r,\]}]+")
 # Up to the next bracket. (The engine of regular expressions keeps a note of each repetition, so there are few.)
-_PLAIN = re.compile(rb'[^"\[\]{}]*(?:"[^"\\]*"[^"\[\]{}]*){0,256}')
+_PLAIN = rb'[^"\[\]{}]*(?:"[^"\\]*"[^"\[\]{}]*){0,256}'
+# The same, over arrays and objects without others in them.
+_BELOW = re.compile(rb"%b(?:[\[{]%b[\]}]%b){0,64}" % (_PLAIN, _PLAIN, _PLAIN))
 _QUOTE, _BACKSLASH, _ARRAY, _OBJECT = b'"\\[{'
 _OPENINGS, _CLOSINGS = b"[{", b"]}"
 
@@ -87,19 +89,23 @@ def end_of_value(text: bytes, at: int) -> int:
     return _end_of_holder(text, at) if text[at] in _OPENINGS else _end_of(_WORD, text, at)
 
 
+def end_of_text(text: bytes) -> int:
+    """The byte after the value of a text."""
+    return len(text.rstrip(b" \t\n\r"))
+
+
 def _end_of_holder(text: bytes, at: int) -> int:
-    plain = _PLAIN.match
-    depth = 0
-    while True:
-        at = plain(text, at).end()  # type: ignore[union-attr]
+    below = _BELOW.match
+    depth, at = 1, at + 1
+    while depth:
+        at = below(text, at).end()  # type: ignore[union-attr]
         first = text[at]
         if first == _QUOTE:
             at = end_of_string(text, at)
-            continue
-        depth += 1 if first in _OPENINGS else -1
-        at += 1
-        if depth == 0:
-            return at
+        else:
+            depth += 1 if first in _OPENINGS else -1
+            at += 1
+    return at
 
 
 def end_of_string(text: bytes, at: int) -> int:
