@@ -143,7 +143,7 @@ def _path(value: Any, location: str) -> list[Union[str, int]]:
     """A JSON Pointer to what a value holds as names and indices."""
     path: list[Union[str, int]] = []
     for token in steps(location):
-        step = int(token) if isinstance(value, (list, tuple)) else token
+        step: Union[str, int] = int(token) if isinstance(value, (list, tuple)) else token
         path.append(step)
         value = value[step]
     return path
