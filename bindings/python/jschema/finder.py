@@ -13,9 +13,7 @@ _GAP = re.compile(rb"[ \t\n\r,]*")
 _COLON = re.compile(rb"[ \t\n\r]*:[ \t\n\r]*")
 _WORD = re.compile(rb"[^ \t\n\r,\]}]+")
 # Up to the next bracket. (The engine of regular expressions keeps a note of each repetition, so there are few.)
-_PLAIN = rb'[^"\[\]{}]*(?:"[^"\\]*"[^"\[\]{}]*){0,256}'
-# The same, over arrays and objects without others in them.
-_BELOW = re.compile(rb"%b(?:[\[{]%b[\]}]%b){0,64}" % (_PLAIN, _PLAIN, _PLAIN))
+_PLAIN = re.compile(rb'[^"\[\]{}]*(?:"[^"\\]*"[^"\[\]{}]*){0,256}')
 _QUOTE, _BACKSLASH, _ARRAY, _OBJECT = b'"\\[{'
 _OPENINGS, _CLOSINGS = b"[{", b"]}"
 
@@ -95,17 +93,18 @@ def end_of_text(text: bytes) -> int:
 
 
 def _end_of_holder(text: bytes, at: int) -> int:
-    below = _BELOW.match
-    depth, at = 1, at + 1
-    while depth:
-        at = below(text, at).end()  # type: ignore[union-attr]
+    plain = _PLAIN.match
+    depth = 0
+    while True:
+        at = plain(text, at).end()  # type: ignore[union-attr]
         first = text[at]
         if first == _QUOTE:
             at = end_of_string(text, at)
-        else:
-            depth += 1 if first in _OPENINGS else -1
-            at += 1
-    return at
+            continue
+        depth += 1 if first in _OPENINGS else -1
+        at += 1
+        if depth == 0:
+            return at
 
 
 def end_of_string(text: bytes, at: int) -> int:
