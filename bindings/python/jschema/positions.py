@@ -53,6 +53,8 @@ class Text:
         # What was found by it, and what is to be found with the next pointer.
         self._located: dict[str, Optional[Located]] = {}
         self._expected: dict[str, None] = {}
+        # Where the values end of which that was asked, by their first bytes.
+        self._ends: dict[int, int] = {}
         # (Made when they are needed. The lock of `functools.cached_property` would outlive a fork.)
         self._root: Optional[Value] = None
         self._line_starts: Optional[list[int]] = None
@@ -85,7 +87,9 @@ class Text:
         """The first byte of the value at a JSON Pointer, and the byte after it."""
         located = self._by_engine(pointer)
         offset = self._found(pointer)[0].offset if located is None else located.value.offset
-        return offset, end_of_value(self.data, offset) if pointer else end_of_text(self.data)
+        if offset not in self._ends:
+            self._ends[offset] = end_of_value(self.data, offset) if pointer else end_of_text(self.data)
+        return offset, self._ends[offset]
 
     def name_span(self, pointer: str) -> tuple[int, int]:
         """The same of the member's name; of an item, or the root, of the value."""

@@ -238,6 +238,17 @@ class Asked(unittest.TestCase):
         self.assertEqual(found, {1: [0], 4: [1], 10: [1, "0"], 16: [2, 0, 0], 21: [2, 1, 0]})
 
 
+    def test_end_once(self):
+        """Many errors about one value don't go through it again."""
+        data = json.dumps({"a": [[]] * 1000}).encode()
+        with mock.patch.object(positions, "end_of_value", side_effect=positions.end_of_value) as asked:
+            for text in every_text(data):
+                asked.reset_mock()
+                self.assertEqual([text.span("/a") for _ in range(100)], [(6, len(data) - 1)] * 100)
+                self.assertEqual([text.span("") for _ in range(100)], [(0, len(data))] * 100)
+                self.assertLessEqual(asked.call_count, 1)
+
+
 class ByTheLibrary(Case):
     """Where an error stands and its path come from the library: Python doesn't go through the text."""
 
