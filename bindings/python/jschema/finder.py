@@ -87,6 +87,11 @@ def end_of_value(text: bytes, at: int) -> int:
     return _end_of_holder(text, at) if text[at] in _OPENINGS else _end_of(_WORD, text, at)
 
 
+def end_of_text(text: bytes) -> int:
+    """The byte after the value of a text."""
+    return len(text.rstrip(b" \t\n\r"))
+
+
 def _end_of_holder(text: bytes, at: int) -> int:
     plain = _PLAIN.match
     depth = 0

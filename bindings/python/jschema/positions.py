@@ -12,13 +12,15 @@ from bisect import bisect_right
 from collections.abc import Iterable, Sequence
 from typing import Callable, NamedTuple, Optional, Union
 
-from .finder import Value, end_of_string, end_of_value, root
+from .finder import Value, end_of_string, end_of_text, end_of_value, root
 from .locations import steps
 from .scanner import scan
 
 # The bytes of UTF-8 that begin no character, and how many bytes are counted at a time.
 _CONTINUATION = bytes(range(0x80, 0xC0))
 _BLOCK = 4096
+# A token that names an item, where it is one of an array.
+_INDEX = re.compile("0|[1-9][0-9]*")
 
 
 class Position(NamedTuple):
@@ -51,6 +53,8 @@ class Text:
         # What was found by it, and what is to be found with the next pointer.
         self._located: dict[str, Optional[Located]] = {}
         self._expected: dict[str, None] = {}
+        # Where the values end of which that was asked, by their first bytes.
+        self._ends: dict[int, int] = {}
         # (Made when they are needed. The lock of `functools.cached_property` would outlive a fork.)
         self._root: Optional[Value] = None
         self._line_starts: Optional[list[int]] = None
@@ -81,17 +85,27 @@ class Text:
 
     def span(self, pointer: str) -> tuple[int, int]:
         """The first byte of the value at a JSON Pointer, and the byte after it."""
-        offset = self._found(pointer)[0].offset
-        return offset, end_of_value(self.data, offset)
+        located = self._by_engine(pointer)
+        offset = self._found(pointer)[0].offset if located is None else located.value.offset
+        if offset not in self._ends:
+            self._ends[offset] = end_of_value(self.data, offset) if pointer else end_of_text(self.data)
+        return offset, self._ends[offset]
 
     def name_span(self, pointer: str) -> tuple[int, int]:
         """The same of the member's name; of an item, or the root, of the value."""
-        name = self._found(pointer)[0].name
+        located = self._by_engine(pointer)
+        if located is None:
+            name = self._found(pointer)[0].name
+        else:
+            name = None if located.name is None else located.name.offset
         return self.span(pointer) if name is None else (name, end_of_string(self.data, name))
 
     def path(self, pointer: str) -> list[str | int]:
         """A JSON Pointer as the names of members and the indices of items."""
-        return self._found(pointer)[1]
+        if self._by_engine(pointer) is None:
+            return self._found(pointer)[1]
+        tokens = zip(steps(pointer), _prefixes(pointer))
+        return [int(token) if _INDEX.fullmatch(token) and self._is_item(prefix) else token for token, prefix in tokens]
 
     def at(self, offset: int) -> Position:
         """The line and column of a byte."""
@@ -107,7 +121,7 @@ class Text:
             return None
         _require_pointer(pointer)
         if pointer not in self._located:
-            asked = [*{pointer: None, **self._expected}]
+            asked = [*{pointer: None, **{it: None for it in self._expected if it not in self._located}}]
             found = self._locate(self.data, asked)
             if found is None:
                 self._locate = None
@@ -118,6 +132,15 @@ class Text:
         if located is None:
             raise LookupError(f"no value at {pointer}")
         return located
+
+    def _is_item(self, pointer: str) -> bool:
+        """Whether the value at a pointer, which is there, is an item of an array: then it has no name."""
+        if pointer not in self._located:
+            # (What is asked for the paths of the other pointers is found with it.)
+            self.expect(it for known in [*self._located, *self._expected] for it in _prefixes(known)
+                        if _INDEX.fullmatch(it.rpartition("/")[2]))
+        located = self._by_engine(pointer)
+        return located is not None and located.name is None
 
     def _found(self, pointer: str) -> tuple[Value, list[str | int]]:
         _require_pointer(pointer)
@@ -147,6 +170,11 @@ class Text:
 def _require_pointer(pointer: str) -> None:
     if pointer and not pointer.startswith("/") or re.search("~(?![01])", pointer):
         raise ValueError(f"{pointer!r} isn't a JSON Pointer: it is empty or begins with /, and has ~0 for ~")
+
+
+def _prefixes(pointer: str) -> list[str]:
+    """The pointers to what a pointer leads through, itself at the end: one for each token."""
+    return [pointer[:found.start()] for found in re.finditer("/|\\Z", pointer)][1:]
 
 
 def _characters(data: bytes) -> int:

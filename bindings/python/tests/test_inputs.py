@@ -95,6 +95,15 @@ class Paths(Inputs):
         self.judge(["data/ada.json/x", "data/ada.json"], "",
                    "data/ada.json/x: failed: Not a directory\n1 valid, 0 invalid, 1 failed\n", 4)
 
+    def test_name_with_a_hyphen(self):
+        """After `--` come files."""
+        for name in ("-x.json", "--", "--jobs"):
+            self.write(name, '{"name": "A"}')
+            with self.subTest(name):
+                self.judge(["data/ada.json", "--", name, "data/ada.json"], "", "3 valid, 0 invalid\n", 0)
+                out, _, status = self.run_inside("lint", "--format", "short", "--", name)
+                self.assertEqual((out.split(" ")[0], status), (f"{name}:1:2:", 0))
+
     def test_every_character(self):
         """Documents are referred to by their files' names, as the URL standard writes them in a path."""
         references, words = [], []

@@ -66,13 +66,13 @@ class Encodings(Case):
     def test_encodings(self):
         (self.folder / "é.json").write_text('{"/é\U0001f600": 1}', "utf-8")
         (self.folder / "odd.json").write_text('{"additionalProperties": false}', "utf-8")
-        for format in ("flag", "basic", "json", "github"):
+        for format in ("flag", "basic", "json", "github", "html", "sarif", "junit"):
             words = ["--schema", "odd.json", "--format", format, "é.json", "torn.json"]
             expected = self.output({"PYTHONIOENCODING": "utf-8"}, *words)
-            if format in ("basic", "github"):
+            if format in ("basic", "github", "html", "junit"):
                 self.assertIn("é\U0001f600", expected.decode())
-            if format != "github":
-                for text in [expected] if format == "json" else expected.splitlines():
+            if format in ("flag", "basic", "json", "sarif"):
+                for text in [expected] if format in ("json", "sarif") else expected.splitlines():
                     json.loads(text)
             for environment in self.ENVIRONMENTS:
                 with self.subTest(format, **environment):

@@ -5,6 +5,7 @@ import unittest
 from unittest import mock
 
 import jschema
+from commands import Case
 from jschema import NotJson, Text, positions
 from jschema.library import find_library
 from jschema.locations import pointer
@@ -91,6 +92,9 @@ class Positions(unittest.TestCase):
             for tokens, node in sorted(found, key=lambda it: it[1].offset % 7):
                 self.assertEqual(other.value(pointer(tokens)), text.value(pointer(tokens)))
                 self.assertEqual(other.name(pointer(tokens)), text.name(pointer(tokens)))
+                self.assertEqual(other.span(pointer(tokens)), (node.offset, node.end))
+                self.assertEqual(other.name_span(pointer(tokens)), text.name_span(pointer(tokens)))
+                self.assertEqual(other.path(pointer(tokens)), text.path(pointer(tokens)))
         for tokens, node in found:
             self.judge_node(text, node, tokens, value_at(value, tokens))
 
@@ -108,10 +112,13 @@ class Positions(unittest.TestCase):
             self.assertEqual((type(found), found), (type(value), value))
         at = text.value(pointer(tokens))
         self.assertEqual(at, (node.offset, *naive(text.data, node.offset)))
+        self.assertEqual(text.span(pointer(tokens)), (node.offset, node.end))
         self.assertEqual(pointer(list(map(str, text.path(pointer(tokens))))), pointer(tokens))
         if node.name is not None:
+            self.assertIsInstance(text.path(pointer(tokens))[-1], str)
             begin = text.name(pointer(tokens)).offset
             name = re.match(rb'"(?:[^"\\]|\\.)*"', text.data[begin:])[0]
+            self.assertEqual(text.name_span(pointer(tokens)), (begin, begin + len(name)))
             self.assertEqual(json.loads(name), tokens[-1])
             self.assertRegex(text.data[begin + len(name):node.offset], rb"\A[ \t\r\n]*:[ \t\r\n]*\Z")
 
@@ -207,17 +214,95 @@ class Positions(unittest.TestCase):
             self.assertEqual(text.name('/b"[/\\').offset, data.index(b'"\\\\": ['))
 
 
+    def test_long_values(self):
+        """Arrays and objects beside and around what is asked for, more of them and longer than are passed over at
+        once."""
+        some = [7, "]", '"', "\\", {"a": []}, {}, [[]], {"a": {"b": [{"c": "}"}]}}]
+        for value in ([some] * 300, [["x"] * 1000, some], [{"a": 1, "b": "c"}] * 1000, [some, {"a": ["x"] * 300}] * 3):
+            self.judge(json.dumps([value, {"a": value}]).encode())
+
+
 class Asked(unittest.TestCase):
     def test_together(self):
-        """The positions of all errors come by one call of the engine."""
-        data = b'[1, {"a": 2}, [3]]'
-        with jschema.Schemas({"a:b": {"items": {"type": "array", "items": False}}}) as schemas:
+        """The positions of all errors come by one call of the engine, and all paths by another."""
+        data = b'[1, {"0": 2}, [[3], [4]]]'
+        schema = {"items": {"type": "array", "items": {"items": False}, "properties": {"0": False}}}
+        with jschema.Schemas({"a:b": schema}) as schemas:
             errors = schemas.errors("a:b", data)
             locate = mock.Mock(wraps=errors[0].text._locate)
             errors[0].text._locate = locate
-            found = [error.position.offset for error in errors]
-        self.assertEqual(found, [1, 4, 15])
-        locate.assert_called_once()
+            self.assertEqual(sorted(error.position.offset for error in errors), [1, 4, 10, 16, 21])
+            locate.assert_called_once()
+            found = {error.position.offset: error.path for error in errors}
+            self.assertLessEqual(locate.call_count, 2)
+        self.assertEqual(found, {1: [0], 4: [1], 10: [1, "0"], 16: [2, 0, 0], 21: [2, 1, 0]})
+
+
+    def test_end_once(self):
+        """Many errors about one value don't go through it again."""
+        data = json.dumps({"a": [[]] * 1000}).encode()
+        with mock.patch.object(positions, "end_of_value", side_effect=positions.end_of_value) as asked:
+            for text in every_text(data):
+                asked.reset_mock()
+                self.assertEqual([text.span("/a") for _ in range(100)], [(6, len(data) - 1)] * 100)
+                self.assertEqual([text.span("") for _ in range(100)], [(0, len(data))] * 100)
+                self.assertLessEqual(asked.call_count, 1)
+
+
+class ByTheLibrary(Case):
+    """Where an error stands and its path come from the library: Python doesn't go through the text."""
+
+    def setUp(self):
+        if find_library() is None:
+            self.skipTest("no library")
+        for name in ("scan", "root"):
+            patched = mock.patch.object(positions, name, side_effect=self.pass_by(getattr(positions, name)))
+            patched.start()
+            self.addCleanup(patched.stop)
+
+    @staticmethod
+    def pass_by(read):
+        """What reads the schemas, and no instance: these begin with an array."""
+        def of_schema(data):
+            if data.startswith(b"["):
+                raise AssertionError("a pass over the instance")
+            return read(data)
+
+        return of_schema
+
+    def test_errors(self):
+        with jschema.Schemas({"a:b": {"items": {"properties": {"7": {"type": "array"}}}}}) as schemas:
+            [error] = schemas.errors("a:b", b'[[1], {"7": 2}]')
+        self.assertEqual((error.position, error.path), ((12, 1, 13), [1, "7"]))
+
+    def test_validator(self):
+        schema = {"items": {"properties": {"7": {"type": "array"}}, "additionalProperties": False}}
+        with mock.patch.object(jschema.LibraryEngine, "locate", autospec=True,
+                               side_effect=jschema.LibraryEngine.locate) as asked:
+            errors = list(jschema.Validator(schema).iter_errors([[1], {"7": 2}, {"a": 1, "b": 2}]))
+            self.assertEqual([[*error.absolute_path] for error in errors], [[1, "7"], [2]])
+            self.assertEqual([error.position.offset for error in errors], [12, 16])
+        self.assertEqual(asked.call_count, 1)
+
+    def test_command(self):
+        self.write("numbers.json", '{"items": {"minimum": 0}}')
+        self.write("three.json", "[1,\n -1, 2]")
+        for format in ("short", "text", "json", "github", "sarif", "junit", "html"):
+            with self.subTest(format):
+                out, _, status = self.run_inside("validate", "--format", format, "numbers.json", "three.json")
+                self.assertRegex(out, "less than 0")
+                self.assertEqual(status, 1)
+
+    def test_warnings(self):
+        """Those of all formats by one call."""
+        self.write("formats.json", '{"items": {"format": "ipv4"}}')
+        self.write("addresses.json", '["a", "127.0.0.1", "b"]')
+        with mock.patch.object(jschema.LibraryEngine, "locate", autospec=True,
+                               side_effect=jschema.LibraryEngine.locate) as asked:
+            out, said, status = self.run_inside("validate", "--formats", "--format", "short", "formats.json",
+                                                "addresses.json")
+        self.assertEqual([line.split(":")[1:3] for line in (out + said).splitlines()[:2]], [["1", "2"], ["1", "20"]])
+        self.assertEqual((status, asked.call_count), (0, 1))
 
 
 class WithoutAPass(unittest.TestCase):

@@ -81,14 +81,27 @@ class Foreign(Case):
                     jschema.EngineError, "jschema isn't the validator jschema: for the schema (true|false) it "):
                 self.schemas(script)
 
-    def test_command(self):
+    def validated(self, program):
+        """What the command writes with a program, and its status."""
         schema = os.path.join(self.folder, "s.json")
         Path(schema).write_text("true", "utf-8")
-        done = subprocess.run([sys.executable, "-m", "jschema", "validate", "--schema", schema, schema], check=False,
-                              stdout=subprocess.PIPE, stderr=subprocess.PIPE, text=True,
-                              env={**os.environ, "JSCHEMA": "/bin/true", "JSCHEMA_LIBRARY": "off"})
-        self.assertEqual((done.stdout, done.returncode), ("", 4))
-        self.assertRegex(done.stderr, r"\Ajschema: /.*/true isn't the validator jschema: .*\n\Z")
+        done = subprocess.run([sys.executable, "-m", "jschema", "validate", "--format", "short", schema, schema],
+                              check=False, stdout=subprocess.PIPE, stderr=subprocess.PIPE, text=True,
+                              env={**os.environ, "JSCHEMA": program, "JSCHEMA_LIBRARY": "off"})
+        return done.stdout, done.stderr, done.returncode
+
+    def test_command(self):
+        out, said, status = self.validated("/bin/true")
+        self.assertEqual((out, status), ("", 4))
+        self.assertRegex(said, r"\Ajschema: /.*/true isn't the validator jschema: .*\n\Z")
+
+    def test_command_is_told_no_verdict(self):
+        """By a program that has answered what is known."""
+        for script in ("exit 0", "exit 1", "echo hello", "kill -9 $$"):
+            with self.subTest(script):
+                out, said, status = self.validated(self.write(ANSWERS_AT_FIRST + script))
+                self.assertEqual((out, status), ("", 4))
+                self.assertRegex(said, r"\A/.*/s.json: failed: .*\n0 valid, 0 invalid, 1 failed\n\Z")
 
     def test_memory(self):
         with self.assertRaisesRegex(MemoryError, "failed: Memory"):

@@ -61,6 +61,14 @@ class _Parser(argparse.ArgumentParser):
         raise Misuse(f"{message}\nusage: {self.usage}\nfor example: {self.example}")
 
 
+    def read(self, words: list[str]) -> argparse.Namespace:
+        """The arguments. What stands after `--` are files, whatever their names begin with."""
+        end = words.index("--") if "--" in words else len(words)
+        given = self.parse_intermixed_args(words[:end])
+        given.files += words[end + 1:]
+        return given
+
+
 class _Version(argparse.Action):
     def __call__(self, *_: object) -> NoReturn:
         raise Version
@@ -136,13 +144,13 @@ def of_command(command: str, words: list[str], name: str) -> Arguments:
     """Reads the arguments of a command that is called by a name."""
     if command == "lint":
         parser = _lint(name)
-        given = parser.parse_intermixed_args(words)
+        given = parser.read(words)
         if not given.files:
             parser.error("the following arguments are required: SCHEMA")
         return Arguments("lint", None, given.ref, given.ref_siblings, given.format, given.input, given.verbose,
                          given.files)
     parser = _validate(name)
-    given = parser.parse_intermixed_args(words)
+    given = parser.read(words)
     schemas = given.schema or given.files[:1]
     files = given.files if given.schema else given.files[1:]
     if len(schemas) > 1:

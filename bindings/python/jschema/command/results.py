@@ -8,7 +8,7 @@ from typing import TYPE_CHECKING, NamedTuple, Optional
 from ..engine import Answer
 from ..errors import EngineError, Refused, ValidationError, best_first
 from ..extras import MissingLibrary
-from ..positions import Position
+from ..positions import Position, Text
 from ..schemas import Schemas, errors_of
 from ..sources import JsonSource, Range
 from .inputs import Input
@@ -84,8 +84,6 @@ class Checker:
         else:
             # (So most instances end, without an output.)
             valid, text = self._schemas.is_valid(self._entry, given.source.json), b""
-        if isinstance(given.source, JsonSource):
-            given.source.trust()
         if valid:
             return Result(given, Status.VALID, self._warnings(given) if wanted.formats else (), text)
         tree = self._check(given, "detailed").text if wanted.tree else text
@@ -96,8 +94,15 @@ class Checker:
 
     def _errors(self, given: Input) -> list[Problem]:
         """The errors of an invalid instance, the best first."""
-        errors = errors_of(self._check(given, "basic"), self._schemas.text_of(given.source.json))
+        errors = errors_of(self._check(given, "basic"), self._read(given))
         return [self._problem(given, error) for error in best_first(errors)]
+
+    def _read(self, given: Input) -> Text:
+        """The JSON text of an instance, with the engine's positions."""
+        read = self._schemas.text_of(given.source.json)
+        if isinstance(given.source, JsonSource):
+            given.source.trust(read)
+        return read
 
     def _problem(self, given: Input, error: ValidationError) -> Problem:
         where = (given.source.name if error.is_about_name else given.source.value)(error.instance_location)
@@ -109,6 +114,7 @@ class Checker:
         """The formats that the values of a valid instance break."""
         assert self._wanted.formats is not None
         found = self._wanted.formats.broken(self._check(given, "basic").text, given.source.json)
+        self._read(given).expect(it.instance_location for it in found)
         return [Problem(WARNING, "format", it.message, in_file(given, given.source.value(it.instance_location)),
                         it.instance_location, it.absolute_keyword_location,
                         self._places.find(it.absolute_keyword_location)) for it in found]

@@ -87,10 +87,11 @@ class JsonSource(Source):
         self._read: Optional[Text] = None
         self._lines: Optional[Text] = None
 
-    def trust(self) -> None:
-        """Says that the validator has read the text as JSON, so it isn't scanned again."""
+    def trust(self, read: Optional[Text] = None) -> None:
+        """Says that the validator has read the text as JSON, so it isn't scanned again. `read` is the text of `json`
+        with the validator's positions."""
         self._is_json = True
-        self._read = None
+        self._read = read
 
     @property
     def _text(self) -> Text:

@@ -6,7 +6,7 @@ from __future__ import annotations
 
 from collections import deque
 from collections.abc import Iterator, Sequence
-from typing import Any, Callable, Optional
+from typing import Any, Callable, Optional, Union
 
 from ..locations import schema_steps, steps
 from ..positions import Text
@@ -63,7 +63,7 @@ class Reading:
         location, keyword_location = node["instanceLocation"], node["keywordLocation"]
         error = DetailedError(node["error"], location, keyword_location, node["absoluteKeywordLocation"], self._text)
         error.parent = parent
-        path = error.text.path(location)
+        path = _path(self._instance, location)
         error.instance = _at(self._instance, path)
         if error.is_about_name:
             error.instance = path.pop()
@@ -124,9 +124,29 @@ class Reading:
         return error
 
 
+def locations(tree: Node) -> Iterator[str]:
+    """The instance locations of the errors that are made of a tree."""
+    waiting = [tree]
+    while waiting:
+        node = waiting.pop()
+        if "error" in node:
+            yield from (node["instanceLocation"], _above(node["instanceLocation"]))
+        waiting += node.get("errors", ())
+
+
 def _above(pointer: str) -> str:
     """The JSON Pointer of the object or the array that holds a value."""
     return pointer.rpartition("/")[0]
+
+
+def _path(value: Any, location: str) -> list[Union[str, int]]:
+    """A JSON Pointer to what a value holds as names and indices."""
+    path: list[Union[str, int]] = []
+    for token in steps(location):
+        step: Union[str, int] = int(token) if isinstance(value, (list, tuple)) else token
+        path.append(step)
+        value = value[step]
+    return path
 
 
 def _at(value: Any, path: Any) -> Any:

@@ -7,14 +7,13 @@ from typing import Any, NoReturn, Optional
 from ..engine import Engine
 from ..errors import Refused
 from ..outputs import parse
-from ..positions import Text
 from ..resources import Document
 from ..schemas import Schemas
 from ..values import text_of_value
 from .errors import DetailedError, SchemaError
 from .registries import gathered
 from .relevance import best_match
-from .trees import Reading
+from .trees import Reading, locations
 
 
 class Validator:
@@ -59,7 +58,9 @@ class Validator:
         # (Most instances are valid, and need no tree.)
         if not self._schemas.is_valid(self._entry.uri, text):
             tree = parse(self._schemas.check(self._entry.uri, text, "detailed").text)
-            yield from Reading(self._documents, instance, Text(text, is_json=True), self._holds).errors(tree)
+            read = self._schemas.text_of(text)
+            read.expect(locations(tree))
+            yield from Reading(self._documents, instance, read, self._holds).errors(tree)
 
     def validate(self, instance: Any) -> None:
         """Raises the best error (see `best_match`) unless the instance is valid."""
