@@ -8,7 +8,6 @@ pub mod EveryItem
 pub mod OpeningsAlike
 pub mod ItemsLeft
 pub mod MembersLeft
-pub mod PatternsLeft
 pub mod Shared
 pub mod Started
 pub mod Counts

@@ -1,7 +1,6 @@
 -- The names that are left of a keyword's, and the members that are left.
-use Rattle.std.proofs.Common.{◌≡◌, ℕ, zero, suc, ◌+◌, List, [], ◌∷◌, Some, None, String, Ordering, Less, Equal}
+use Rattle.std.proofs.Common.{◌≡◌, ℕ, zero, suc, ◌+◌, List, [], ◌∷◌, Some, None, Ordering, Less, Equal}
 use Rattle.std.proofs.Common.{Greater, drop, filter, map, slice_get, ap, ap₂, subst, sym, ◌∙◌, arith}
-use Rattle.std.specs.Global.{Global}
 use Rattle.std.proofs.lemmas.Cmp.{nat_list_cmp_total}
 use Rattle.std.specs.Ordering.{ordering_reverse}
 use Rattle.js_assert.specs.Argument.{has}

@@ -1,8 +1,7 @@
 -- The applications that the cursors of a walk still have to ask for.
 use Rattle.std.specs.Prelude.{◌≡◌, ℕ, ◌<◌, Bool, true, false, not, ◌||◌, List, [], ◌++◌, Option}
-use Rattle.std.specs.Prelude.{Some, None, String, map, filter, drop, get_or}
+use Rattle.std.specs.Prelude.{Some, None, map, filter, drop, get_or}
 use Rattle.std.specs.Borrow.{Bor}
-use Rattle.std.specs.Global.{Global}
 use Rattle.std.specs.Cmp.Lexicographic.{slice_cmp}
 use Rattle.std.specs.List.{list_any, flat_map}
 use Rattle.std.specs.Ordering.{is_eq, nat_cmp}

@@ -1,6 +1,5 @@
 -- The applications that `properties` still has to ask for, name by name (of private functions).
-use Rattle.std.specs.Prelude.{◌≡◌, ℕ, ◌+◌, ◌<◌, ◌^◌, List, String, drop, filter, length, map}
-use Rattle.std.specs.Global.{Global}
+use Rattle.std.specs.Prelude.{◌≡◌, ℕ, ◌+◌, ◌<◌, ◌^◌, List, drop, filter, length, map}
 use Rattle.js_assert.specs.Argument.{entries, has}
 use Rattle.js_bundle.specs.Document.{Documents}
 use Rattle.js_bundle.specs.Resource.{Site}

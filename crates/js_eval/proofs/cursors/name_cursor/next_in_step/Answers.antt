@@ -1,6 +1,5 @@
-use Rattle.std.proofs.Common.{◌≡◌, ◌∷◌, suc, Some, String, Equal, drop, length, map}
+use Rattle.std.proofs.Common.{◌≡◌, ◌∷◌, suc, Some, ℕ, List, Equal, drop, length, map}
 use Rattle.std.proofs.Common.{refl, ap, ap₂, subst, sym, ◌∙◌, arith}
-use Rattle.std.specs.Global.{Global}
 use Rattle.js_doc.specs.Members.{IsAscending, name_cmp}
 use Rattle.js_doc.specs.Seen.{pair_of, value_of}
 use Rattle.js_doc.specs.declared.doc.Doc.{Doc}
@@ -71,14 +70,14 @@ returns-in-Equal-clause-next c =
     sym l.invariant.same ∙ take_both (pair_of n) (pair_of m) (map pair_of l.names) (map pair_of l.members)
     equal l.invariant.members
     ∙ ap (λ k. (k, value_of l.member.now) ∷ names_left (map pair_of l.members) l.names)
-    (sym c.as_str-in-Equal.ensures.value)
+    (sym c.as_str-in-Equal.ensures)
 
 pub returns-in-Equal-clause-left : goal.returns-in-Equal-clause-left
 returns-in-Equal-clause-left c = λ all h.
     let l = c.loop-names in let n : List ℕ × Doc = (l.name.now, l.schema.now) in
     let more = next_left all l.at (pair_of n) (map pair_of l.names) (l.invariant.left all h) in (
       more.0 ∙ ap (λ r. drop r all) (sym l.invariant.rank),
-      more.1 ∙ ap (λ k. Some (k, value_of l.schema.now)) (sym c.as_str-in-Equal.ensures.value),
+      more.1 ∙ ap (λ k. Some (k, value_of l.schema.now)) (sym c.as_str-in-Equal.ensures),
     )
 
 pub returns-in_err-key-in-Greater-clause-next : goal.returns-in_err-key-in-Greater-clause-next

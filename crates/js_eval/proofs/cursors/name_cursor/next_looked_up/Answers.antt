@@ -1,6 +1,5 @@
 use Rattle.std.proofs.Common.{◌≡◌, ◌∷◌, suc, Some, None, option_map, drop, length, map}
-use Rattle.std.proofs.Common.{String, ap, subst, sym, ◌∙◌, arith}
-use Rattle.std.specs.Global.{Global}
+use Rattle.std.proofs.Common.{ℕ, List, ap, subst, sym, ◌∙◌, arith}
 use Rattle.js_doc.specs.Members.{IsAscending, get}
 use Rattle.js_doc.specs.Seen.{pair_of, value_of}
 use Rattle.js_doc.specs.declared.doc.Doc.{Doc}
@@ -15,11 +14,11 @@ returns-in-Some-get-clause-next c =
     let members = c.args.members.now in let l = c.loop-name in let ascend : IsAscending (map pair_of (n ∷ rest)) =
     subst (λ ns. IsAscending (map pair_of ns)) c.in-Some.ensures.steps l.invariant.ascend in
     let found : get (pair_of n).0 members ≡ Some (value_of c.in-Some-get.member.now) =
-    ap (λ k. get k members) (sym c.as_str-name.ensures.value) ∙ sym c.get.ensures
+    ap (λ k. get k members) (sym c.as_str-name.ensures) ∙ sym c.get.ensures
     ∙ ap (option_map (λ d. value_of d.now)) c.in-Some-get.is in
     sym l.invariant.same ∙ ap (names_left members) c.in-Some.ensures.steps
     ∙ look_up (pair_of n) (map pair_of rest) members _ found ascend c.requires.ascend.1
-    ∙ ap (λ k. (k, value_of c.in-Some-get.member.now) ∷ names_left members rest) (sym c.as_str-name.ensures.value)
+    ∙ ap (λ k. (k, value_of c.in-Some-get.member.now) ∷ names_left members rest) (sym c.as_str-name.ensures)
 
 pub returns-in-Some-get-clause-left : goal.returns-in-Some-get-clause-left
 returns-in-Some-get-clause-left c = λ all h.
@@ -27,7 +26,7 @@ returns-in-Some-get-clause-left c = λ all h.
     let first : pair_of x ∷ map pair_of c.next.new.self ≡ drop c.loop-name.rank all =
     sym (ap (map pair_of) c.in-Some.ensures.steps) ∙ c.loop-name.invariant.left all h in
     let more = next_left all c.loop-name.rank (pair_of x) (map pair_of c.next.new.self) first in
-    (more.0, more.1 ∙ ap (λ n. Some (n, value_of c.in-Some.schema.now)) (sym c.as_str-name.ensures.value))
+    (more.0, more.1 ∙ ap (λ n. Some (n, value_of c.in-Some.schema.now)) (sym c.as_str-name.ensures))
 
 pub returns-in-Some-get-clause-ascend : goal.returns-in-Some-get-clause-ascend
 returns-in-Some-get-clause-ascend c =
@@ -39,7 +38,7 @@ loop-name-preserved c =
     let members = c.args.members.now in let l = c.loop-name in let ascend : IsAscending (map pair_of (n ∷ rest)) =
     subst (λ ns. IsAscending (map pair_of ns)) c.in-Some.ensures.steps l.invariant.ascend in
     let none : get (pair_of n).0 members ≡ None =
-    ap (λ k. get k members) (sym c.as_str-name.ensures.value) ∙ sym c.get.ensures
+    ap (λ k. get k members) (sym c.as_str-name.ensures) ∙ sym c.get.ensures
     ∙ ap (option_map (λ d. value_of d.now)) c.in_default-get.is in
     let many : length l.names ≡ suc (length rest) = ap length c.in-Some.ensures.steps in
     record {
