@@ -38,11 +38,3 @@ pub holds_all : (contents : ContentsByPath) (documents : List DocumentFile) (at 
 holds_all contents documents at taken end h =
     subst (λ ds. AreContents contents (pairs_seen documents) ds) (append-nil taken)
     (h [] (subst (λ ds. AreContents contents (pairs_seen ds) []) (sym (drop_all at documents end)) tt))
-
--- of the same files and documents
-pub holds_over : (contents : ContentsByPath) (named files : List DocumentFile) (taken documents : DocumentTexts)
-    → named ≡ files → documents ≡ taken
-    → AreContents contents (pairs_seen named) taken → AreContents contents (pairs_seen files) documents
-holds_over contents named files taken documents same is h =
-    subst (AreContents contents (pairs_seen files)) (sym is)
-    (subst (λ ds. AreContents contents (pairs_seen ds) taken) same h)

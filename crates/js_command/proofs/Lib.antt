@@ -5,6 +5,7 @@ pub mod GrammarFacts
 pub mod Asked
 pub mod Pairs
 pub mod Holding
+pub mod KeptDocuments
 pub mod FileFaults
 pub mod LastFlush
 pub mod InputUse

@@ -1,16 +1,22 @@
 -- What the program answers, by where it stops.
-use Rattle.std.proofs.Common.{◌≡◌, ◌≢◌, ℕ, List, [], ◌∷◌, ◌++◌, Option, Some, None, Result, Ok, Err, OnErr, IsErrOf}
-use Rattle.std.proofs.Common.{Bool, true, false, ◌⊎◌, inl, inr, refl, sym, ap, subst, arith, ◌<◌}
+use Rattle.std.proofs.Common.{◌≡◌, ◌≢◌, ℕ, List, [], ◌∷◌, ◌++◌, Option, None, Result, Ok, Err, OnErr, IsErrOf}
+use Rattle.std.proofs.Common.{Bool, true, false, ◌⊎◌, inl, inr, refl, sym, ap, ◌∙◌, subst, arith, ◌<◌, ◌≤◌, length}
 use Rattle.std.specs.Borrow.{Bor}
 use Rattle.std.specs.Io.KnownBytes.{Keeps}
-use Rattle.js_output.specs.Cause.{MayGoOn}
-use Rattle.js_output.specs.Device.{Tracked, IsLeft, Sends, SendsBeginning}
-use Rattle.js_output.specs.Documents.{DocumentTexts, documents_causes}
-use Rattle.js_output.specs.Outcome.{Output, Outcome, PairOutcome, output_report}
-use Rattle.js_output.specs.Places.{ReportsPlaces, places_text}
-use Rattle.js_output.specs.Suite.{SuiteOutcome, lines_report}
+use Rattle.js_output.specs.Cause.{FailsBy}
+use Rattle.js_output.specs.Device.{Tracked, input_limit, IsLeft, Sends, SendsBeginning}
+use Rattle.js_output.specs.Documents.{DocumentTexts, bundle_of, documents_causes}
+use Rattle.js_output.specs.Entry.{entry_causes, entry_place}
+use Rattle.js_output.specs.Outcome.{beginning_causes, FinishedOutcome, InstanceOutcome, Output, Outcome, PairOutcome}
+use Rattle.js_output.specs.Outcome.{output_report}
+use Rattle.js_output.specs.Places.{lines_of, places_text}
+use Rattle.js_output.specs.Suite.{ReadLines, SuiteOutcome, lines_report}
 use Rattle.js_output.specs.SuiteLines.{counts_of, lines_text}
-use Rattle.js_output.specs.Report.{Answers, Reports}
+use Rattle.js_output.specs.SuiteText.{suite_reading}
+use Rattle.js_output.specs.Report.{Answers, OfInput, Reports}
+use Rattle.js_bundle.specs.Document as bundle
+use Rattle.js_bundle.specs.Resource.{sites}
+use Rattle.js_eval.specs.Result.{standard_limits}
 use Rattle.js_output.specs.declared.suite_lines.Counts.{Counts}
 use Rattle.js_output.specs.declared.fault.Fault.{Fault}
 use Rattle.js_output.specs.declared.fault.Fault.TheVariants as fault
@@ -20,10 +26,8 @@ use Rattle.js_command.specs.Answer.{SuiteReported, all_passed, suite_output, Wor
 use Rattle.js_command.specs.Answer.{Performs, IsPartlyReported, IsReason}
 use Rattle.js_command.specs.Files.{ContentsByPath, IsFirstFileFault}
 use Rattle.js_command.specs.Status.{misuse_status}
-use Rattle.js_command.specs.code.Taken.{documents_taken}
+use Rattle.js_command.specs.code.Taken.{AreFinishedAs}
 use Rattle.js_command.specs.code.Tasks.{judging_seen, pairs_seen, request_by}
-use Rattle.js_command.specs.declared.documents.Texts.{Texts}
-use Rattle.js_command.specs.declared.words.DocumentFile.{DocumentFile}
 use Rattle.js_command.specs.declared.words.Judgement.{Judgement}
 use Rattle.js_command.specs.declared.words.Misuse.{Misuse}
 use Rattle.js_command.specs.declared.words.Misuse.TheVariants as misuse
@@ -31,7 +35,9 @@ use Rattle.js_command.specs.declared.words.Subject.{Subject}
 use Rattle.js_command.specs.declared.words.Subject.TheVariants as subject
 use Rattle.js_command.specs.Words.{DocumentPairs, files_of, Request, pair, places, request_of}
 use Rattle.js_command.proofs.FileFaults.{input_fault}
-use Rattle.js_command.proofs.Holding.{holds_over}
+use Rattle.js_output.proofs.Answering.{after-clear, input-within, reports-early, reports-map}
+use Rattle.js_output.proofs.CauseLists.{fails-append}
+use Rattle.js_output.proofs.FinishedSchemas.{outcome_over}
 
 -- a file isn't taken
 pub performs-fault : {D : Type 0} (contents : ContentsByPath) (paths : List (List ℕ)) (P : Result Output Fault → Type 0)
@@ -97,13 +103,10 @@ module _ {D : Type 0} (contents : ContentsByPath) (pairs : DocumentPairs) (file 
       (λ reported. (documents : DocumentTexts) × AreContents contents pairs documents
       × ((bytes : List ℕ) × IsLeft (contents file) bytes × SuiteReported documents bytes reported)) taken old new e h
 
--- the named files hold these texts, of which the run took documents and bytes
-module _ (contents : ContentsByPath) (judging : Judgement) (named : List DocumentFile) (texts : Texts)
-    (documents : DocumentTexts) (bytes : List ℕ)
-    (same : named ≡ judging.documents.items) (docs : documents ≡ documents_taken texts.documents.items)
-    (all : bytes ≡ texts.judged.items)
-    (holds : AreContents contents (pairs_seen named) (documents_taken texts.documents.items))
-    (here : IsLeft (contents judging.file.now) texts.judged.items)
+-- the files hold these texts
+module _ (contents : ContentsByPath) (judging : Judgement) (documents : DocumentTexts) (bytes : List ℕ)
+    (holds : AreContents contents (pairs_seen judging.documents.items) documents)
+    (here : IsLeft (contents judging.file.now) bytes)
     {D : Type 0} (taken : D → Option (List ℕ)) (old new : Tracked D) where
   judged_reported : (Expected : DocumentTexts → List ℕ → Result Output Fault → Type 0) (answer : Result Bool Fault)
       → Reports output_report (Expected documents bytes) taken old new answer
@@ -111,10 +114,7 @@ module _ (contents : ContentsByPath) (judging : Judgement) (named : List Documen
       answer
   judged_reported Expected answer h =
       texts_reported contents (pairs_seen judging.documents.items) judging.file.now taken old new documents
-      bytes Expected answer
-      (holds_over contents named judging.documents.items (documents_taken texts.documents.items) documents same docs
-      holds)
-      (subst (IsLeft (contents judging.file.now)) (sym all) here) h
+      bytes Expected answer holds here h
 
   -- the answer to what this subject asks is the task's
   of_subject : (s : Subject) (answer : Result Bool Fault) → judging.subject ≡ s
@@ -124,22 +124,6 @@ module _ (contents : ContentsByPath) (judging : Judgement) (named : List Documen
   of_subject s answer e h = subst (λ s. Performs (RequestOutcome contents None false
       (request_by s judging.file.now (pairs_seen judging.documents.items))) taken old new answer) (sym e) h
 
-  pub check_reported : (format : Format) (entry : Bor (List ℕ)) (answer : Result Bool Fault)
-      → judging.subject ≡ subject.Instance format entry
-      → Reports output_report (Outcome documents entry.now format bytes) taken old new answer
-      → Performs (RequestOutcome contents None false (judging_seen judging)) taken old new answer
-  check_reported format entry answer e h =
-      of_subject (subject.Instance format entry) answer e
-      (judged_reported (λ ds. Outcome ds entry.now format) answer h)
-
-  pub suite_reported : (counts : Counts) → judging.subject ≡ subject.Suite
-      → Reports lines_report (SuiteOutcome documents bytes) taken old new (Ok counts)
-      → Performs (RequestOutcome contents None false (judging_seen judging)) taken old new (Ok (all_passed counts))
-  suite_reported counts e (lines, h, passed, sent) =
-      of_subject subject.Suite (Ok (all_passed counts)) e
-      (judged_reported SuiteReported (Ok (all_passed counts))
-      (suite_output (counts_of lines) (lines_text lines), (lines, h, refl), ap all_passed passed, sent))
-
   suite_output_fault : (f : Fault) → Reports lines_report (SuiteOutcome documents bytes) taken old new (Err f)
       → Reports output_report (SuiteReported documents bytes) taken old new (Err f)
   suite_output_fault fault.Write (lines, h, begun) =
@@ -148,11 +132,65 @@ module _ (contents : ContentsByPath) (judging : Judgement) (named : List Documen
   suite_output_fault fault.Read h = h
   suite_output_fault _ h = h
 
-  pub suite_fault : (f : Fault) → judging.subject ≡ subject.Suite
-      → Reports lines_report (SuiteOutcome documents bytes) taken old new (Err f)
+  -- the documents are refused
+  refused_as : (s : Subject) (f : Fault) → FailsBy (documents_causes documents) f
+      → Performs (RequestOutcome contents None false (request_by s judging.file.now
+      (pairs_seen judging.documents.items))) taken old new (Err f)
+  refused_as (subject.Instance format entry) f h =
+      judged_reported (λ ds. Outcome ds entry.now format) (Err f)
+      (reports-early output_report taken old new (beginning_causes documents entry.now)
+      (InstanceOutcome (bundle_of documents) (entry_place (bundle_of documents) entry.now) format bytes) f
+      (fails-append (documents_causes documents) (entry_causes (bundle_of documents) entry.now) f h))
+  refused_as subject.Suite f h =
+      judged_reported SuiteReported (Err f) (suite_output_fault f
+      (reports-early lines_report taken old new (documents_causes documents)
+      (OfInput bytes (ReadLines (bundle_of documents) (suite_reading bytes))) f h))
+
+  pub documents_refused : (f : Fault) → AreFinishedAs documents (Err f)
       → Performs (RequestOutcome contents None false (judging_seen judging)) taken old new (Err f)
-  suite_fault f e h =
-      of_subject subject.Suite (Err f) e (judged_reported SuiteReported (Err f) (suite_output_fault f h))
+  documents_refused f h = refused_as judging.subject f h
+
+  -- they aren't, and these are their schemas
+  module _ (schemas : bundle.Documents) (finished : AreFinishedAs documents (Ok schemas)) where
+    pub check_reported : (format : Format) (entry : Bor (List ℕ)) (answer : Result Bool Fault)
+        → judging.subject ≡ subject.Instance format entry
+        → Reports output_report (FinishedOutcome schemas entry.now format bytes) taken old new answer
+        → Performs (RequestOutcome contents None false (judging_seen judging)) taken old new answer
+    check_reported format entry answer e h =
+        of_subject (subject.Instance format entry) answer e
+        (judged_reported (λ ds. Outcome ds entry.now format) answer
+        (reports-map output_report taken old new (FinishedOutcome schemas entry.now format bytes)
+        (Outcome documents entry.now format bytes) answer
+        (λ outcome. outcome_over standard_limits documents entry.now format bytes outcome schemas finished.0 finished.1)
+        h))
+
+    -- of a suite that is within the limit
+    suite_over : length bytes ≤ input_limit → (answer : Result Counts Fault)
+        → Reports lines_report (ReadLines schemas (suite_reading bytes)) taken old new answer
+        → Reports lines_report (SuiteOutcome documents bytes) taken old new answer
+    suite_over few answer h =
+        let read = ReadLines (bundle_of documents) (suite_reading bytes) in
+        reports-map lines_report taken old new (ReadLines schemas (suite_reading bytes)) (SuiteOutcome documents bytes)
+        answer
+        (λ outcome lines. after-clear (documents_causes documents) (OfInput bytes read) finished.1 outcome
+        (input-within bytes read few outcome
+        (subst (λ ds. ReadLines ds (suite_reading bytes) outcome) finished.0 lines))) h
+
+    pub suite_reported : length bytes ≤ input_limit → (counts : Counts) → judging.subject ≡ subject.Suite
+        → Reports lines_report (ReadLines schemas (suite_reading bytes)) taken old new (Ok counts)
+        → Performs (RequestOutcome contents None false (judging_seen judging)) taken old new (Ok (all_passed counts))
+    suite_reported few counts e reported =
+        let (lines, h, passed, sent) = suite_over few (Ok counts) reported in
+        of_subject subject.Suite (Ok (all_passed counts)) e
+        (judged_reported SuiteReported (Ok (all_passed counts))
+        (suite_output (counts_of lines) (lines_text lines), (lines, h, refl), ap all_passed passed, sent))
+
+    pub suite_fault : length bytes ≤ input_limit → (f : Fault) → judging.subject ≡ subject.Suite
+        → Reports lines_report (ReadLines schemas (suite_reading bytes)) taken old new (Err f)
+        → Performs (RequestOutcome contents None false (judging_seen judging)) taken old new (Err f)
+    suite_fault few f e h =
+        of_subject subject.Suite (Err f) e
+        (judged_reported SuiteReported (Err f) (suite_output_fault f (suite_over few (Err f) h)))
 
 -- ---- places
 
@@ -166,27 +204,37 @@ module _ {D : Type 0} (contents : ContentsByPath) (pairs : DocumentPairs) (taken
       × PlacesOutcome documents reported) taken old new e h
 
   module _ (documents : DocumentTexts) (holds : AreContents contents pairs documents) where
-    pub places_reported : MayGoOn (documents_causes documents) → Sends taken old new (places_text documents)
-        → Performs (RequestOutcome contents None false (places pairs)) taken old new (Ok true)
-    places_reported clear sent = (
-      record { valid = true; text = places_text documents },
-      (documents, holds, (clear, refl)),
-      refl,
-      sent,
-    )
+    pub places_refused : (f : Fault) → AreFinishedAs documents (Err f)
+        → Performs (RequestOutcome contents None false (places pairs)) taken old new (Err f)
+    places_refused fault.Memory h = tt
+    places_refused fault.Read h = absurd h
+    places_refused fault.Write h = absurd h
+    places_refused fault.InputTooLarge h = inr (documents, holds, h)
+    places_refused _ h = (documents, holds, h)
 
-    pub places_fault : (e : Fault) → ReportsPlaces documents (Err e)
-        → (◌≡◌ {A = Result ℕ Fault} (Err e) (Err fault.Write) → SendsBeginning taken old new (places_text documents))
-        → Performs (RequestOutcome contents None false (places pairs)) taken old new (Err e)
-    places_fault fault.Write report begun = (
-      record { valid = true; text = places_text documents },
-      (documents, holds, (report, refl)),
-      begun refl,
-    )
-    places_fault fault.Memory report begun = tt
-    places_fault fault.Read report begun = absurd report
-    places_fault fault.InputTooLarge report begun = inr (documents, holds, report)
-    places_fault _ report begun = (documents, holds, report)
+    -- they aren't, and this lists the places of their schemas
+    module _ (schemas : bundle.Documents) (finished : AreFinishedAs documents (Ok schemas)) (text : List ℕ)
+        (lists : text ≡ lines_of (sites schemas)) where
+      lists_all : text ≡ places_text documents
+      lists_all = lists ∙ ap (λ ds. lines_of (sites ds)) finished.0
+
+      pub places_reported : Sends taken old new text
+          → Performs (RequestOutcome contents None false (places pairs)) taken old new (Ok true)
+      places_reported sent = (
+        record { valid = true; text = places_text documents },
+        (documents, holds, (finished.1, refl)),
+        refl,
+        subst (Sends taken old new) lists_all sent,
+      )
+
+      pub places_begun : (f : Fault) → f ≡ fault.Write → SendsBeginning taken old new text
+          → Performs (RequestOutcome contents None false (places pairs)) taken old new (Err f)
+      places_begun f write begun =
+          subst (λ f. Performs (RequestOutcome contents None false (places pairs)) taken old new (Err f)) (sym write) (
+            record { valid = true; text = places_text documents },
+            (documents, holds, (finished.1, refl)),
+            subst (SendsBeginning taken old new) lists_all begun,
+          )
 
 -- ---- a pair
 

@@ -5,10 +5,10 @@ ghost use Rattle.js_command.specs.Words.{places};
 ghost use Rattle.js_command.specs.Answer.{RequestOutcome, Performs, all_passed};
 ghost use Rattle.js_command.specs.code.Tasks.{ReadsInput, judging_seen, pairs_seen, request_seen};
 
-use crate::documents::{borrowed_documents, take_all, take_texts};
+use crate::documents::{Texts, take_documents, take_texts};
 use crate::files::Files;
 use crate::words::{DocumentFile, Judgement, Subject, Task};
-use js_output::{Counts, Fault, Sink, Source, run_pair, run_places, run_suite_text, run_text};
+use js_output::{Counts, Fault, Sink, Source, list_places, run_pair, run_suite_text, run_text};
 use std::alloc::Global;
 use std::io::{Read, Write};
 
@@ -48,14 +48,13 @@ fn perform_judging<F: Files, W: Write>(
     ensures unflushed { Unflushed out.old out.new }
 {
     let texts = take_texts(alloc, judging.documents.as_slice(), judging.file, files)?;
-    let docs = borrowed_documents(alloc, texts.documents.as_slice())?;
-    let judged = texts.judged.as_slice();
+    let Texts { documents, judged } = texts;
+    let schemas = documents.finish(alloc)?;
+    let text = judged.as_slice();
     match &judging.subject {
-        Subject::Instance(format, entry) => {
-            run_text(alloc, docs.as_slice(), entry, judged, *format, out)
-        }
+        Subject::Instance(format, entry) => run_text(alloc, &schemas, entry, text, *format, out),
         Subject::Suite => {
-            let counts = run_suite_text(alloc, docs.as_slice(), judged, out)?;
+            let counts = run_suite_text(alloc, &schemas, text, out)?;
             Ok(all_passed(&counts))
         }
     }
@@ -80,8 +79,9 @@ fn perform_places<F: Files, W: Write>(
     ensures nothing { IfErr result (λ e. e ≢ Fault.Write → out.new ≡ out.old) }
     ensures unflushed { Unflushed out.old out.new }
 {
-    let contents = take_all(alloc, documents, files)?;
-    let docs = borrowed_documents(alloc, contents.as_slice())?;
-    run_places(alloc, docs.as_slice(), out)?;
+    let taken = take_documents(alloc, documents, files)?;
+    let schemas = taken.finish(alloc)?;
+    let text = list_places(alloc, &schemas)?;
+    out.write_all(text.as_bytes())?;
     Ok(true)
 }

@@ -1,6 +1,5 @@
 pub mod CauseLists
 pub mod BundleCauses
-pub mod Roots
 pub mod Sites
 pub mod Recorded
 pub mod RowsThere

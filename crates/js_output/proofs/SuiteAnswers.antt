@@ -1,7 +1,7 @@
 -- What a suite answers, by where it stops.
 use Rattle.std.proofs.Common.{◌≡◌, ℕ, List, Option, Result, Ok, Err, refl, sym, subst}
+use Rattle.js_bundle.specs.Document as bundle
 use Rattle.js_output.specs.Device.{Tracked}
-use Rattle.js_output.specs.Documents.{DocumentTexts}
 use Rattle.js_output.specs.Suite.{AreLines, ReadLines, SendsLines, lines_report}
 use Rattle.js_output.specs.SuiteText.{SuiteGroup, IsSuiteFault}
 use Rattle.js_output.specs.Report.{Reports}
@@ -12,7 +12,7 @@ use Rattle.js_output.specs.declared.suite_lines.Counts.{Counts}
 use Rattle.js_output.specs.declared.suite_lines.TestLine.{TestLine}
 
 -- of what the suite's text is read as
-module _ {D : Type 0} (documents : DocumentTexts) (taken : D
+module _ {D : Type 0} (documents : bundle.Documents) (taken : D
     → Option (List ℕ)) (found : Result (List SuiteGroup) SuiteFault) where
   -- it has a fault
   pub suite-fault : (sink : Tracked D) (e : Fault) → IsSuiteFault found e

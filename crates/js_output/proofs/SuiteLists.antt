@@ -4,7 +4,6 @@ use Rattle.std.proofs.Common.{option_map, refl, sym, ap, ◌∙◌, subst, appen
 use Rattle.std.proofs.lemmas.List.{append-nil, drop_more, drop_all}
 use Rattle.js_bundle.specs.Document as bundle
 use Rattle.js_doc.specs.Seen.{value_of}
-use Rattle.js_output.specs.Documents.{DocumentTexts}
 use Rattle.js_output.specs.Suite.{AreGroupLines, AreLines, AreTestLines, IsBasis, IsLine}
 use Rattle.js_output.specs.SuiteText.{group_seen, groups_seen, test_seen, tests_seen}
 use Rattle.js_output.specs.declared.suite_lines.TestLine.{TestLine}
@@ -30,7 +29,7 @@ module _ (basis : Option bundle.Documents) (g : ℕ) (tests : List SuiteTest) wh
       subst (AreTestLines basis g 0 (tests_seen tests)) (append-nil done)
       (leads [] (subst (λ ts. AreTestLines basis g n (tests_seen ts) []) (sym (drop_all n tests end)) refl))
 
-module _ (documents : DocumentTexts) (groups : List SuiteGroup) where
+module _ (documents : bundle.Documents) (groups : List SuiteGroup) where
   abbrev pub LeadsGroups : ℕ → List TestLine → Type 0
   LeadsGroups n done = (rest : List TestLine) → AreLines documents n (groups_seen (drop n groups)) rest
       → AreLines documents 0 (groups_seen groups) (done ++ rest)
@@ -50,7 +49,7 @@ module _ (documents : DocumentTexts) (groups : List SuiteGroup) where
       (leads [] (subst (λ gs. AreLines documents n (groups_seen gs) []) (sym (drop_all n groups end)) refl))
 
 -- the lines of a group's tests are the group's, where what they were judged by is its basis
-module _ (documents : DocumentTexts) (g : ℕ) (group : SuiteGroup) (basis : Option bundle.Documents)
+module _ (documents : bundle.Documents) (g : ℕ) (group : SuiteGroup) (basis : Option bundle.Documents)
     (tests : List SuiteTest) (old new : List TestLine) where
   pub group_reported : IsBasis documents g (option_map value_of group.schema) basis → tests ≡ group.tests.items
       → ((these : List TestLine) × (new ≡ old ++ these) × AreTestLines basis g 0 (tests_seen tests) these)

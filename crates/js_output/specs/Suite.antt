@@ -9,7 +9,7 @@ use Rattle.js_walk.specs.declared.walking.limits.Limits.{Limits}
 use Rattle.js_output.specs.Cause.{Causes, MayGoOn, IsFirstFault}
 use Rattle.js_output.specs.Device.{Tracked, Sends, SendsBeginning}
 use Rattle.js_output.specs.Documents.{DocumentTexts, absolute_uri, document_under, bundle_of, uri_causes}
-use Rattle.js_output.specs.Documents.{adding_causes, bundle_causes, documents_causes}
+use Rattle.js_output.specs.Documents.{bundle_causes, documents_causes}
 use Rattle.js_output.specs.Entry.{entry_causes, entry_place}
 use Rattle.js_output.specs.Outcome.{IsResultOf, NoResultStands}
 use Rattle.js_output.specs.SuiteLines.{counts_of, lines_text}
@@ -32,29 +32,26 @@ group_uri g = codes "https://suite.example/" ++ decimal g
 abbrev pub with_root : List ℕ → Value → bundle.Documents
 with_root uri root = option_to_list (document_under (absolute_uri uri) (Ok root))
 
-abbrev pub documents_with : DocumentTexts → List ℕ → Value → bundle.Documents
-documents_with documents uri schema = bundle_of documents ++ with_root uri schema
+abbrev pub documents_with : bundle.Documents → List ℕ → Value → bundle.Documents
+documents_with documents uri schema = documents ++ with_root uri schema
 
-abbrev pub with_schema : DocumentTexts → ℕ → Value → bundle.Documents
+abbrev pub with_schema : bundle.Documents → ℕ → Value → bundle.Documents
 with_schema documents g schema = documents_with documents (group_uri g) schema
 
--- ---- what is refused of them: one after another, of them whole, and of the entry
-
-abbrev pub adding_causes_with : DocumentTexts → List ℕ → Causes
-adding_causes_with documents uri = adding_causes 0 documents ++ uri_causes (length (bundle_of documents)) uri
+-- ---- what is refused of them: of the schema's URI, of them whole, and of the entry
 
 abbrev pub whole_causes : bundle.Documents → List ℕ → Causes
 whole_causes documents uri = bundle_causes documents ++ entry_causes documents uri
 
-abbrev pub causes_with : DocumentTexts → List ℕ → Value → Causes
-causes_with documents uri schema = adding_causes_with documents uri
+abbrev pub causes_with : bundle.Documents → List ℕ → Value → Causes
+causes_with documents uri schema = uri_causes (length documents) uri
     ++ whole_causes (documents_with documents uri schema) uri
 
-abbrev pub group_causes : DocumentTexts → ℕ → Value → Causes
+abbrev pub group_causes : bundle.Documents → ℕ → Value → Causes
 group_causes documents g schema = causes_with documents (group_uri g) schema
 
 -- what the tests are judged by: these documents, or nothing where they are refused or the schema isn't whole
-abbrev pub IsBasis : DocumentTexts → ℕ → Option Value → Option bundle.Documents → Type 0
+abbrev pub IsBasis : bundle.Documents → ℕ → Option Value → Option bundle.Documents → Type 0
 IsBasis documents g None basis = basis ≡ None
 IsBasis documents g (Some schema) None = (f : Fault) × IsFirstFault (group_causes documents g schema) f
 IsBasis documents g (Some schema) (Some all) = MayGoOn (group_causes documents g schema)
@@ -92,12 +89,12 @@ module _ (basis : Option bundle.Documents) (g : ℕ) where
   AreTestLines n (test ∷ tests) [] = ⊥
   AreTestLines n (test ∷ tests) (line ∷ lines) = IsLine n test line × AreTestLines (n + 1) tests lines
 
-abbrev pub AreGroupLines : DocumentTexts → ℕ → SuiteGroup → List TestLine → Type 0
+abbrev pub AreGroupLines : bundle.Documents → ℕ → SuiteGroup → List TestLine → Type 0
 AreGroupLines documents g group lines = (basis : Option bundle.Documents) × IsBasis documents g group.schema basis
     × AreTestLines basis g 0 group.tests lines
 
 -- of groups, the first of which has the number g
-abbrev pub AreLines : DocumentTexts → ℕ → List SuiteGroup → List TestLine → Type 0
+abbrev pub AreLines : bundle.Documents → ℕ → List SuiteGroup → List TestLine → Type 0
 AreLines documents g [] lines = lines ≡ []
 AreLines documents g (group ∷ groups) lines =
     (these : List TestLine) × (later : List TestLine) × (lines ≡ these ++ later) × AreGroupLines documents g group these
@@ -106,7 +103,7 @@ AreLines documents g (group ∷ groups) lines =
 -- ---- the outcome
 
 -- what a suite's text is read as: its lines come, or its fault
-abbrev pub ReadLines : DocumentTexts → Result (List SuiteGroup) SuiteFault → Result (List TestLine) Fault → Type 0
+abbrev pub ReadLines : bundle.Documents → Result (List SuiteGroup) SuiteFault → Result (List TestLine) Fault → Type 0
 ReadLines documents (Ok groups) (Ok lines) = AreLines documents 0 groups lines
 ReadLines documents (Ok groups) (Err f) = ⊥
 ReadLines documents (Err e) answer = answer ≡ Err (fault.Suite e)
@@ -114,7 +111,7 @@ ReadLines documents (Err e) answer = answer ≡ Err (fault.Suite e)
 -- the documents alone come first
 abbrev pub SuiteOutcome : DocumentTexts → List ℕ → Result (List TestLine) Fault → Type 0
 SuiteOutcome documents bytes =
-    After (documents_causes documents) (OfInput bytes (ReadLines documents (suite_reading bytes)))
+    After (documents_causes documents) (OfInput bytes (ReadLines (bundle_of documents) (suite_reading bytes)))
 
 -- ---- what is returned
 

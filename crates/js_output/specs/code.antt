@@ -1,4 +1,3 @@
 -- What only private functions speak of: no public clause cites it.
 pub mod Prepared
-pub mod Roots
 pub mod SuiteJudging

@@ -22,11 +22,12 @@ mod suite_text;
 mod text;
 mod writing;
 
+pub use documents::{add_document, finish_bundle};
 pub use fault::{Fault, SuiteFault};
 pub use fault_line::refusal_line;
 pub use finished::{judge, judge_within, run_finished, run_finished_within};
 pub use input::read_all;
-pub use js_bundle::{EntryFault, Refusal, RefusalKind};
+pub use js_bundle::{Bundle, EntryFault, Refusal, RefusalKind, Schemas};
 pub use js_eval::Limits;
 pub use js_tree::Format;
 pub use pair_of_texts::run_pair;

@@ -5,6 +5,7 @@ ghost use Rattle.js_output.specs.Outcome.{OutcomeOfTexts, PairOutcome, first_lin
 ghost use Rattle.js_output.specs.Outcome.{output_report};
 ghost use Rattle.js_output.specs.Report.{Answers, Reports};
 
+use crate::documents::finished;
 use crate::fault::Fault;
 use crate::input::read_all;
 use crate::running::run_text;
@@ -70,6 +71,7 @@ fn run_texts<W: Write>(
     instance: &[u8],
     out: &mut Sink<W>,
 ) -> Result<bool, Fault>
+    requires { length instance.now ≤ input_limit }
     ensures answer { Reports output_report (OutcomeOfTexts document.now instance.now) W.contents
         out.old out.new result }
     ensures nothing { IfErr result (λ e. e ≢ Fault.Write → out.new ≡ out.old) }
@@ -77,5 +79,6 @@ fn run_texts<W: Write>(
     ensures sink_stays { out.old.failed ≡ true → out.new ≡ out.old }
 {
     let docs = [(PAIR_URI, document)];
-    run_text(alloc, &docs, PAIR_URI, instance, Format::Flag, out)
+    let schemas = finished(alloc, &docs)?;
+    run_text(alloc, &schemas, PAIR_URI, instance, Format::Flag, out)
 }

@@ -1,20 +1,22 @@
 //! From documents and an instance to the output's text.
-ghost use Rattle.std.specs.Prelude.{◌≡◌, ◌≢◌, true, IfErr};
-ghost use Rattle.js_output.specs.Device.{Unflushed};
+ghost use Rattle.std.specs.Prelude.{◌≡◌, ◌≢◌, ◌≤◌, true, length, IfErr};
+ghost use Rattle.js_bundle.specs.Schemas.{is_place, place_at};
+ghost use Rattle.js_output.specs.Device.{input_limit, Unflushed};
 ghost use Rattle.js_output.specs.Documents.{documents_of};
 ghost use Rattle.js_output.specs.Entry.{entry_causes};
 ghost use Rattle.js_output.specs.Outcome.{beginning_causes, Outcome, FinishedOutcome, output_report};
-ghost use Rattle.js_output.specs.Outcome.{UsesSource};
+ghost use Rattle.js_output.specs.Outcome.{InstanceOutcome, IsLateOrMemory, UsesSource};
 ghost use Rattle.js_output.specs.Report.{Answers, Reports};
 
 use crate::documents::finished;
 use crate::entry::entry_place;
 use crate::fault::Fault;
-use crate::finished::{judge, run_finished};
 use crate::input::read_all;
+use crate::judging::judge_text;
 use crate::sink::Sink;
 use crate::source::Source;
-use js_bundle::Schemas;
+use js_bundle::{Place, Schemas};
+use js_eval::Limits;
 use js_tree::Format;
 use std::alloc::Global;
 use std::io::{Read, Write};
@@ -55,21 +57,24 @@ pub fn run<R: Read, W: Write>(
     run_read(alloc, &schemas, entry, instance, format, out)
 }
 
-/// [`run`] of an instance that has been read.
+/// [`run`] over finished schemas, of an instance that has been read: [`crate::run_finished`] without the
+/// test of its size.
 ///
 /// # Errors
-/// Those of [`run`], except `Read`.
+/// Those of [`crate::run_finished`], except `InputTooLarge`.
 pub fn run_text<W: Write>(
     alloc: Global,
-    docs: &[(&str, &[u8])],
+    schemas: &Schemas,
     entry: &str,
     instance: &[u8],
     format: Format,
     out: &mut Sink<W>,
 ) -> Result<bool, Fault>
-    // The instance has this outcome, and its text was written.
+    requires { length instance.now ≤ input_limit }
+
+    // The entry and the instance have this outcome over these schemas, and its text was written.
     ensures answer { Reports output_report
-        (Outcome (documents_of docs.now) entry.now format instance.now) W.contents
+        (FinishedOutcome schemas.now entry.now format instance.now) W.contents
         out.old out.new result }
 
     // Without output nothing is written.
@@ -77,8 +82,8 @@ pub fn run_text<W: Write>(
     ensures unflushed { Unflushed out.old out.new }
     ensures sink_stays { out.old.failed ≡ true → out.new ≡ out.old }
 {
-    let schemas = finished(alloc, docs)?;
-    run_finished(alloc, &schemas, entry, instance, format, out)
+    let place = entry_place(alloc, schemas, entry)?;
+    judge_fitting(alloc, schemas, place, instance, format, out)
 }
 
 // Looks the entry up in finished schemas, then reads the instance and judges it.
@@ -100,5 +105,35 @@ fn run_read<R: Read, W: Write>(
 {
     let place = entry_place(alloc, schemas, entry)?;
     let bytes = read_all(alloc, instance)?;
-    judge(alloc, schemas, place, bytes.as_slice(), format, out)
+    judge_fitting(alloc, schemas, place, bytes.as_slice(), format, out)
+}
+
+// Judges an instance whose size was tested as it was read.
+fn judge_fitting<W: Write>(
+    alloc: Global,
+    schemas: &Schemas,
+    place: Place,
+    instance: &[u8],
+    format: Format,
+    out: &mut Sink<W>,
+) -> Result<bool, Fault>
+    requires there { is_place schemas.now place ≡ true }
+    requires fits { length instance.now ≤ input_limit }
+    ensures answer { Reports output_report
+        (InstanceOutcome schemas.now (place_at schemas.now place) format instance.now) W.contents
+        out.old out.new result }
+    ensures late { IfErr result IsLateOrMemory }
+    ensures nothing { IfErr result (λ e. e ≢ Fault.Write → out.new ≡ out.old) }
+    ensures unflushed { Unflushed out.old out.new }
+    ensures sink_stays { out.old.failed ≡ true → out.new ≡ out.old }
+{
+    judge_text(
+        alloc,
+        schemas,
+        place,
+        format,
+        Limits::standard(),
+        instance,
+        out,
+    )
 }

@@ -1,22 +1,21 @@
 //! A suite of tests, run over documents.
-ghost use Rattle.std.specs.Prelude.{◌≡◌, ◌≢◌, true, IfErr};
-ghost use Rattle.js_output.specs.Device.{Unflushed};
+ghost use Rattle.std.specs.Prelude.{◌≡◌, ◌≢◌, ◌≤◌, true, length, IfErr};
+ghost use Rattle.js_output.specs.Device.{input_limit, Unflushed};
 ghost use Rattle.js_output.specs.Documents.{documents_of, documents_causes};
 ghost use Rattle.js_output.specs.Outcome.{UsesSource};
 ghost use Rattle.js_output.specs.Suite.{ReadLines, SuiteOutcome, lines_report, SendsLines, IsSuiteLate};
 ghost use Rattle.js_output.specs.SuiteText.{suite_reading};
 ghost use Rattle.js_output.specs.Report.{Answers, Reports};
-ghost use Rattle.js_output.specs.code.Roots.{AreRoots};
 
-use crate::documents::checked_roots;
+use crate::documents::finished;
 use crate::fault::Fault;
-use crate::input::{LIMIT, read_all};
+use crate::input::read_all;
 use crate::sink::Sink;
 use crate::source::Source;
 use crate::suite_judging::judged_lines;
 use crate::suite_lines::{Counts, TestLine, counts_of, lines_text};
 use crate::suite_text::suite_from;
-use js_doc::Doc;
+use js_bundle::Schemas;
 use std::alloc::Global;
 use std::io::{Read, Write};
 
@@ -57,56 +56,35 @@ pub fn run_suite<R: Read, W: Write>(
     ensures unflushed { Unflushed out.old out.new }
     ensures sink_stays { out.old.failed ≡ true → out.new ≡ out.old }
 {
-    let roots = checked_roots(alloc, docs)?;
+    let schemas = finished(alloc, docs)?;
     let bytes = read_all(alloc, suite)?;
-    write_suite(alloc, docs, roots.as_slice(), bytes.as_slice(), out)
+    run_suite_text(alloc, &schemas, bytes.as_slice(), out)
 }
 
-/// [`run_suite`] of a suite that has been read.
+/// [`run_suite`] over finished schemas, of a suite that has been read.
 ///
 /// # Errors
-/// Those of [`run_suite`], except `Read`.
+/// `Suite` and `Write`, as of [`run_suite`]; `Memory`.
 pub fn run_suite_text<W: Write>(
     alloc: Global,
-    docs: &[(&str, &[u8])],
+    schemas: &Schemas,
     suite: &[u8],
     out: &mut Sink<W>,
 ) -> Result<Counts, Fault>
+    requires { length suite.now ≤ input_limit }
+
     // The suite has these lines, and their text was written.
-    ensures answer { Reports lines_report (SuiteOutcome (documents_of docs.now) suite.now)
+    ensures answer { Reports lines_report (ReadLines schemas.now (suite_reading suite.now))
         W.contents out.old out.new result }
+    ensures late { IfErr result IsSuiteLate }
 
     // Without lines nothing is written.
     ensures nothing { IfErr result (λ e. e ≢ Fault.Write → out.new ≡ out.old) }
     ensures unflushed { Unflushed out.old out.new }
     ensures sink_stays { out.old.failed ≡ true → out.new ≡ out.old }
 {
-    let roots = checked_roots(alloc, docs)?;
-    if LIMIT < suite.len() {
-        return Err(Fault::InputTooLarge);
-    }
-    write_suite(alloc, docs, roots.as_slice(), suite, out)
-}
-
-// Runs the suite with this text over documents with these values.
-fn write_suite<W: Write>(
-    alloc: Global,
-    docs: &[(&str, &[u8])],
-    roots: &[Doc],
-    bytes: &[u8],
-    out: &mut Sink<W>,
-) -> Result<Counts, Fault>
-    requires { AreRoots docs.now roots.now }
-    ensures answer { Reports lines_report
-        (ReadLines (documents_of docs.now) (suite_reading bytes.now)) W.contents
-        out.old out.new result }
-    ensures late { IfErr result IsSuiteLate }
-    ensures nothing { IfErr result (λ e. e ≢ Fault.Write → out.new ≡ out.old) }
-    ensures unflushed { Unflushed out.old out.new }
-    ensures sink_stays { out.old.failed ≡ true → out.new ≡ out.old }
-{
-    let groups = suite_from(alloc, bytes)?;
-    let lines = judged_lines(alloc, docs, roots, groups.as_slice())?;
+    let groups = suite_from(alloc, suite)?;
+    let lines = judged_lines(alloc, schemas, groups.as_slice())?;
     write_lines(alloc, lines.as_slice(), out)
 }
 

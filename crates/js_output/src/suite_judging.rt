@@ -3,57 +3,52 @@ ghost use Rattle.std.specs.Prelude.{◌≡◌, ◌++◌, true, List, OnOk, IfOk,
 ghost use Rattle.js_doc.specs.Seen.{value_of};
 ghost use Rattle.js_bundle.specs.Schemas.{is_place, place_at};
 ghost use Rattle.js_output.specs.Cause.{MayGoOn, FailsBy};
-ghost use Rattle.js_output.specs.Documents.{documents_of, uri_causes};
+ghost use Rattle.js_output.specs.Documents.{uri_causes};
 ghost use Rattle.js_output.specs.Entry.{IsEntry};
 ghost use Rattle.js_output.specs.Suite.{AreGroupLines, AreLines, AreTestLines, IsBasis, IsLine, IsStatusOn};
-ghost use Rattle.js_output.specs.Suite.{adding_causes_with, causes_with, documents_with, group_causes, group_uri};
+ghost use Rattle.js_output.specs.Suite.{causes_with, documents_with, group_causes, group_uri};
 ghost use Rattle.js_output.specs.Suite.{whole_causes, with_root, with_schema};
-ghost use Rattle.js_output.specs.code.Roots.{AreRoots};
 ghost use Rattle.js_output.specs.code.SuiteJudging.{IsJudge, IsStatusAt, IsThere, IsNotMemory, basis_of, compared};
 ghost use Rattle.js_output.specs.SuiteText.{groups_seen, group_seen, tests_seen, test_seen};
 ghost use Rattle.js_output.specs.declared.suite_lines.TestLine.{TestLine};
 
-use crate::documents::{bundle_again, finish_bundle};
+use crate::documents::finish_bundle;
 use crate::entry::{Entry, entry_place};
 use crate::fault::Fault;
 use crate::suite_lines::{TestLine, TestStatus};
 use crate::suite_text::{SuiteGroup, SuiteTest};
-use js_bundle::Bundle;
+use js_bundle::{Bundle, Schemas};
 use js_doc::{Doc, Memory};
 use js_eval::{WalkFault, verdict};
 use std::alloc::{AllocError, Global};
 
-/// A line for each test of the groups, in order. Each group has the documents, of which these are the
-/// values, to itself, with its schema as the last one, which is the entry.
+/// A line for each test of the groups, in order. Each group has the documents to itself, with its
+/// schema as the last one, which is the entry.
 pub(crate) fn judged_lines(
     alloc: Global,
-    docs: &[(&str, &[u8])],
-    roots: &[Doc],
+    schemas: &Schemas,
     groups: &[SuiteGroup],
 ) -> Result<Vec<TestLine>, Memory>
-    requires { AreRoots docs.now roots.now }
-    ensures { IfOk result (λ v. AreLines (documents_of docs.now) 0 (groups_seen groups.now) v.items) }
+    ensures { IfOk result (λ v. AreLines schemas.now 0 (groups_seen groups.now) v.items) }
 {
     let mut lines = Vec::new(alloc);
     for number in 0..groups.len() {
-        judge_group(alloc, docs, roots, number, &groups[number], &mut lines)?;
+        judge_group(alloc, schemas, number, &groups[number], &mut lines)?;
     }
     Ok(lines)
 }
 
 fn judge_group(
     alloc: Global,
-    docs: &[(&str, &[u8])],
-    roots: &[Doc],
+    schemas: &Schemas,
     number: usize,
     group: &SuiteGroup,
     lines: &mut Vec<TestLine>,
 ) -> Result<(), Memory>
-    requires { AreRoots docs.now roots.now }
     ensures { OnOk result ((these : List TestLine) × (lines.new.items ≡ lines.old.items ++ these)
-        × AreGroupLines (documents_of docs.now) number (group_seen group.now) these) }
+        × AreGroupLines schemas.now number (group_seen group.now) these) }
 {
-    let entry = group_entry(alloc, docs, roots, number, &group.schema)?;
+    let entry = group_entry(alloc, schemas, number, &group.schema)?;
     judge_tests(alloc, &entry, number, group.tests.as_slice(), lines)
 }
 
@@ -98,20 +93,18 @@ fn judged_line(
 // What a group's tests are judged by. Its documents are finished once, however many tests it has.
 fn group_entry(
     alloc: Global,
-    docs: &[(&str, &[u8])],
-    roots: &[Doc],
+    schemas: &Schemas,
     number: usize,
     schema: &Option<Doc>,
 ) -> Result<Option<Entry>, Memory>
-    requires { AreRoots docs.now roots.now }
-    ensures basis { IfOk result (λ o. IsBasis (documents_of docs.now) number
+    ensures basis { IfOk result (λ o. IsBasis schemas.now number
         (option_map value_of schema.now) (basis_of o)) }
     ensures entry { IfOk result (IsJudge number) }
 {
     let Some(schema) = schema else {
         return Ok(None);
     };
-    match entry_with(alloc, docs, roots, number, schema) {
+    match entry_with(alloc, schemas, number, schema) {
         Ok(entry) => Ok(Some(entry)),
         Err(fault) => without_entry(&fault),
     }
@@ -129,43 +122,29 @@ fn without_entry(fault: &Fault) -> Result<Option<Entry>, Memory>
 }
 
 // The group's schema, added after the documents, as the entry.
-fn entry_with(
-    alloc: Global,
-    docs: &[(&str, &[u8])],
-    roots: &[Doc],
-    number: usize,
-    schema: &Doc,
-) -> Result<Entry, Fault>
-    requires { AreRoots docs.now roots.now }
+fn entry_with(alloc: Global, schemas: &Schemas, number: usize, schema: &Doc) -> Result<Entry, Fault>
     ensures schemas { IfOk result
-        (λ e. e.schemas ≡ with_schema (documents_of docs.now) number (value_of schema.now)) }
+        (λ e. e.schemas ≡ with_schema schemas.now number (value_of schema.now)) }
     ensures entry { IfOk result (λ e. IsEntry e.schemas (group_uri number) e) }
     ensures clear { OnOk result
-        (MayGoOn (group_causes (documents_of docs.now) number (value_of schema.now))) }
+        (MayGoOn (group_causes schemas.now number (value_of schema.now))) }
     ensures err { IfErr result
-        (FailsBy (group_causes (documents_of docs.now) number (value_of schema.now))) }
+        (FailsBy (group_causes schemas.now number (value_of schema.now))) }
 {
     let uri = group_uri(alloc, number)?;
-    entry_at(alloc, docs, roots, uri.as_str(), schema)
+    entry_at(alloc, schemas, uri.as_str(), schema)
 }
 
-fn entry_at(
-    alloc: Global,
-    docs: &[(&str, &[u8])],
-    roots: &[Doc],
-    uri: &str,
-    schema: &Doc,
-) -> Result<Entry, Fault>
-    requires { AreRoots docs.now roots.now }
+fn entry_at(alloc: Global, schemas: &Schemas, uri: &str, schema: &Doc) -> Result<Entry, Fault>
     ensures schemas { IfOk result
-        (λ e. e.schemas ≡ documents_with (documents_of docs.now) uri.now (value_of schema.now)) }
+        (λ e. e.schemas ≡ documents_with schemas.now uri.now (value_of schema.now)) }
     ensures entry { IfOk result (λ e. IsEntry e.schemas uri.now e) }
     ensures clear { OnOk result
-        (MayGoOn (causes_with (documents_of docs.now) uri.now (value_of schema.now))) }
+        (MayGoOn (causes_with schemas.now uri.now (value_of schema.now))) }
     ensures err { IfErr result
-        (FailsBy (causes_with (documents_of docs.now) uri.now (value_of schema.now))) }
+        (FailsBy (causes_with schemas.now uri.now (value_of schema.now))) }
 {
-    let bundle = bundle_with(alloc, docs, roots, uri, schema)?;
+    let bundle = bundle_with(alloc, schemas, uri, schema)?;
     entry_in(alloc, bundle, uri)
 }
 
@@ -175,20 +154,13 @@ fn group_uri(alloc: Global, number: usize) -> Result<String, AllocError>
     format!(in alloc; "https://suite.example/{number}")
 }
 
-fn bundle_with(
-    alloc: Global,
-    docs: &[(&str, &[u8])],
-    roots: &[Doc],
-    uri: &str,
-    schema: &Doc,
-) -> Result<Bundle, Fault>
-    requires { AreRoots docs.now roots.now }
+fn bundle_with(alloc: Global, schemas: &Schemas, uri: &str, schema: &Doc) -> Result<Bundle, Fault>
     ensures ok { IfOk result
-        (λ b. b ≡ documents_with (documents_of docs.now) uri.now (value_of schema.now)) }
-    ensures clear { OnOk result (MayGoOn (adding_causes_with (documents_of docs.now) uri.now)) }
-    ensures err { IfErr result (FailsBy (adding_causes_with (documents_of docs.now) uri.now)) }
+        (λ b. b ≡ documents_with schemas.now uri.now (value_of schema.now)) }
+    ensures clear { OnOk result (MayGoOn (uri_causes (length schemas.now) uri.now)) }
+    ensures err { IfErr result (FailsBy (uri_causes (length schemas.now) uri.now)) }
 {
-    let mut bundle = bundle_again(alloc, docs, roots)?;
+    let mut bundle = schemas.to_bundle(alloc)?;
     let schema = schema.copy(alloc)?;
     add_doc(&mut bundle, uri, schema)?;
     Ok(bundle)

@@ -1,5 +1,6 @@
-use Rattle.std.proofs.Common.{Err, ap}
+use Rattle.std.proofs.Common.{ℕ, ◌+◌, ◌≤◌, List, length, Option, Some, None, Err, ap, arith, length-drop}
 use Rattle.std.proofs.lemmas.Result.{err_from_is_err_and}
+use Rattle.js_output.specs.Device.{input_limit}
 use Rattle.js_output.specs.Outcome.{PairOutcome, OutcomeOfTexts, first_line_feed}
 use Rattle.js_output.specs.Outcome.{text_before, text_after, output_report}
 use Rattle.js_output.proofs.Answering.{reports-map, answers-input, answers-reported, left_all, input-over, input-within}
@@ -27,3 +28,12 @@ returns-clause-answer g c =
     answers-reported output_report PairOutcome taken c.args.out.now c.run_texts.new.out left bytes c.run_texts.result is
     (reports-map output_report taken c.args.out.now c.run_texts.new.out of (PairOutcome bytes) c.run_texts.result
     (input-within bytes of c.in_ok-bytes.ensures.fits) reported)
+
+-- a part of the input is no longer than the whole
+after_fits : (at : Option ℕ) (bytes : List ℕ) → length bytes ≤ input_limit → length (text_after at bytes) ≤ input_limit
+after_fits None bytes few = omega arith
+after_fits (Some at) bytes few = omega (arith, few, length-drop (at + 1) bytes)
+
+pub run_texts-requires : goal.run_texts-requires
+run_texts-requires g c = rw (c.texts_of.ensures.after, c.as_slice.ensures.value)
+    (after_fits (first_line_feed c.in_ok-bytes.bytes.items) c.in_ok-bytes.bytes.items c.in_ok-bytes.ensures.fits)

@@ -41,11 +41,11 @@ returns-clause-answer g c =
     let bytes = c.in_ok-bytes.bytes.items in
     let taken = g.W.Write.contents in
     let whole = left_all left _ bytes c.in_ok-bytes.ensures.ok c.in_ok-bytes.ensures.end in
-    let judged = rw c.as_slice.ensures.value at c.judge.ensures.answer in
+    let judged = rw c.as_slice.ensures.value at c.judge_fitting.ensures.answer in
     let read = answers-reported output_report (InstanceOutcome docs (place_at docs c.in_ok-place.place) c.args.format)
-    taken c.args.out.now c.judge.new.out left bytes c.judge.result whole judged in
+    taken c.args.out.now c.judge_fitting.new.out left bytes c.judge_fitting.result whole judged in
     let reported = subst (λ p. Answers output_report (InstanceOutcome docs p c.args.format) [] left taken c.args.out.now
-    c.judge.new.out c.judge.result) c.in_ok-place.ensures.named read in
+    c.judge_fitting.new.out c.judge_fitting.result) c.in_ok-place.ensures.named read in
     answers-after output_report (InstanceOutcome docs (entry_place docs c.args.entry.now) c.args.format) taken
-    c.args.out.now c.judge.new.out (entry_causes docs c.args.entry.now) left c.in_ok-place.ensures.clear
-    c.judge.result reported
+    c.args.out.now c.judge_fitting.new.out (entry_causes docs c.args.entry.now) left c.in_ok-place.ensures.clear
+    c.judge_fitting.result reported

@@ -1,5 +1,4 @@
 use Rattle.std.proofs.Common.{◌++◌, List, drop}
-use Rattle.js_output.specs.Documents.{documents_of}
 use Rattle.js_output.specs.Suite.{AreLines}
 use Rattle.js_output.specs.SuiteText.{groups_seen}
 use Rattle.js_output.specs.declared.suite_lines.TestLine.{TestLine}
@@ -8,5 +7,5 @@ use Rattle.js_output.proofs.suite_judging.judged_lines.Given as goal
 -- the lines so far, and those of the groups that are left, are all
 abbrev pub invariant-loop-number : goal.invariant-loop-number
 invariant-loop-number l =
-    (rest : List TestLine) → AreLines (documents_of l.docs) l.number (groups_seen (drop l.number l.groups)) rest
-    → AreLines (documents_of l.docs) 0 (groups_seen l.groups) (l.lines.items ++ rest)
+    (rest : List TestLine) → AreLines l.schemas l.number (groups_seen (drop l.number l.groups)) rest
+    → AreLines l.schemas 0 (groups_seen l.groups) (l.lines.items ++ rest)

@@ -1,7 +1,7 @@
 use Rattle.std.proofs.Common.{length}
 use Rattle.std.proofs.lemmas.Result.{err_from_is_err_and}
 use Rattle.js_output.proofs.BundleCauses.{add_fails}
-use Rattle.js_output.proofs.documents.add.Goals as goal
+use Rattle.js_output.proofs.documents.add_document.Goals as goal
 
 pub returns-in_err-add-clause-err : goal.returns-in_err-add-clause-err
 returns-in_err-add-clause-err c =

@@ -1,11 +1,10 @@
 use Rattle.std.proofs.Common.{◌≡◌}
-use Rattle.js_command.specs.code.Taken.{documents_taken}
-use Rattle.js_command.proofs.Holding.{HoldsSoFar}
 use Rattle.js_command.proofs.FileFaults.{RestDecides}
-use Rattle.js_command.proofs.documents.take_all.Given as goal
+use Rattle.js_command.proofs.KeptDocuments.{TakenSoFar}
+use Rattle.js_command.proofs.documents.take_documents.Given as goal
 
 abbrev pub invariant-loop-document : goal.invariant-loop-document
 invariant-loop-document g l =
-    HoldsSoFar (g.F.Files.contents l.initial.files) l.documents l.document-index (documents_taken l.all.items)
+    TakenSoFar (g.F.Files.contents l.initial.files) l.documents l.document-index l.taken.bundle l.taken.refused
     × RestDecides (g.F.Files.contents l.initial.files) l.documents l.document-index
     × (g.F.Files.contents l.files ≡ g.F.Files.contents l.initial.files)
