@@ -1,16 +1,22 @@
 -- Loops that look for the first fault.
 use Rattle.std.proofs.Common.{◌≡◌, ℕ, ◌+◌, ◌<◌, List, [], ◌∷◌, ◌++◌, Option, Some, None, true, false, map, get_or}
-use Rattle.std.proofs.Common.{length, drop, take, reverse, decimal, is_some, option_map, append_assoc}
-use Rattle.std.proofs.Common.{sym, ap, ◌∙◌}
+use Rattle.std.proofs.Common.{length, drop, take, reverse, decimal, is_some, option_map, append_assoc, sym, ap, ◌∙◌}
 use Rattle.std.proofs.lemmas.List.{drop_more, take_more, reverse-append}
+use Rattle.url.specs.Parts.{Parts}
 use Rattle.js_doc.specs.Pointer.{Tokens}
 use Rattle.js_doc.specs.Seen.{value_of, pair_of}
-use Rattle.js_doc.specs.Value.{Text, Named, Values}
+use Rattle.js_doc.specs.Value.{Text, Named, Values, object, members}
 use Rattle.js_doc.specs.declared.doc.Doc.{Doc}
+use Rattle.js_doc.proofs.PartLists.{member_list-members}
 use Rattle.js_upgrade.specs.Dialect.{first_of}
-use Rattle.js_upgrade.specs.Fault.{Found, deeper}
+use Rattle.js_upgrade.specs.Fault.{Found, deeper, fault_in, member_fault, schema_fault}
+use Rattle.js_upgrade.specs.Resource.{Resource, own_base}
 use Rattle.js_upgrade.specs.Seen.{found_of}
+use Rattle.js_upgrade.specs.Upgrade.{holding_in, own_dialect}
+use Rattle.js_upgrade.specs.declared.dialect.Dialect.{Dialect}
+use Rattle.js_upgrade.specs.declared.fault.Pass.{Pass}
 use Rattle.js_upgrade.specs.declared.finding.Found as rust
+use Rattle.js_upgrade.specs.declared.holding.Holding.TheVariants.{One}
 use Rattle.js_upgrade.proofs.Loops.{Pairs}
 
 -- ---- what was found in one part decides, or the rest does
@@ -25,6 +31,46 @@ module _ (token : Text) (rest : Option Found) where
       → first_of (option_map (deeper token) f) rest ≡ option_map (deeper token) (option_map found_of found)
   stops None f is some = absurd (cc)
   stops (Some r) f is some = ap (λ g. first_of (option_map (deeper token) g) rest) (sym is)
+
+-- ---- a schema comes before those that it holds
+
+here_found : (here : Option rust.Found) (f rest : Option Found) → option_map found_of here ≡ f → is_some here ≡ true
+    → option_map found_of here ≡ first_of f rest
+here_found None f rest is some = absurd (cc)
+here_found (Some r) f rest is some = ap (λ g. first_of g rest) is
+
+not_here : (here : Option rust.Found) (f rest : Option Found) → option_map found_of here ≡ f → is_some here ≡ false
+    → first_of f rest ≡ rest
+not_here None f rest is none = ap (λ g. first_of g rest) (sym is)
+not_here (Some r) f rest is none = absurd (cc)
+
+module _ (pass : Pass) (all : List Resource) (d : Dialect) (base : Parts) (siblings : Named) where
+  abbrev pub keywords_fault : Dialect → Parts → Option Found
+  keywords_fault own below = member_fault pass all (holding_in own siblings) own below (members siblings)
+
+  abbrev below_them : Option Found
+  below_them =
+      let own = own_dialect d siblings in keywords_fault own (own_base own base siblings)
+
+  schema_is : first_of (schema_fault pass all d base siblings) below_them
+      ≡ fault_in pass all One d base (object (members siblings))
+  schema_is =
+      ap (λ ns. let own = own_dialect d ns in
+      first_of (schema_fault pass all d base ns)
+      (member_fault pass all (holding_in own ns) own (own_base own base ns) (members siblings)))
+      (sym (member_list-members siblings))
+
+  pub schema_stops : (here : Option rust.Found) → option_map found_of here ≡ schema_fault pass all d base siblings
+      → is_some here ≡ true → option_map found_of here ≡ fault_in pass all One d base (object (members siblings))
+  schema_stops here is some = here_found here (schema_fault pass all d base siblings) below_them is some ∙ schema_is
+
+  pub schema_goes_on : (own : Dialect) (below : Parts) (here : Option rust.Found)
+      → own ≡ own_dialect d siblings → below ≡ own_base own base siblings
+      → option_map found_of here ≡ schema_fault pass all d base siblings → is_some here ≡ false
+      → keywords_fault own below ≡ fault_in pass all One d base (object (members siblings))
+  schema_goes_on own below here same based is none =
+      ap (keywords_fault own) based ∙ ap (λ e. keywords_fault e (own_base e base siblings)) same
+      ∙ sym (not_here here (schema_fault pass all d base siblings) below_them is none) ∙ schema_is
 
 -- ---- members, one after the other, where g is the first fault in them
 

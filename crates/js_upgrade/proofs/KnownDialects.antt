@@ -7,12 +7,12 @@ use Rattle.js_doc.specs.Parts.{member_list}
 use Rattle.js_doc.specs.Value.{Value, null, truth, whole, text, list, object, Values}
 use Rattle.js_upgrade.specs.Dialect.{first_of}
 use Rattle.js_upgrade.specs.Documents.{Source, all_resources, all_upgraded, is_known, source_dialect, upgraded_among}
-use Rattle.js_upgrade.specs.Fault.{at_keyword, dialect_kind, documents_fault, fault_among, fault_by, in_document}
-use Rattle.js_upgrade.specs.Fault.{number_fault, repeated_fault, root_fault, root_kind, source_fault, unnamed}
+use Rattle.js_upgrade.specs.Fault.{dialect_kind, documents_fault, fault_among, fault_by, in_document, names_fault}
+use Rattle.js_upgrade.specs.Fault.{first_fault, number_fault, root_kind, source_fault, unnamed, uris_fault}
 use Rattle.js_upgrade.specs.Resource.{Resource}
 use Rattle.js_upgrade.specs.Upgrade.{dialect_found, dialect_in, document_dialect}
 use Rattle.js_upgrade.specs.declared.dialect.Dialect.{Dialect}
-use Rattle.js_upgrade.specs.declared.fault.Pass.TheVariants.{Names, References}
+use Rattle.js_upgrade.specs.declared.fault.Pass.TheVariants.{Names}
 
 -- ---- where there is no first one, there is none
 
@@ -62,15 +62,13 @@ module _ (all : List Resource) where
 
   known_among : (sources : List Source) → fault_among all sources ≡ None → list_all is_known sources ≡ true
   known_among sources e =
-      let names = documents_fault Names all 0 sources in
-      let later = first_of (repeated_fault [] 0 sources) (documents_fault References all 0 sources) in
-      let few = neither (number_fault (length sources)) (first_of names later) e in
-      all_known 0 sources (neither names later few.1).0
+      let few = neither (number_fault (length sources)) (names_fault all sources) e in
+      all_known 0 sources (neither (documents_fault Names all 0 sources) (uris_fault all sources) few.1).0
 
 -- so they are upgraded
 pub upgraded_whole : (all : List Resource) (sources : List Source) (vs : Values) → all ≡ all_resources sources
-    → None ≡ fault_among all sources → vs ≡ map (upgraded_among all) sources → all_upgraded sources ≡ Some vs
-upgraded_whole all sources vs found none made =
+    → first_fault sources ≡ None → vs ≡ map (upgraded_among all) sources → all_upgraded sources ≡ Some vs
+upgraded_whole all sources vs found clear made =
     ap (λ b. cond b (Some (map (upgraded_among (all_resources sources)) sources)) None)
-    (known_among all sources (sym none))
+    (known_among (all_resources sources) sources clear)
     ∙ ap Some (sym (made ∙ ap (λ rs. map (upgraded_among rs) sources) found))

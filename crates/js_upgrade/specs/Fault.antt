@@ -189,11 +189,14 @@ repeated_fault seen n (s ∷ ss) =
 
 -- ---- the first fault of documents that are upgraded together
 
+abbrev pub uris_fault : List Resource → Sources → Option UpgradeFault
+uris_fault all sources = first_of (repeated_fault [] 0 sources) (documents_fault References all 0 sources)
+
+abbrev pub names_fault : List Resource → Sources → Option UpgradeFault
+names_fault all sources = first_of (documents_fault Names all 0 sources) (uris_fault all sources)
+
 abbrev pub fault_among : List Resource → Sources → Option UpgradeFault
-fault_among all sources =
-    first_of (number_fault (length sources))
-    (first_of (documents_fault Names all 0 sources)
-    (first_of (repeated_fault [] 0 sources) (documents_fault References all 0 sources)))
+fault_among all sources = first_of (number_fault (length sources)) (names_fault all sources)
 
 abbrev pub first_fault : Sources → Option UpgradeFault
 first_fault sources = fault_among (all_resources sources) sources

@@ -1,8 +1,8 @@
 //! The first fault of documents that are upgraded together.
 ghost use Rattle.std.specs.Prelude.{◌≡◌, [], IfOk, map, option_map};
 ghost use Rattle.js_doc.specs.Seen.{value_of};
-ghost use Rattle.js_upgrade.specs.Fault.{documents_fault, fault_among, in_document, number_fault, repeated_fault};
-ghost use Rattle.js_upgrade.specs.Fault.{root_fault, source_fault};
+ghost use Rattle.js_upgrade.specs.Fault.{documents_fault, fault_among, in_document, names_fault, number_fault};
+ghost use Rattle.js_upgrade.specs.Fault.{repeated_fault, root_fault, source_fault, uris_fault};
 ghost use Rattle.js_upgrade.specs.Seen.{found_of, resource_of, source_of};
 
 use crate::documents::{Source, source_dialect};
@@ -30,19 +30,36 @@ pub(crate) fn fault_among(
 ) -> Result<Option<UpgradeFault>, Memory>
     ensures { IfOk result (λ f. f ≡ fault_among (map resource_of resources.now) (map source_of sources.now)) }
 {
-    let number = number_fault(alloc, sources.len());
-    if number.is_some() {
-        return Ok(number);
+    match number_fault(alloc, sources.len()) {
+        Some(fault) => Ok(Some(fault)),
+        None => names_fault(alloc, resources, sources),
     }
-    let names = documents_fault(alloc, Pass::Names, resources, sources)?;
-    if names.is_some() {
-        return Ok(names);
+}
+
+fn names_fault(
+    alloc: Global,
+    resources: &[Resource],
+    sources: &[Source],
+) -> Result<Option<UpgradeFault>, Memory>
+    ensures { IfOk result (λ f. f ≡ names_fault (map resource_of resources.now) (map source_of sources.now)) }
+{
+    match documents_fault(alloc, Pass::Names, resources, sources)? {
+        Some(fault) => Ok(Some(fault)),
+        None => uris_fault(alloc, resources, sources),
     }
-    let repeated = repeated_fault(alloc, sources)?;
-    if repeated.is_some() {
-        return Ok(repeated);
+}
+
+fn uris_fault(
+    alloc: Global,
+    resources: &[Resource],
+    sources: &[Source],
+) -> Result<Option<UpgradeFault>, Memory>
+    ensures { IfOk result (λ f. f ≡ uris_fault (map resource_of resources.now) (map source_of sources.now)) }
+{
+    match repeated_fault(alloc, sources)? {
+        Some(fault) => Ok(Some(fault)),
+        None => documents_fault(alloc, Pass::References, resources, sources),
     }
-    documents_fault(alloc, Pass::References, resources, sources)
 }
 
 fn number_fault(alloc: Global, documents: usize) -> Option<UpgradeFault>
@@ -112,6 +129,7 @@ fn source_fault(
 }
 
 // Of a document whose dialect isn't known.
+#[tactic(auto, using(crate::proofs::Gathered::gathering_rules))]
 fn root_fault(alloc: Global, root: &Doc) -> Result<Option<Found>, Memory>
     ensures { IfOk result (λ f. option_map found_of f ≡ root_fault (value_of root.now)) }
 {
@@ -128,7 +146,8 @@ fn in_document(alloc: Global, document: usize, found: &Found) -> Result<UpgradeF
     let tokens = found.back.tokens();
     let mut place = Pointer::new(alloc);
     for i in (0..tokens.len()).rev() {
-        place.push(tokens[i].as_str())?;
+        let token = &tokens[i];
+        place.push(token.as_str())?;
     }
     Ok(UpgradeFault {
         document,

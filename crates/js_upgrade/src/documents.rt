@@ -52,8 +52,21 @@ fn all_upgraded(alloc: Global, sources: &[Source]) -> Result<Vec<Doc>, Stop>
     let resources = all_resources(alloc, sources)?;
     match fault_among(alloc, resources.as_slice(), sources)? {
         Some(fault) => Err(Stop::Fault(fault)),
-        None => Ok(each_upgraded(alloc, resources.as_slice(), sources)?),
+        None => Ok(upgraded_clear(alloc, resources.as_slice(), sources)?),
     }
+}
+
+// Of documents that have no fault.
+fn upgraded_clear(
+    alloc: Global,
+    resources: &[Resource],
+    sources: &[Source],
+) -> Result<Vec<Doc>, Memory>
+    requires resources { map resource_of resources.now ≡ all_resources (map source_of sources.now) }
+    requires clear { first_fault (map source_of sources.now) ≡ None }
+    ensures { IfOk result (λ v. all_upgraded (map source_of sources.now) ≡ Some (map value_of v.items)) }
+{
+    each_upgraded(alloc, resources, sources)
 }
 
 pub(crate) fn source_dialect(source: &Source) -> Option<Dialect>

@@ -46,7 +46,7 @@ pub(crate) fn at_keyword(
     }
 }
 
-/// The fault, behind one more token.
+// The fault, behind one more token.
 fn deeper(found: Found, token: &str) -> Result<Found, Memory>
     ensures { IfOk result (λ f. found_of f ≡ deeper token.now (found_of found)) }
 {
@@ -55,7 +55,7 @@ fn deeper(found: Found, token: &str) -> Result<Found, Memory>
     Ok(found)
 }
 
-/// The fault, if there is one, behind one more token.
+// The fault, if there is one, behind one more token.
 fn deeper_by(found: Option<Found>, token: &str) -> Result<Option<Found>, Memory>
     ensures { IfOk result (λ f. option_map found_of f ≡ option_map (deeper token.now) (option_map found_of found)) }
 {
@@ -63,6 +63,15 @@ fn deeper_by(found: Option<Found>, token: &str) -> Result<Option<Found>, Memory>
         Some(found) => Ok(Some(deeper(found, token)?)),
         None => Ok(None),
     }
+}
+
+// The fault, if there is one, behind the index of an item.
+fn deeper_at(alloc: Global, found: Option<Found>, index: usize) -> Result<Option<Found>, Memory>
+    ensures { IfOk result (λ f. option_map found_of f
+        ≡ option_map (deeper (decimal index)) (option_map found_of found)) }
+{
+    let token = index.to_string(alloc)?;
+    deeper_by(found, token.as_str())
 }
 
 // Of the schema itself.
@@ -149,7 +158,8 @@ fn fault_in_schema(
         return Ok(here);
     }
     let own = own_dialect(dialect, siblings);
-    match identity(own, base, siblings)? {
+    let found = identity(own, base, siblings)?;
+    match found {
         Some(below) => fault_in_keywords(alloc, pass, resources, own, &below, siblings),
         None => fault_in_keywords(alloc, pass, resources, own, base, siblings),
     }
@@ -215,8 +225,7 @@ fn fault_in_items(
     for i in 0..docs.len() {
         let found = fault_in(alloc, pass, resources, Holding::One, dialect, base, &docs[i])?;
         if found.is_some() {
-            let token = i.to_string(alloc)?;
-            return deeper_by(found, token.as_str());
+            return deeper_at(alloc, found, i);
         }
     }
     Ok(None)

@@ -1,4 +1,4 @@
-use Rattle.std.proofs.Common.{◌∷◌, ap, ◌∙◌, arith, refl, Some}
+use Rattle.std.proofs.Common.{◌≡◌, ◌∷◌, ap, ◌∙◌, arith, refl, sym, Some}
 use Rattle.js_doc.specs.Value.{text}
 use Rattle.js_upgrade.specs.Url.{printed}
 use Rattle.js_upgrade.proofs.EachOnce.{text_seen}
@@ -11,9 +11,9 @@ loop-i-preserved c =
     let uris = l.invariant.0 in
     let x = c.index-sources-i.result in
     let uri = printed x.uri in
+    let lent : c.printed.result.now ≡ uri = c.printed.ensures ∙ ap (λ s. printed s.uri) (sym c.index-sources-i.is) in
     let known = text_seen l.seen.keys c.insert.new.self.keys uris c.printed.result uri (text uri)
-    c.in_ok-insert.field-0 refl c.printed.ensures c.in_ok-insert.ensures.added c.in_ok-insert.ensures.updates.0
-    l.invariant.1 in (
+    c.in_ok-insert.field-0 refl lent c.in_ok-insert.ensures.added c.in_ok-insert.ensures.updates.0 l.invariant.1 in (
       uri ∷ uris,
       known.1,
       uri_next uris c.args.sources.now l.i x c.in_ok-insert.field-0 _ (omega arith) c.index-sources-i.is known.0
@@ -26,9 +26,9 @@ returns-then-not-branch c =
     let uris = l.invariant.0 in
     let x = c.index-sources-i.result in
     let uri = printed x.uri in
+    let lent : c.printed.result.now ≡ uri = c.printed.ensures ∙ ap (λ s. printed s.uri) (sym c.index-sources-i.is) in
     let known = text_seen l.seen.keys c.insert.new.self.keys uris c.printed.result uri (text uri)
-    c.in_ok-insert.field-0 refl c.printed.ensures c.in_ok-insert.ensures.added c.in_ok-insert.ensures.updates.0
-    l.invariant.1 in
+    c.in_ok-insert.field-0 refl lent c.in_ok-insert.ensures.added c.in_ok-insert.ensures.updates.0 l.invariant.1 in
     ap Some c.of_document.ensures
     ∙ uri_stops uris c.args.sources.now l.i x c.in_ok-insert.field-0 _ (omega arith) c.index-sources-i.is known.0
     l.invariant.2 c.if-not-branch.true
