@@ -66,11 +66,7 @@ fn number_fault(alloc: Global, documents: usize) -> Option<UpgradeFault>
     ensures { result ≡ number_fault documents }
 {
     if MOST_DOCUMENTS < documents {
-        Some(of_document(
-            alloc,
-            MOST_DOCUMENTS,
-            UpgradeFaultKind::TooManyDocuments,
-        ))
+        Some(of_document(alloc, MOST_DOCUMENTS, UpgradeFaultKind::TooManyDocuments))
     } else {
         None
     }

@@ -223,7 +223,15 @@ fn fault_in_items(
 {
     let docs = schemas.as_slice();
     for i in 0..docs.len() {
-        let found = fault_in(alloc, pass, resources, Holding::One, dialect, base, &docs[i])?;
+        let found = fault_in(
+            alloc,
+            pass,
+            resources,
+            Holding::One,
+            dialect,
+            base,
+            &docs[i],
+        )?;
         if found.is_some() {
             return deeper_at(alloc, found, i);
         }
