@@ -10,6 +10,7 @@ use Rattle.jschema_c.specs.Said.{IsSilent, copied}
 use Rattle.jschema_c.specs.Session.{AddCall, FinishCall, ListCall, EntryCall, CheckCall, IsFinished, finished_in}
 use Rattle.jschema_c.specs.Session.{SetsLimits}
 use Rattle.jschema_c.specs.Status.{code}
+use Rattle.jschema_c.specs.Upgrading.{UpgradeCall}
 
 -- no document and no entry, the standard limits, and nothing said
 pub record IsNew (s : Session) : Type 0 where
@@ -40,6 +41,10 @@ SessionLimits applications nodes before after s =
 
 abbrev pub SessionAdds : List ℕ → List ℕ → Session → Session → Status → Type 0
 SessionAdds uri document before after s = AddCall uri document before.phase after.phase s after.said
+    × KeepsEntries before after
+
+abbrev pub SessionUpgrades : List ℕ → Session → Session → Status → Type 0
+SessionUpgrades dialect before after s = UpgradeCall dialect before.phase after.phase s after.said
     × KeepsEntries before after
 
 abbrev pub SessionFinishes : Session → Session → Status → Type 0

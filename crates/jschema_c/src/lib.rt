@@ -4,8 +4,8 @@
 
 ghost use Rattle.std.specs.Prelude.{◌≡◌, ◌≢◌, None, IfSome, IsSomeAnd, length};
 ghost use Rattle.jschema_c.specs.Exports.{IsNew, OnHandle, SessionAdds, SessionFinishes, SessionLists, SessionEnters};
-ghost use Rattle.jschema_c.specs.Exports.{AnswersNumber, IsPut, SessionChecks, SessionLimits, Shares, TellsRefusal};
-ghost use Rattle.jschema_c.specs.Exports.{refusal_in, room};
+ghost use Rattle.jschema_c.specs.Exports.{AnswersNumber, IsPut, SessionChecks, SessionLimits, SessionUpgrades, Shares};
+ghost use Rattle.jschema_c.specs.Exports.{TellsRefusal, refusal_in, room};
 ghost use Rattle.jschema_c.specs.Locating.{Locates};
 ghost use Rattle.jschema_c.specs.Said.{copied, text_in};
 ghost use Rattle.jschema_c.specs.Status.{code};
@@ -20,6 +20,7 @@ mod said;
 mod session;
 pub mod sharing_laws;
 mod status;
+mod upgrading;
 
 use handle::Handle;
 use position::{Position, locate};
@@ -77,6 +78,21 @@ pub extern "C" fn jschema_add(
         return Status::Misused.code();
     };
     let status = taken.session.add_document(alloc, uri, document);
+    handle.put_back(alloc, taken);
+    status.code()
+}
+
+/// Upgrades the documents from older drafts to 2020-12, together: a reference of one may lead into another. A document
+/// that names no dialect is of the one whose URI this is; of 2020-12 if it is empty. If one is refused, all stay as they
+/// were.
+#[unsafe(no_mangle)]
+pub extern "C" fn jschema_upgrade(alloc: Global, handle: &mut Handle, dialect: &[u8]) -> u32
+    ensures { OnHandle (SessionUpgrades dialect.now) handle.old.value handle.new.value result }
+{
+    let Some(mut taken) = handle.take_session(alloc) else {
+        return Status::Misused.code();
+    };
+    let status = taken.session.upgrade_documents(alloc, dialect);
     handle.put_back(alloc, taken);
     status.code()
 }

@@ -2,7 +2,7 @@
 ghost use Rattle.std.specs.Prelude.{◌≡◌, [], None, true, false, IfOk, IfSome, IfNone, OnErr, MatchOption};
 ghost use Rattle.std.specs.Str.{IsUtf8};
 ghost use Rattle.jschema_c.specs.Exports.{IsNew, SessionAdds, SessionFinishes, SessionLists, SessionEnters};
-ghost use Rattle.jschema_c.specs.Exports.{IsSharedBy, SessionChecks, SessionLimits, TellsRefusal, room};
+ghost use Rattle.jschema_c.specs.Exports.{IsSharedBy, SessionChecks, SessionLimits, SessionUpgrades, TellsRefusal, room};
 ghost use Rattle.jschema_c.specs.Said.{text_in};
 ghost use Rattle.jschema_c.specs.Session.{finished_in, IsFinished};
 ghost use Rattle.jschema_c.specs.Session.{Adds, Finishes, IsUriText, has_zero, Lists, Enters, Checks, Judges};
@@ -12,6 +12,7 @@ ghost use Rattle.js_tree.specs.declared.forms.Format.TheVariants.{Flag};
 
 use crate::said::{Said, copy_text};
 use crate::status::{Status, format_numbered};
+use crate::upgrading::upgraded;
 use js_bundle::{Bundle, Place, Schemas};
 use js_output::{Fault, Limits, Sink, judge_within, list_places};
 use js_tree::Format;
@@ -73,6 +74,14 @@ impl Session {
         ensures { SessionAdds uri.now document.now self.old self.new result }
     {
         let came = added(&mut self.phase, uri, document);
+        self.said.answer(alloc, came)
+    }
+
+    /// Upgrades the documents from older drafts.
+    pub(crate) fn upgrade_documents(&mut self, alloc: Global, dialect: &[u8]) -> Status
+        ensures { SessionUpgrades dialect.now self.old self.new result }
+    {
+        let came = upgraded(alloc, &mut self.phase, dialect);
         self.said.answer(alloc, came)
     }
 
