@@ -132,6 +132,20 @@ uint32_t jschema_limit(jschema *handle, size_t applications, size_t nodes);
 uint32_t jschema_add(jschema *handle, const uint8_t *uri, size_t uri_length,
                      const uint8_t *document, size_t document_length);
 
+/* Upgrades the documents that were added from the drafts that they name (draft-03 to 2019-09) to 2020-12, all together:
+   a reference of one may lead into another. The schema of each gives every instance the verdict of its own draft.
+   `dialect` is the URI of the dialect of each document that names none, as `$schema` would have it; of length 0, that
+   is 2020-12. Documents of 2020-12 stay as they are, so the call may be made whatever the documents are. Afterwards
+   the places in refusals and in outputs are those of the upgraded documents. More documents can be added and upgraded.
+   JSCHEMA_MISUSED: the handle is empty or finished, or `dialect` isn't the URI of a dialect.
+   JSCHEMA_REFUSED: a document can't be upgraded. jschema_refusal tells the document's number and the place in it, and
+   the kind: JSCHEMA_UNKNOWN_DIALECT, for a `$schema` that names none of the six drafts; JSCHEMA_BAD_KEYWORD, for a
+   `$schema`, an identifier or a reference that is no text; JSCHEMA_URI_TOO_LONG; JSCHEMA_BAD_ID; JSCHEMA_DUPLICATE_URI,
+   for two documents under one URI; JSCHEMA_BAD_REFERENCE; or JSCHEMA_UNRESOLVED.
+   JSCHEMA_FAILED: out of memory.
+   After anything but JSCHEMA_DONE the documents are as before. */
+uint32_t jschema_upgrade(jschema *handle, const uint8_t *dialect, size_t dialect_length);
+
 /* Checks the documents together and finishes them. Afterwards none can be added.
    JSCHEMA_MISUSED: the handle is empty or finished.
    JSCHEMA_REFUSED: a document is refused, as for a reference that leads nowhere. Documents can still be added.
