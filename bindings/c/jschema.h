@@ -21,10 +21,10 @@
    none. jschema_text copies it out, and jschema_refusal has what a line of a refusal says in numbers.
 
    Stack: a call needs at most 32 KB, 100 KB if it searches with a regular expression, and more for what is nested: 1 KB
-   for each level of a JSON text (128 at most), 2 KB for each level of nesting in a regular expression (groups,
-   repetitions, classes: 250 at most), and 2 KB for each schema that is applied inside the application of another (512
-   at most). So 1.25 MB is enough for whatever is passed in. A thread with less sets jschema_limit, and passes no text
-   that nests deeper than its stack allows.
+   for each level of a JSON text (128 at most), 2 KB for each level of a document that is upgraded, 2 KB for each level
+   of nesting in a regular expression (groups, repetitions, classes: 250 at most), and 2 KB for each schema that is
+   applied inside the application of another (512 at most). So 1.25 MB is enough for whatever is passed in. A thread
+   with less sets jschema_limit, and passes no text that nests deeper than its stack allows.
 
    Threads: give a handle to one call at a time. Between calls it may go to another thread, if a lock, or a thread's
    start or end, orders the calls. Threads that work side by side need a handle each: jschema_share makes more handles
