@@ -95,5 +95,9 @@ class EngineError(RuntimeError):
     """The engine is missing, or failed for a reason that isn't in the input."""
 
 
+class UpgraderNotFound(EngineError):
+    """Documents may be of older drafts, and nothing here upgrades them."""
+
+
 class EngineNotFound(EngineError):
     """The environment variable JSCHEMA or JSCHEMA_LIBRARY names something that isn't there."""

@@ -12,7 +12,7 @@ from pathlib import Path
 from typing import TYPE_CHECKING, NoReturn, Optional
 
 from .engine import Answer
-from .errors import EngineError, EngineNotFound
+from .errors import EngineError, EngineNotFound, UpgraderNotFound
 from .lines import fault_of
 from .positions import Located
 
@@ -47,8 +47,8 @@ def find_upgrader(program: str) -> str:
     for name in _UPGRADERS:
         if found := shutil.which(os.path.join(folder, name)):
             return found
-    raise EngineError(f"schemas of older drafts need the library (tools/build-library in its repository makes it), or "
-                      f"the program jschema-upgrade beside {program}")
+    raise UpgraderNotFound(f"schemas of older drafts need the library (tools/build-library in its repository makes it), "
+                           f"or the program jschema-upgrade beside {program}")
 
 
 class ProgramEngine:
