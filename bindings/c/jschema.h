@@ -21,10 +21,10 @@
    none. jschema_text copies it out, and jschema_refusal has what a line of a refusal says in numbers.
 
    Stack: a call needs at most 32 KB, 100 KB if it searches with a regular expression, and more for what is nested: 1 KB
-   for each level of a JSON text (128 at most), 2 KB for each level of nesting in a regular expression (groups,
-   repetitions, classes: 250 at most), and 2 KB for each schema that is applied inside the application of another (512
-   at most). So 1.25 MB is enough for whatever is passed in. A thread with less sets jschema_limit, and passes no text
-   that nests deeper than its stack allows.
+   for each level of a JSON text (128 at most), 2 KB for each level of a document that is upgraded, 2 KB for each level
+   of nesting in a regular expression (groups, repetitions, classes: 250 at most), and 2 KB for each schema that is
+   applied inside the application of another (512 at most). So 1.25 MB is enough for whatever is passed in. A thread
+   with less sets jschema_limit, and passes no text that nests deeper than its stack allows.
 
    Threads: give a handle to one call at a time. Between calls it may go to another thread, if a lock, or a thread's
    start or end, orders the calls. Threads that work side by side need a handle each: jschema_share makes more handles
@@ -131,6 +131,20 @@ uint32_t jschema_limit(jschema *handle, size_t applications, size_t nodes);
    After anything but JSCHEMA_DONE the documents are as before. */
 uint32_t jschema_add(jschema *handle, const uint8_t *uri, size_t uri_length,
                      const uint8_t *document, size_t document_length);
+
+/* Upgrades the documents that were added from the drafts that they name (draft-03 to 2019-09) to 2020-12, all together:
+   a reference of one may lead into another. The schema of each gives every instance the verdict of its own draft.
+   `dialect` is the URI of the dialect of each document that names none, as `$schema` would have it; of length 0, that
+   is 2020-12. Documents of 2020-12 stay as they are, so the call may be made whatever the documents are. Afterwards
+   the places in refusals and in outputs are those of the upgraded documents. More documents can be added and upgraded.
+   JSCHEMA_MISUSED: the handle is empty or finished, or `dialect` isn't the URI of a dialect.
+   JSCHEMA_REFUSED: a document can't be upgraded. jschema_refusal tells the document's number and the place in it, and
+   the kind: JSCHEMA_UNKNOWN_DIALECT, for a `$schema` that names none of the six drafts; JSCHEMA_BAD_KEYWORD, for a
+   `$schema`, an identifier or a reference that is no text; JSCHEMA_URI_TOO_LONG; JSCHEMA_BAD_ID; JSCHEMA_DUPLICATE_URI,
+   for two documents under one URI; JSCHEMA_BAD_REFERENCE; or JSCHEMA_UNRESOLVED.
+   JSCHEMA_FAILED: out of memory.
+   After anything but JSCHEMA_DONE the documents are as before. */
+uint32_t jschema_upgrade(jschema *handle, const uint8_t *dialect, size_t dialect_length);
 
 /* Checks the documents together and finishes them. Afterwards none can be added.
    JSCHEMA_MISUSED: the handle is empty or finished.

@@ -33,6 +33,17 @@ export interface Limits {
   readonly nodes?: number;
 }
 
+/** The name of a dialect, or its URI. */
+export type Dialect = "draft-03" | "draft-04" | "draft-06" | "draft-07" | "2019-09" | "2020-12" | `http${string}`;
+
+/** What becomes of documents of older drafts. */
+export interface Upgrading {
+  /** The dialect of each document that names none: 2020-12 without it. */
+  readonly defaultDialect?: Dialect;
+  /** Whether documents of draft-03 to 2019-09 are upgraded to 2020-12 (`true` without it), or refused. */
+  readonly upgrade?: boolean;
+}
+
 /** A place in a text: an index into the string; lines, and characters within the line, from 1. */
 export interface Position {
   readonly offset: number;
@@ -66,8 +77,8 @@ export interface Answer {
  */
 export class Schemas {
   private constructor();
-  /** Reads and checks documents. Throws `RangeError` for limits that there can't be. */
-  static create(documents: Documents, options?: { module?: Module } & Limits): Promise<Schemas>;
+  /** Reads and checks documents. Throws `RangeError` for limits and dialects that there can't be. */
+  static create(documents: Documents, options?: { module?: Module } & Limits & Upgrading): Promise<Schemas>;
   /** The absolute location of every schema: what can be an entry, or be referred to. */
   places(): string[];
   /** Whether an instance is valid. This is the quickest call. */
@@ -123,7 +134,9 @@ export class Refused extends Error {
   readonly document: string | undefined;
   /** What the kind means, for people. */
   readonly meaning: string;
-  /** Where in the text; undefined for an entry. */
+  /** Whether the place is one in the upgraded document, which its text doesn't have. */
+  readonly isUpgraded: boolean;
+  /** Where in the text; undefined for an entry, and for a place in an upgraded document. */
   readonly position: Position | undefined;
   readonly line: number | undefined;
   readonly column: number | undefined;
@@ -177,5 +190,5 @@ export interface Validate {
 /** ajv's word: a function for a schema, with other documents by their URIs. */
 export function compile(
   schema: boolean | object,
-  options?: { schemas?: Readonly<Record<string, boolean | object>>; module?: Module },
+  options?: { schemas?: Readonly<Record<string, boolean | object>>; module?: Module } & Upgrading,
 ): Promise<Validate>;

@@ -1,10 +1,13 @@
-import type { Documents, Format, Instance, Limits, Module, Output, ValidationError } from "./index.js";
+import type { Documents, Format, Instance, Limits, Module, Output, Upgrading, ValidationError } from "./index.js";
 
 /** Schemas in a worker. Each call waits for those before it; at its time limit it is answered with `Stopped`. */
 export class WorkerSchemas {
   private constructor();
   /** `seconds` limits each later call (10 without it). */
-  static create(documents: Documents, options?: { seconds?: number; module?: Module } & Limits): Promise<WorkerSchemas>;
+  static create(
+    documents: Documents,
+    options?: { seconds?: number; module?: Module } & Limits & Upgrading,
+  ): Promise<WorkerSchemas>;
   places(): Promise<string[]>;
   isValid(entry: string, instance: Instance): Promise<boolean>;
   errors(entry: string, instance: Instance): Promise<ValidationError[]>;

@@ -1,6 +1,6 @@
 /* Each call in each state of a handle: what it answers, and the text afterwards. Prints a line for each that differs;
    the last line is 'N passed, M failed'. */
-#include "common.h"
+#include "expecting.h"
 
 #define URI TEXT("https://example.com/s")
 #define OTHER TEXT("https://example.com/t")
@@ -10,67 +10,13 @@
 #define TOO_LARGE "refused: walk: TooLarge"
 #define UNRESOLVED "refused: document 0 at \"/$ref\": Unresolved"
 
-static int passed, failed;
-
-/* Counts a call that answers `status` and leaves this text. */
-static void expect(const char *what, jschema *handle, uint32_t got, uint32_t wanted, const char *said) {
-    text is = text_of(handle);
-    if (got == wanted && is.length == strlen(said) && memcmp(is.bytes, said, is.length) == 0) {
-        passed++;
-    } else {
-        failed++;
-        printf("FAILED %s: status %u, wanted %u; text '%s', wanted '%s'\n", what, got, wanted, is.bytes, said);
-    }
-    free(is.bytes);
-}
-
-static void expect_that(const char *what, int holds) {
-    passed += holds != 0;
-    failed += holds == 0;
-    if (!holds) printf("FAILED %s\n", what);
-}
-
-/* What jschema_refusal tells, and the place. */
-typedef struct {
-    uint32_t status, kind, subject;
-    size_t document, place_length;
-    char place[64];
-} told;
-
-static told told_of(jschema *handle) {
-    told is = {0, 77, 78, 79, 80, ""};
-    memset(is.place, 'x', sizeof is.place);
-    is.status = jschema_refusal(handle, &is.kind, &is.subject, &is.document, (uint8_t *)is.place, sizeof is.place,
-                                &is.place_length);
-    return is;
-}
-
-/* The last call refused this. */
-static void expect_refusal(const char *what, jschema *handle, uint32_t kind, uint32_t subject, size_t document,
-                           const char *place) {
-    told is = told_of(handle);
-    size_t length = strlen(place);
-    int holds = is.status == JSCHEMA_DONE && is.kind == kind && is.subject == subject && is.document == document
-        && is.place_length == length && memcmp(is.place, place, length) == 0;
-    for (size_t i = length; i < sizeof is.place; i++) holds = holds && is.place[i] == 'x';
-    expect_that(what, holds);
-}
-
-/* The last call refused nothing: what is asked for stays. */
-static void expect_no_refusal(const char *what, jschema *handle) {
-    told is = told_of(handle);
-    int holds = is.status == JSCHEMA_MISUSED && is.kind == 77 && is.subject == 78 && is.document == 79
-        && is.place_length == 80;
-    for (size_t i = 0; i < sizeof is.place; i++) holds = holds && is.place[i] == 'x';
-    expect_that(what, holds);
-}
-
 /* Every call but `jschema_new` and `jschema_free` is misuse of a handle in this state, and leaves no text. */
 static void expect_only_new(const char *state, jschema *handle) {
     size_t entry = 7;
     uint8_t out[1] = {'x'};
     expect(state, handle, jschema_limit(handle, 512, 1000000), JSCHEMA_MISUSED, "");
     expect(state, handle, jschema_add(handle, URI, TEXT("true")), JSCHEMA_MISUSED, "");
+    expect(state, handle, jschema_upgrade(handle, NULL, 0), JSCHEMA_MISUSED, "");
     expect(state, handle, jschema_finish(handle), JSCHEMA_MISUSED, "");
     expect(state, handle, jschema_places(handle), JSCHEMA_MISUSED, "");
     expect(state, handle, jschema_entry(handle, URI, &entry), JSCHEMA_MISUSED, "");
@@ -159,6 +105,7 @@ static void test_finished(void) {
            INVALID);
     expect("add", &handle, jschema_add(&handle, OTHER, TEXT("true")), JSCHEMA_MISUSED, "");
     expect("valid again", &handle, jschema_check(&handle, 0, TEXT("1"), JSCHEMA_FLAG), JSCHEMA_DONE, VALID);
+    expect("upgrade", &handle, jschema_upgrade(&handle, NULL, 0), JSCHEMA_MISUSED, "");
     expect("finish again", &handle, jschema_finish(&handle), JSCHEMA_MISUSED, "");
     expect("no instance", &handle, jschema_check(&handle, 0, TEXT(""), JSCHEMA_FLAG), JSCHEMA_REFUSED,
            "refused: instance at \"\": NotJson");
@@ -424,6 +371,5 @@ int main(void) {
     test_longest_document();
     test_text();
     expect_that("the version", jschema_version() == JSCHEMA_VERSION);
-    printf("%d passed, %d failed\n", passed, failed);
-    return failed != 0;
+    return counted();
 }

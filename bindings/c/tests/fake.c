@@ -48,6 +48,10 @@ uint32_t jschema_add(jschema *handle, const uint8_t *uri, size_t uri_length,
     return (void)handle, (void)uri, (void)uri_length, (void)document, (void)document_length, act();
 }
 
+uint32_t jschema_upgrade(jschema *handle, const uint8_t *dialect, size_t dialect_length) {
+    return (void)handle, (void)dialect, (void)dialect_length, act();
+}
+
 uint32_t jschema_finish(jschema *handle) { return (void)handle, act(); }
 
 uint32_t jschema_places(jschema *handle) { return (void)handle, act(); }

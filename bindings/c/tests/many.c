@@ -1,10 +1,12 @@
-/* many COUNT: that many checks in each format and as many refusals, then handles made and freed, in constant memory.
+/* many COUNT: that many checks in each format and as many refusals, then handles made and freed and documents upgraded,
+   in constant memory.
 
    Prints the resident memory in KB after a first round and after the last. */
 #include "common.h"
 #include <unistd.h>
 
 #define SCHEMA "{\"properties\": {\"age\": {\"minimum\": 0}}, \"items\": {\"$ref\": \"#\"}}"
+#define SIX "http://json-schema.org/draft-06/schema#"
 
 static jschema made(size_t *entry) {
     jschema handle = JSCHEMA_EMPTY;
@@ -42,6 +44,12 @@ static void round_of(long checks) {
     }
     for (long i = 0; i < checks / 100; i++) {
         jschema other = made(&entry);
+        jschema_free(&other);
+    }
+    for (long i = 0; i < checks / 100; i++) {
+        jschema other = JSCHEMA_EMPTY;
+        if (jschema_new(&other) || jschema_add(&other, TEXT("urn:s"), TEXT(SCHEMA))) give_up("nothing is added");
+        if (jschema_upgrade(&other, TEXT(SIX)) || jschema_upgrade(&other, TEXT(""))) give_up("not upgraded");
         jschema_free(&other);
     }
 }

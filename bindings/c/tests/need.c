@@ -18,6 +18,7 @@ static void *calls(void *status) {
     uint32_t *last = status;
     if (jschema_new(&handle) != JSCHEMA_DONE) give_up("out of memory");
     if ((*last = jschema_add(&handle, URI, schema.bytes, schema.length)) == JSCHEMA_DONE
+        && (*last = jschema_upgrade(&handle, TEXT(""))) == JSCHEMA_DONE
         && (*last = jschema_finish(&handle)) == JSCHEMA_DONE
         && (*last = jschema_places(&handle)) == JSCHEMA_DONE
         && (*last = jschema_share(&handle, &other)) == JSCHEMA_DONE

@@ -9,6 +9,7 @@ SAYS = {
     "a call": r"a call needs at most ([\d.]+) KB",
     "a call that searches": r"([\d.]+) KB if it searches with a regular expression",
     "a level of a JSON text": r"([\d.]+) KB for each level of a JSON text \(128 at most\)",
+    "a level of an upgrade": r"([\d.]+) KB for each level of a document that is upgraded",
     "a level of a pattern": r"([\d.]+) KB for each level of nesting in a regular expression \(groups, repetitions, "
                             r"classes: 250 at most\)",
     "an application": r"([\d.]+) KB for each schema that is applied inside the application of another \(512 at most\)",
@@ -64,6 +65,15 @@ def below(name, keyword, instance):
     return Nested(name, "an application", lambda depth: (schema, instance(depth)), 60, 126, 2)
 
 
+def older(keyword, draft):
+    """Schemas in schemas of an older draft, none of which is applied."""
+    def made(depth):
+        schema = f'{{"{keyword}":{{"a":' * depth + "{}" + "}}" * depth
+        return f'{{"$schema":"http://json-schema.org/{draft}/schema#","$ref":"#/definitions/a","definitions":' \
+               f'{{"a":{{}},"b":{schema}}}}}', "1"
+    return Nested(f"schemas of {draft} in {keyword}", "a level of an upgrade", made, 25, 60, 2)
+
+
 LISTS, OBJECTS = texts("[", "]"), texts('{"a":', "}", "1")
 NESTED = [
     Nested("lists", "a level of a JSON text", lambda depth: ("true", LISTS(depth)), 64, 127),
@@ -72,6 +82,7 @@ NESTED = [
            lambda depth: (f'{{"const":{LISTS(depth)}}}', LISTS(depth)), 64, 126),
     Nested("lists that are equal", "a level of a JSON text",
            lambda depth: ('{"uniqueItems":true}', f"[{LISTS(depth)},{LISTS(depth)}]"), 64, 126),
+    older("definitions", "draft-07"), older("properties", "draft-04"), older("properties", "draft-03"),
     *(pattern(*it) for it in (("(", ")"), ("(?:", ")"), ("[", "]"), ("[^", "]"), ("(?:", ")*", 2), ("(?:", ")+", 2),
                               ("(?:x", ")?", 3), ("(", "|b)", 2), ("(x", "y)", 2), ("[a-c&&", "]", 2))),
     chain("$ref", lambda to: to), chain("$dynamicRef", lambda to: {"$dynamicRef": to["$ref"]}),

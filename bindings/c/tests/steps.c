@@ -3,6 +3,11 @@
 #include "common.h"
 
 #define URI TEXT("https://example.com/s")
+/* Of draft-07, where `items` is a list, and a reference into it moves. */
+#define OLDER                                                                                                          \
+    "{\"$schema\": \"http://json-schema.org/draft-07/schema#\", \"maxLength\": 2,"                                  \
+    " \"definitions\": {\"a\": {\"items\": [{\"$id\": \"#b\"}], \"dependencies\": {\"c\": [\"d\"]}}},"               \
+    " \"properties\": {\"e\": {\"$ref\": \"#/definitions/a/items/0\"}}}"
 #define SCHEMA                                                                      \
     "{\"properties\": {\"age\": {\"minimum\": 0, \"type\": \"integer\"}},"             \
     " \"patternProperties\": {\"^x\": {\"$ref\": \"t\"}}}"
@@ -36,7 +41,10 @@ int main(void) {
     STEP("refused document", jschema_add(&handle, URI, TEXT("[1, {\"a\": 0.5}]")));
     STEP("add", jschema_add(&handle, URI, TEXT(SCHEMA)));
     STEP("refused documents", jschema_finish(&handle));
-    STEP("add", jschema_add(&handle, TEXT("https://example.com/t"), TEXT("{\"maxLength\": 2}")));
+    STEP("refused upgrade", jschema_upgrade(&handle, TEXT("")));
+    STEP("add", jschema_add(&handle, TEXT("https://example.com/t"), TEXT(OLDER)));
+    STEP("refused dialect", jschema_finish(&handle));
+    STEP("upgrade", jschema_upgrade(&handle, TEXT("")));
     STEP("finish", jschema_finish(&handle));
     STEP("places", jschema_places(&handle));
     STEP("refused entry", jschema_entry(&handle, TEXT("https://example.com/u"), &entry));

@@ -1,5 +1,6 @@
 /** The words of ajv, where they mean the same. */
 import { Schemas } from "./schemas.js";
+import { identifierOf } from "./upgrading.js";
 import { written } from "./values.js";
 
 // The URI of a schema that has no absolute $id.
@@ -10,10 +11,12 @@ const ABSOLUTE = /^[A-Za-z][A-Za-z0-9+.-]*:[^#]*#?$/;
  * A function that says whether a value is valid, and leaves `errors` as ajv does.
  *
  * @param {boolean | object} schema a schema as a value
- * @param {{ schemas?: Record<string, boolean | object>, module?: unknown }} [options] other documents by their URIs
+ * @param {{ schemas?: Record<string, boolean | object>, module?: unknown, defaultDialect?: string, upgrade?: boolean }}
+ *     [options] other documents by their URIs, and options of `Schemas.create`
  */
 export async function compile(schema, options = {}) {
-  const uri = typeof schema?.$id === "string" && ABSOLUTE.test(schema.$id) ? schema.$id.replace(/#$/, "") : UNNAMED;
+  const name = identifierOf(schema, options.defaultDialect);
+  const uri = typeof name === "string" && ABSOLUTE.test(name) ? name.replace(/#$/, "") : UNNAMED;
   const documents = new Map([[uri, written(schema)]]);
   for (const [name, other] of Object.entries(options.schemas ?? {})) documents.set(name, written(other));
   const schemas = await Schemas.create(documents, options);

@@ -101,6 +101,12 @@ export class Instance {
     this.#expectDone(handle, this.#call("jschema_add", handle, at, name.length, at + name.length, document.length));
   }
 
+  /** Upgrades the documents from older drafts. One that names no dialect is of that with this URI. */
+  upgrade(handle, dialect) {
+    const length = this.#put(dialect);
+    this.#expectDone(handle, this.#call("jschema_upgrade", handle, this.#at, length));
+  }
+
   finish(handle) {
     this.#expectDone(handle, this.#call("jschema_finish", handle));
   }

@@ -91,13 +91,15 @@ export class Refused extends Error {
    * @param {string} kind the name of the refusal, such as `NotWhole`
    * @param {string} [place] JSON Pointer into the document or the instance
    * @param {number} [index] the number of the document, in the order they were given, from 0
+   * @param {boolean} [isUpgraded] whether the place is one in the upgraded document, which its text doesn't have
    */
-  constructor(subject, kind, place = undefined, index = undefined) {
+  constructor(subject, kind, place = undefined, index = undefined, isUpgraded = false) {
     super();
     this.subject = subject;
     this.kind = kind;
     this.place = place;
     this.index = index;
+    this.isUpgraded = isUpgraded;
     /** What the kind means, for people. */
     this.meaning = MEANINGS[kind] ?? "see docs/REFUSALS.md";
   }
@@ -108,7 +110,8 @@ export class Refused extends Error {
 
   get message() {
     const what = this.subject === "document" ? `document ${this.#document}` : this.subject;
-    return `${what}${this.place ? ` at ${this.place}` : ""}: ${this.kind}: ${this.meaning}`;
+    const where = `${this.place ? ` at ${this.place}` : ""}${this.isUpgraded ? " in the upgraded document" : ""}`;
+    return `${what}${where}: ${this.kind}: ${this.meaning}`;
   }
 
   /** The URI that the refused document is registered under. */
@@ -116,8 +119,12 @@ export class Refused extends Error {
     return this.#document;
   }
 
-  /** Where in the text of the document or the instance: at its beginning without a place; undefined for an entry. */
+  /**
+   * Where in the text of the document or the instance: at its beginning without a place; undefined for an entry, and
+   * for a place in an upgraded document.
+   */
   get position() {
+    if (this.isUpgraded) return undefined;
     return this.place === undefined ? this.#text && START : this.#text?.refused(this.place);
   }
 

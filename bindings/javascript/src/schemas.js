@@ -5,6 +5,7 @@ import { LARGEST_TEXT, STANDARD_LIMITS, limitsOf } from "./limits.js";
 import { explain } from "./meanings.js";
 import { parse } from "./outputs.js";
 import { Text } from "./positions.js";
+import { mayBeOlder, upgradeOf } from "./upgrading.js";
 import { isWellFormed, textOf } from "./values.js";
 
 /** Frees the handles of schemas that were forgotten. */
@@ -26,15 +27,17 @@ export class Schemas {
   #engine;
   #documents;
   #limits;
+  #assumed;
   #instance;
   #handle;
   #entries;
 
   /** Use `Schemas.create`. */
-  constructor(engine, documents, limits = STANDARD_LIMITS) {
+  constructor(engine, documents, limits = STANDARD_LIMITS, assumed = undefined) {
     this.#engine = engine;
     this.#documents = documents;
     this.#limits = limits;
+    this.#assumed = assumed;
     this.#begin();
   }
 
@@ -43,13 +46,16 @@ export class Schemas {
    *
    * @param {Record<string, string | Uint8Array> | Iterable<[string, string | Uint8Array]>} documents the text of each,
    *     by its absolute URI
-   * @param {{ module?: unknown, applications?: number, nodes?: number }} [options] the WebAssembly module, where it
-   *     isn't the package's own file; how many schema applications may be nested, and how many nodes a result may have
+   * @param {{ module?: unknown, applications?: number, nodes?: number, defaultDialect?: string, upgrade?: boolean }}
+   *     [options] the WebAssembly module, where it isn't the package's own file; how many schema applications may be
+   *     nested, and how many nodes a result may have; the dialect of documents that name none; whether documents of
+   *     older drafts are upgraded
    */
   static async create(documents, options = {}) {
     const limits = limitsOf(options);
     const engine = await (options.module === undefined ? sharedEngine() : load(options.module));
-    return new Schemas(engine, pairsOf(documents), limits);
+    const pairs = pairsOf(documents);
+    return new Schemas(engine, pairs, limits, upgradeOf(options, pairs));
   }
 
   /** The absolute location of every schema: what can be an entry, or be referred to. */
@@ -108,14 +114,20 @@ export class Schemas {
     const handle = this.#handle = instance.newHandle();
     this.#entries = new Map();
     forgotten.register(this, { instance, handle }, this);
+    let isUpgraded = false;
     try {
       instance.limit(handle, this.#limits);
       for (const { uri, bytes } of this.#documents) instance.add(handle, uri, bytes);
+      if (this.#assumed !== undefined) {
+        instance.upgrade(handle, this.#assumed);
+        isUpgraded = true;
+      }
       instance.finish(handle);
     } catch (error) {
       this.#release();
       if (!(error instanceof Refused) || error.index === undefined) throw error;
       const { uri, bytes } = this.#documents[error.index];
+      error.isUpgraded = isUpgraded && mayBeOlder(bytes, this.#assumed);
       throw explain(error.of(bytes, uri), bytes, uri);
     }
   }

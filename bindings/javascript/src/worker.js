@@ -6,6 +6,7 @@ import { explain } from "./meanings.js";
 import { parse } from "./outputs.js";
 import { Text } from "./positions.js";
 import { pairsOf } from "./schemas.js";
+import { upgradeOf } from "./upgrading.js";
 import { textOf } from "./values.js";
 
 const SECONDS = 10;
@@ -15,15 +16,17 @@ export class WorkerSchemas {
   #pairs;
   #module;
   #limits;
+  #assumed;
   #milliseconds;
   #worker;
   #last = Promise.resolve();
 
   /** Use `WorkerSchemas.create`. */
-  constructor(pairs, module, limits, seconds) {
+  constructor(pairs, module, limits, assumed, seconds) {
     this.#pairs = pairs;
     this.#module = module;
     this.#limits = limits;
+    this.#assumed = assumed;
     this.#milliseconds = seconds * 1000;
   }
 
@@ -31,7 +34,8 @@ export class WorkerSchemas {
   static async create(documents, { seconds = SECONDS, module, ...options } = {}) {
     const limits = limitsOf(options);
     const engine = await (module === undefined ? sharedEngine() : load(module));
-    const made = new WorkerSchemas(pairsOf(documents), engine.module, limits, seconds);
+    const pairs = pairsOf(documents);
+    const made = new WorkerSchemas(pairs, engine.module, limits, upgradeOf(options, pairs), seconds);
     await made.#inTurn(() => made.#begin());
     return made;
   }
@@ -95,7 +99,8 @@ export class WorkerSchemas {
   async #begin() {
     const worker = this.#worker = await Conversation.begin();
     try {
-      await worker.ask({ call: "create", module: this.#module, pairs: this.#pairs, limits: this.#limits });
+      const [module, pairs, limits, assumed] = [this.#module, this.#pairs, this.#limits, this.#assumed];
+      await worker.ask({ call: "create", module, pairs, limits, assumed });
     } catch (error) {
       worker.end();
       this.#worker = undefined;
@@ -165,8 +170,8 @@ class Conversation {
 }
 
 /** The error that a worker describes. */
-function thrown({ name, message, subject, kind, place, index }) {
-  if (name === "Refused") return new Refused(subject, kind, place, index);
+function thrown({ name, message, subject, kind, place, index, isUpgraded }) {
+  if (name === "Refused") return new Refused(subject, kind, place, index, isUpgraded);
   if (name === "OutOfMemory") return new OutOfMemory();
   return name === "Stopped" ? new Stopped(message) : new Error(message);
 }

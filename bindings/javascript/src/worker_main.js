@@ -7,8 +7,8 @@ import { Schemas } from "./schemas.js";
 let schemas;
 
 const CALLS = {
-  create({ module, pairs, limits }) {
-    schemas = new Schemas(new Engine(module), pairs, limits);
+  create({ module, pairs, limits, assumed }) {
+    schemas = new Schemas(new Engine(module), pairs, limits, assumed);
   },
   places() {
     return schemas.places();
@@ -25,8 +25,8 @@ function answerTo(message) {
   } catch (error) {
     const { name, message: said } = error;
     if (!(error instanceof Refused)) return { fault: { name, message: said } };
-    const { subject, kind, place, index } = error;
-    return { fault: { name, message: said, subject, kind, place, index } };
+    const { subject, kind, place, index, isUpgraded } = error;
+    return { fault: { name, message: said, subject, kind, place, index, isUpgraded } };
   }
 }
 

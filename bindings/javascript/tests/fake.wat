@@ -20,6 +20,7 @@
   (func (export "jschema_new") (param i32) (result i32) (call $act))
   (func (export "jschema_limit") (param i32 i32 i32) (result i32) (call $act))
   (func (export "jschema_add") (param i32 i32 i32 i32 i32) (result i32) (call $act))
+  (func (export "jschema_upgrade") (param i32 i32 i32) (result i32) (call $act))
   (func (export "jschema_finish") (param i32) (result i32) (call $act))
   (func (export "jschema_places") (param i32) (result i32) (call $act))
   (func (export "jschema_entry") (param i32 i32 i32 i32) (result i32) (call $act))

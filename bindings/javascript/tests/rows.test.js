@@ -21,7 +21,8 @@ function refusalLine({ subject, index, place, kind }) {
 async function answer({ documents, entry, instance }, format) {
   let schemas;
   try {
-    schemas = await Schemas.create(documents.map(([uri, text]) => [uri, bytes(text)]));
+    // (The rows are of the program, which upgrades nothing.)
+    schemas = await Schemas.create(documents.map(([uri, text]) => [uri, bytes(text)]), { upgrade: false });
     const { valid, output } = schemas.check(entry, bytes(instance), format);
     assert.equal(schemas.isValid(entry, bytes(instance)), valid);
     return [valid ? 0 : 1, output];

@@ -33,7 +33,8 @@ const failed = [];
 let passed = 0;
 for (const line of (await (await fetch("/cases.json")).text()).split("\n").slice(0, -1)) {
   const asked = JSON.parse(line);
-  const schemas = Schemas.create(asked.documents.map(([uri, text]) => [uri, bytesOf(text)]), { module });
+  const documents = asked.documents.map(([uri, text]) => [uri, bytesOf(text)]);
+  const schemas = Schemas.create(documents, { module, upgrade: false });
   for (const [format, status, wanted] of asked.expected) {
     const [got, said] = await answer(schemas, asked, format);
     if (got === status && await digest(said) === wanted) passed += 1;

@@ -24,7 +24,7 @@ function told(call) {
 async function answers({ documents, entry, instances }) {
   let schemas;
   try {
-    schemas = await Schemas.create(documents);
+    schemas = await Schemas.create(documents, { upgrade: false });
   } catch (error) {
     if (!(error instanceof Refused)) throw error;
     return instances.map(() => refusal(error));
@@ -44,7 +44,7 @@ async function compared({ documents, entry, instances }, answered) {
   const values = new Map(documents.map(([uri, text]) => [uri, parse(text)]));
   const schema = values.get(entry);
   values.delete(entry);
-  const validate = await compile(schema, { schemas: Object.fromEntries(values) });
+  const validate = await compile(schema, { schemas: Object.fromEntries(values), upgrade: false });
   const verdict = (instance) => {
     try {
       const valid = validate(parse(instance));

@@ -10,6 +10,7 @@ typedef unsigned int u32;
 u32 proved_jschema_new(void *);
 u32 proved_jschema_limit(void *, usize, usize);
 u32 proved_jschema_add(void *, const void *, usize, const void *, usize);
+u32 proved_jschema_upgrade(void *, const void *, usize);
 u32 proved_jschema_finish(void *);
 u32 proved_jschema_places(void *);
 u32 proved_jschema_entry(void *, const void *, usize, void *);
@@ -29,6 +30,10 @@ u32 jschema_limit(u32 handle, u32 applications, u32 nodes) {
 
 u32 jschema_add(u32 handle, u32 uri, u32 uri_length, u32 document, u32 document_length) {
     return proved_jschema_add(AT(handle), AT(uri), uri_length, AT(document), document_length);
+}
+
+u32 jschema_upgrade(u32 handle, u32 dialect, u32 dialect_length) {
+    return proved_jschema_upgrade(AT(handle), AT(dialect), dialect_length);
 }
 
 u32 jschema_finish(u32 handle) { return proved_jschema_finish(AT(handle)); }

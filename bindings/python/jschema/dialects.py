@@ -1,14 +1,17 @@
 """The keywords of each dialect, from draft-03 to draft 2020-12."""
 from __future__ import annotations
 
+import re
 from typing import Any, Optional
 
 DRAFTS = ("draft-03", "draft-04", "draft-06", "draft-07", "2019-09", "2020-12")
 _THREE, _FOUR, _SIX, _SEVEN, _NINETEEN, LATEST = range(6)
 
-#: The `$schema` of each dialect, without the fragment that may be empty.
-URIS = {**{f"http://json-schema.org/{name}/schema": number for number, name in enumerate(DRAFTS[:4])},
-        **{f"https://json-schema.org/draft/{name}/schema": number for number, name in enumerate(DRAFTS) if number > 3}}
+#: The `$schema` of each dialect.
+URIS = (*(f"http://json-schema.org/{name}/schema#" for name in DRAFTS[:4]),
+        *(f"https://json-schema.org/draft/{name}/schema" for name in DRAFTS[4:]))
+# Schemas name the meta-schema or the hyper-schema of a draft, with `http` or `https`, with an empty fragment or none.
+_NAMED = re.compile(r"https?://json-schema\.org/(?:(draft-0[3467]|draft/2019-09)/(?:hyper-)?|(draft/2020-12)/)schema#?")
 
 _SPANS = {
     (_THREE, LATEST): "$ref $schema title description default format type enum properties patternProperties "
@@ -36,10 +39,29 @@ _INSTEAD = {
 }
 
 
-def dialect_of(schema: Any) -> int:
-    """The number of a document's dialect: the latest where it names none, or one that isn't known."""
-    named = schema.get("$schema") if isinstance(schema, dict) else None
-    return URIS.get(named.rstrip("#"), LATEST) if isinstance(named, str) else LATEST
+def dialect_named(uri: Any) -> Optional[int]:
+    """The number of the dialect that a `$schema` names; None if it is another."""
+    found = _NAMED.fullmatch(uri) if isinstance(uri, str) else None
+    return None if found is None else DRAFTS.index((found[1] or found[2]).removeprefix("draft/"))
+
+
+def dialect_of(schema: Any, assumed: int = LATEST) -> int:
+    """The number of a document's dialect: what is assumed where it names none, and the latest for one that isn't
+    known."""
+    if not isinstance(schema, dict) or "$schema" not in schema:
+        return assumed
+    named = dialect_named(schema["$schema"])
+    return LATEST if named is None else named
+
+
+def dialect_called(name: str) -> int:
+    """The number of the dialect with a name of `DRAFTS`, or with a URI. Raises `ValueError`."""
+    if name in DRAFTS:
+        return DRAFTS.index(name)
+    number = dialect_named(name)
+    if number is None:
+        raise ValueError(f"no dialect {name!r}: it is one of {', '.join(DRAFTS)}, or the URI of one")
+    return number
 
 
 def stranger(keyword: str, dialect: int) -> Optional[str]:

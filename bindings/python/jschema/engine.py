@@ -21,11 +21,15 @@ class Answer(NamedTuple):
 class Engine(Protocol):
     """Schema documents, and checks against them: `add` each, `finish` once, then check, from any thread.
 
-    `add`, `finish`, `is_valid` and `check` raise `Refused`, `MemoryError`, or `EngineError` for any other failure.
+    `add`, `upgrade`, `finish`, `is_valid` and `check` raise `Refused`, `MemoryError`, or `EngineError` for any other failure.
     """
 
     def add(self, uri: str, document: bytes) -> None:
         """Registers the text of a schema document under an absolute URI."""
+
+    def upgrade(self, dialect: str) -> None:
+        """Upgrades the documents from older drafts to 2020-12, together. One that names no dialect is of that with this
+        URI. Called between `add` and `finish`, and only where a document may be of an older draft."""
 
     def finish(self) -> None:
         """Checks the documents together. Nothing is added afterwards."""

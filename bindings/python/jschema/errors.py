@@ -81,15 +81,22 @@ class Refused(ValueError):
         self.document = document
         #: What the kind means, for people.
         self.meaning = MEANINGS.get(kind, "see docs/REFUSALS.md")
+        #: Whether the place is one in the upgraded document, which its text doesn't have.
+        self.is_upgraded = False
 
     def __str__(self) -> str:
         what = f"document {self.document}" if self.subject == "document" else self.subject
         at = f" at {self.place}" if self.place else ""
-        return f"{what}{at}: {self.kind}: {self.meaning}"
+        upgraded = " in the upgraded document" if self.is_upgraded else ""
+        return f"{what}{at}{upgraded}: {self.kind}: {self.meaning}"
 
 
 class EngineError(RuntimeError):
     """The engine is missing, or failed for a reason that isn't in the input."""
+
+
+class UpgraderNotFound(EngineError):
+    """Documents may be of older drafts, and nothing here upgrades them."""
 
 
 class EngineNotFound(EngineError):

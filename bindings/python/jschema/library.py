@@ -92,6 +92,7 @@ def _load(path: str) -> ctypes.CDLL:
                 ("version", c_uint32, ()),
                 ("new", c_uint32, (handle,)),
                 ("add", c_uint32, (handle, c_char_p, c_size_t, c_char_p, c_size_t)),
+                ("upgrade", c_uint32, (handle, c_char_p, c_size_t)),
                 ("finish", c_uint32, (handle,)),
                 ("places", c_uint32, (handle,)),
                 ("entry", c_uint32, (handle, c_char_p, c_size_t, POINTER(c_size_t))),
@@ -137,6 +138,10 @@ class _Schemas:
         except BaseException:
             self.uris.pop()
             raise
+
+    def upgrade(self, dialect: str) -> None:
+        name = _encoded(dialect)
+        self._done(self._library.jschema_upgrade(self._handle, name, len(name)))
 
     def finish(self) -> None:
         self._done(self._library.jschema_finish(self._handle))
@@ -243,6 +248,9 @@ class LibraryEngine:
 
     def add(self, uri: str, document: bytes) -> None:
         on_large_stack(self._first.add, uri, document)
+
+    def upgrade(self, dialect: str) -> None:
+        on_large_stack(self._first.upgrade, dialect)
 
     def finish(self) -> None:
         on_large_stack(self._first.finish)

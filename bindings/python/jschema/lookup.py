@@ -14,8 +14,10 @@ from typing import NamedTuple, Optional
 from urllib.parse import quote, unquote, urlsplit
 
 from . import resources
+from .dialects import LATEST
 from .extras import MissingLibrary
 from .limits import LARGEST_TEXT
+from .originals import hides, identifier
 from .resources import Document, Schema
 from .sources import SUFFIXES, Source, Unreadable, kind_of, read
 from .uris import document_of, is_relative, joined, path_of
@@ -47,6 +49,8 @@ class SchemaFile(NamedTuple):
     path: str
     uri: str
     source: Source
+    #: The dialect that is assumed if it names none.
+    assumed: int = LATEST
 
 
 class Taken(NamedTuple):
@@ -66,15 +70,16 @@ def walked(file: SchemaFile) -> Optional[Document]:
     if len(file.source.json) > LARGEST_TEXT:
         return None
     try:
-        return resources.document(file.uri, file.source)
+        return resources.document(file.uri, file.source, file.assumed)
     except (ValueError, RecursionError):
         return None
 
 
 def own_uri(document: Optional[Document]) -> Optional[str]:
-    """The `$id` of a document, if it is an absolute URI."""
-    value = document.value if document is not None else None
-    uri = value.get("$id") if isinstance(value, dict) else None
+    """The identifier of a document, if it is an absolute URI: its `$id`, or in the first two drafts its `id`."""
+    if document is None or not isinstance(document.value, dict) or hides(document.value, document.dialect):
+        return None
+    uri = document.value.get(identifier(document.dialect))
     if not isinstance(uri, str) or not is_absolute(uri):
         return None
     return uri
@@ -85,8 +90,8 @@ def is_absolute(uri: str) -> bool:
     return _ABSOLUTE.fullmatch(uri) is not None
 
 
-def schema_file(path: str, uri: str = "", kind: str = "") -> SchemaFile:
-    """The document of a file. Without a URI its `$id` counts, else the file's URL.
+def schema_file(path: str, uri: str = "", kind: str = "", assumed: int = LATEST) -> SchemaFile:
+    """The document of a file. Without a URI its identifier counts, else the file's URL.
 
     Raises `OSError`, `UnreadableFile`, `MissingLibrary` and `NotOneDocument`.
     """
@@ -99,7 +104,7 @@ def schema_file(path: str, uri: str = "", kind: str = "") -> SchemaFile:
         raise UnreadableFile(path, data, refused) from None
     if len(sources) > 1:
         raise NotOneDocument(f"{path} has {len(sources)} documents: a schema is one")
-    made = SchemaFile(path, uri or file_url(path), sources[0])
+    made = SchemaFile(path, uri or file_url(path), sources[0], assumed)
     own = None if uri else own_uri(walked(made))
     return made._replace(uri=own) if own else made
 
@@ -107,8 +112,8 @@ def schema_file(path: str, uri: str = "", kind: str = "") -> SchemaFile:
 class Lookup:
     """Where documents are looked for: in folders, and beside those that refer to them."""
 
-    def __init__(self, folders: Sequence[str], beside: bool) -> None:
-        self._folders, self._beside = folders, beside
+    def __init__(self, folders: Sequence[str], beside: bool, assumed: int = LATEST) -> None:
+        self._folders, self._beside, self._assumed = folders, beside, assumed
         self._by_uri: Optional[dict[str, SchemaFile]] = None
 
     def taken(self, files: Sequence[SchemaFile]) -> list[Taken]:
@@ -140,7 +145,7 @@ class Lookup:
             if self._by_uri is None:
                 self._by_uri = {}
                 for folder in self._folders:
-                    for uri, it in _by_uri(folder):
+                    for uri, it in _by_uri(folder, self._assumed):
                         self._by_uri.setdefault(uri, it)
             if wanted in self._by_uri:
                 return self._by_uri[wanted]
@@ -148,7 +153,7 @@ class Lookup:
             return None
         for path in _paths_beside(file.path, document, schema, reference):
             if _is_regular(path):
-                return schema_file(path, wanted)
+                return schema_file(path, wanted, assumed=self._assumed)
         return None
 
 
@@ -164,11 +169,11 @@ def _raise(error: OSError) -> None:
     raise error
 
 
-def _by_uri(folder: str) -> Iterator[tuple[str, SchemaFile]]:
+def _by_uri(folder: str, assumed: int) -> Iterator[tuple[str, SchemaFile]]:
     """Each file of a folder by the URIs of the resources in it. What can't be read isn't one that is meant."""
     for path in schemas_in(folder):
         try:
-            file = schema_file(path)
+            file = schema_file(path, assumed=assumed)
         except (OSError, UnreadableFile, MissingLibrary, NotOneDocument):
             continue
         document = walked(file)

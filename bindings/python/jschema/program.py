@@ -2,6 +2,7 @@
 from __future__ import annotations
 
 import os
+import re
 import shutil
 import subprocess
 import tempfile
@@ -11,7 +12,7 @@ from pathlib import Path
 from typing import TYPE_CHECKING, NoReturn, Optional
 
 from .engine import Answer
-from .errors import EngineError, EngineNotFound
+from .errors import EngineError, EngineNotFound, UpgraderNotFound
 from .lines import fault_of
 from .positions import Located
 
@@ -19,6 +20,10 @@ if TYPE_CHECKING:
     _Done = subprocess.CompletedProcess[bytes]
 
 _BUILDS = ("out/jschema", "crates/js_cli/out/js_cli")
+# The program that upgrades, from the folder of the program: installed, and as the gate builds them.
+_UPGRADERS = ("jschema-upgrade", "../../js_upgrade_cli/out/js_upgrade_cli")
+
+_BEFORE_REASON = re.compile(r"\A.*?: (?=(?:refused|failed): )", re.DOTALL)
 
 
 def find_program() -> str:
@@ -34,6 +39,16 @@ def find_program() -> str:
         return os.path.abspath(found)
     raise EngineError("no program jschema: install it on the PATH (tools/install in its repository), "
                       "or name it in the environment variable JSCHEMA; or build the library (tools/build-library)")
+
+
+def find_upgrader(program: str) -> str:
+    """The program `jschema-upgrade` beside the program."""
+    folder = os.path.dirname(shutil.which(program) or program)
+    for name in _UPGRADERS:
+        if found := shutil.which(os.path.join(folder, name)):
+            return found
+    raise UpgraderNotFound(f"schemas of older drafts need the library (tools/build-library in its repository makes it), "
+                           f"or the program jschema-upgrade beside {program}")
 
 
 class ProgramEngine:
@@ -53,6 +68,17 @@ class ProgramEngine:
         path.write_bytes(document)
         self._uris.append(uri)
         self._arguments += [uri, str(path)]
+
+    def upgrade(self, dialect: str) -> None:
+        upgrader = find_upgrader(self._program)
+        folder = Path(self._folder, "upgraded")
+        folder.mkdir(exist_ok=True)
+        if not self._uris:
+            return
+        done = self._run(["--default-dialect", dialect, "--into", str(folder), "--", *self._arguments], b"", upgrader)
+        if done.returncode != 0:
+            self._raise(done, upgrader)
+        self._arguments[1::2] = [str(folder / os.path.basename(path)) for path in self._arguments[1::2]]
 
     def finish(self) -> None:
         done = self._run_with_documents("places")
@@ -95,20 +121,23 @@ class ProgramEngine:
     def _run_with_documents(self, command: str, *arguments: str, instance: bytes = b"") -> _Done:
         return self._run([command, "--", *arguments, *self._arguments], instance)
 
-    def _run(self, words: list[str], given: bytes) -> _Done:
+    def _run(self, words: list[str], given: bytes, program: Optional[str] = None) -> _Done:
+        program = program or self._program
         try:
-            return subprocess.run([self._program, *words], input=given, stdout=subprocess.PIPE, stderr=subprocess.PIPE,
+            return subprocess.run([program, *words], input=given, stdout=subprocess.PIPE, stderr=subprocess.PIPE,
                                   check=False)
         except OSError as error:
-            raise EngineError(f"{self._program} can't be run: {error.strerror}") from error
+            raise EngineError(f"{program} can't be run: {error.strerror}") from error
         except ValueError as error:
             raise EngineError("a URI with a zero byte or a lone surrogate can't be passed to the program") from error
 
-    def _raise(self, done: _Done) -> NoReturn:
+    def _raise(self, done: _Done, upgrader: Optional[str] = None) -> NoReturn:
         """Raises what a run without a verdict says."""
         line = done.stderr.decode(errors="replace")
-        raise fault_of(line, self._uris) or EngineError(
-            f"{self._program} ended with status {done.returncode}: {line.strip() or 'no message'}")
+        # (The program that upgrades writes the file before the reason.)
+        reason = line if upgrader is None else _BEFORE_REASON.sub("", line)
+        raise fault_of(reason, self._uris) or EngineError(
+            f"{upgrader or self._program} ended with status {done.returncode}: {line.strip() or 'no message'}")
 
 
 def _remove(folder: str, process: int) -> None:

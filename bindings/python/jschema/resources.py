@@ -8,8 +8,9 @@ from collections.abc import Iterator, Sequence
 from typing import Any, NamedTuple, Optional
 from urllib.parse import unquote
 
-from .dialects import dialect_of
+from .dialects import LATEST, dialect_of
 from .locations import LISTS, OBJECTS, steps
+from .originals import Original, hides, identifier, original, own_dialect
 from .sources import JsonSource, Source
 from .uris import document_of, fragment_of, joined, without_fragment
 
@@ -45,14 +46,17 @@ _DOUBTFUL = re.compile(rb"\\u[dD][89a-fA-F]|[0-9][eE]")
 class Document:
     """A schema document under a URI."""
 
-    def __init__(self, uri: str, source: Source, value: Any) -> None:
+    def __init__(self, uri: str, source: Source, value: Any, assumed: int = LATEST) -> None:
         self.uri, self.source, self.value = uri, source, value
-        self.dialect = dialect_of(value)
+        #: Its dialect: what is assumed where it names none.
+        self.dialect = dialect_of(value, assumed)
         self.schemas: list[Schema] = []
         #: The tokens of every schema, also of those that are booleans.
         self.places: set[Tokens] = set()
         #: The tokens of each resource by its URI (see `document_of`), and of each anchor by that with the fragment.
         self.targets: dict[str, Tokens] = {}
+        #: The dialect of each resource, by its tokens.
+        self.roots: dict[Tokens, int] = {(): self.dialect}
 
 
 class Target(NamedTuple):
@@ -62,14 +66,15 @@ class Target(NamedTuple):
     tokens: Tokens
 
 
-def document(uri: str, source: Source) -> Document:
-    """The document of a text. Raises `ValueError` or `RecursionError` where it isn't JSON."""
+def document(uri: str, source: Source, assumed: int = LATEST) -> Document:
+    """The document of a text, of the dialect that is assumed if it names none. Raises `ValueError` or `RecursionError`
+    where it isn't JSON."""
     value = json.loads(source.json.decode(), parse_constant=_no_constant, parse_int=_whole)
     if isinstance(source, JsonSource) and not _DOUBTFUL.search(source.json):
         source.trust()
-    made = Document(uri, source, value)
+    made = Document(uri, source, value, assumed)
     made.targets[document_of(uri)] = ()
-    _visit(made, value, (), without_fragment(uri))
+    _visit(made, value, (), without_fragment(uri), made.dialect)
     return made
 
 
@@ -86,6 +91,22 @@ def target(uri: str, documents: Sequence[Document]) -> Optional[Target]:
                 return Target(document, anchored)
         elif (root := document.targets.get(resource)) is not None:
             return Target(document, (*root, *steps(fragment)))
+    return None
+
+
+def original_of(uri: str, documents: Sequence[Document]) -> Optional[tuple[Document, Original]]:
+    """What in the documents becomes that which a URI names once they are upgraded: the URI of a resource, with a JSON
+    Pointer of the upgraded document as its fragment. None where nothing does."""
+    resource = document_of(uri)
+    for document in documents:
+        root = document.targets.get(resource)
+        if root is None:
+            continue
+        value = document.value
+        for token in root:
+            value = value[int(token)] if isinstance(value, list) else value[token]
+        found = original(value, steps(unquote(fragment_of(uri), errors="replace")), document.roots[root])
+        return None if found is None else (document, found._replace(tokens=(*root, *found.tokens)))
     return None
 
 
@@ -119,21 +140,23 @@ def _no_constant(name: str) -> float:
     raise ValueError(f"JSON has no {name}")
 
 
-def _visit(document: Document, value: Any, tokens: Tokens, base: str) -> None:
+def _visit(document: Document, value: Any, tokens: Tokens, base: str, around: int) -> None:
     document.places.add(tokens)
     if not isinstance(value, dict):
         return
-    name = value.get("$id", value.get("id") if document.dialect < 2 else None)
+    dialect = own_dialect(value, around) if tokens else around
+    name = None if hides(value, dialect) else value.get(identifier(dialect))
     if isinstance(name, str):
-        if name.startswith("#") and document.dialect < 4:
+        if name.startswith("#") and dialect < 4:
             # (What is an anchor since 2019-09.)
             document.targets[document_of(base) + name] = tokens
         else:
             base = without_fragment(joined(base, name))
             document.targets[document_of(base)] = tokens
+            document.roots[tokens] = dialect
     for keyword in ANCHORS:
         if isinstance(value.get(keyword), str):
             document.targets[f"{document_of(base)}#{value[keyword]}"] = tokens
     document.schemas.append(Schema(value, tokens, base))
-    for below, child in subschemas(value, document.dialect):
-        _visit(document, child, tokens + below, base)
+    for below, child in subschemas(value, dialect):
+        _visit(document, child, tokens + below, base, dialect)

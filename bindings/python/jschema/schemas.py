@@ -10,9 +10,11 @@ from .engine import FORMATS, Answer, Engine
 from .errors import Refused, ValidationError, best_first
 from .library import LibraryEngine, find_library
 from .meanings import explain
+from .metaschemas import ALL, LATEST_ALONE, metaschemas_for
 from .outputs import malformed, parse
 from .positions import Text
 from .program import ProgramEngine
+from .upgrading import Upgrade
 from .values import Instance, text_of
 
 
@@ -25,22 +27,37 @@ class Schemas:
     value (see `jschema.values`). The `engine` is by default the library's, or that of the program where there is no
     library.
 
+    Documents of older drafts, from draft-03 to 2019-09, are upgraded to 2020-12, so that each gives the verdict of its
+    draft; `upgrade=False` refuses them. A document that names no dialect is of the `default_dialect`: `draft-03`,
+    `draft-04`, `draft-06`, `draft-07`, `2019-09` or `2020-12`, or the URI of one. Locations in errors and outputs are
+    those of the upgraded schemas. Meta-schemas that documents refer to are taken from pip's `jsonschema-specifications`
+    or Debian's `python3-jsonschema`, where that is installed.
+
     Each call raises `Refused` for an input that has no verdict, `MemoryError` if memory runs out, `EngineError` if the
     engine fails otherwise, `TypeError` for a value that JSON doesn't have, and `ValueError` after `close`.
     """
 
-    def __init__(self, documents: Documents, *, engine: Optional[Engine] = None) -> None:
+    def __init__(self, documents: Documents, *, engine: Optional[Engine] = None, default_dialect: Optional[str] = None,
+                 upgrade: bool = True) -> None:
+        upgrading = Upgrade(default_dialect, upgrade)
         self._engine: Optional[Engine] = _default_engine() if engine is None else engine
         texts: list[tuple[str, bytes]] = []
+        is_upgraded = False
         try:
             texts = texts_of(documents)
+            texts += metaschemas_for(texts, ALL if upgrade else LATEST_ALONE)
             for uri, text in texts:
                 self._engine.add(uri, text)
+            if upgrading.may_change(text for _, text in texts):
+                self._engine.upgrade(upgrading.uri)
+                is_upgraded = True
             self._engine.finish()
         except BaseException as error:
             self.close()
             if isinstance(error, Refused) and error.index is not None and error.index < len(texts):
                 uri, text = texts[error.index]
+                if is_upgraded:
+                    upgrading.explain(error, text)
                 explain(error, text, uri)
             raise
 

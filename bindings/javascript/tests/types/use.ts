@@ -19,9 +19,11 @@ export async function use(bytes: Uint8Array): Promise<void> {
   others.close();
   const validate = await compile({ type: "object" });
   const found: AjvError[] | null = validate({}) ? null : validate.errors;
+  const older = await compile({ items: [{}] }, { defaultDialect: "draft-07" });
+  const refusing = await Schemas.create({ "urn:x": "true" }, { upgrade: false });
   const worker = await WorkerSchemas.create({ "urn:x": "true" }, { seconds: 1, applications: 8 });
   const inWorker: Promise<boolean> = worker.isValid("urn:x", "1");
-  console.log(valid, places, output, text, format, position, found, inWorker, textOf(1n));
+  console.log(valid, places, output, text, format, position, found, inWorker, textOf(1n), older, refusing);
 
   // @ts-expect-error: no such format
   schemas.output("urn:x", "1", "xml");
@@ -33,6 +35,8 @@ export async function use(bytes: Uint8Array): Promise<void> {
   await Schemas.create({ "urn:x": {} });
   // @ts-expect-error: a limit is a number
   await Schemas.create({}, { nodes: "1000" });
+  // @ts-expect-error: no such dialect
+  await Schemas.create({}, { defaultDialect: "draft-05" });
   // @ts-expect-error: `create` makes schemas
   new Schemas();
   // @ts-expect-error: a string in a list is a value, the entry is missing

@@ -4,6 +4,7 @@ from __future__ import annotations
 import argparse
 from typing import NamedTuple, NoReturn, Optional
 
+from ..dialects import DRAFTS, dialect_called
 from ..engine import FORMATS
 from ..sources import KINDS
 from .files import Misuse
@@ -11,7 +12,7 @@ from .files import Misuse
 #: What each command is called on its own, and its usage after its name.
 USAGES = {
     "validate": "[--ref [URI=]FILE|FOLDER]... [--format FORMAT] [--input KIND] [--formats] [--lines] [--jobs N] "
-                "(SCHEMA | --schema SCHEMA) INSTANCE...",
+                "[--default-dialect DIALECT | --no-upgrade] (SCHEMA | --schema SCHEMA) INSTANCE...",
     "lint": "[--ref [URI=]FILE|FOLDER]... [--format FORMAT] [--input KIND] SCHEMA...",
 }
 EXAMPLES = {"validate": "person.schema.json ada.json", "lint": "person.schema.json"}
@@ -43,6 +44,10 @@ class Arguments(NamedTuple):
     formats: bool = False
     lines: bool = False
     jobs: int = 1
+    #: The dialect of each schema document that names none, if it is given; and whether those of older drafts are
+    #: upgraded.
+    default_dialect: Optional[str] = None
+    upgrade: bool = True
 
 
 class Version(Exception):
@@ -80,6 +85,14 @@ def _jobs(word: str) -> int:
     return int(word)
 
 
+def _dialect(word: str) -> str:
+    try:
+        dialect_called(word)
+    except ValueError as error:
+        raise argparse.ArgumentTypeError(str(error)) from None
+    return word
+
+
 def _add_common(parser: argparse.ArgumentParser, formats: tuple[str, ...], shown: str) -> None:
     parser.add_argument("--ref", action="append", default=[], metavar="[URI=]FILE|FOLDER",
                         help="a schema document that is referred to, with the URI to register it under (default: as "
@@ -98,7 +111,7 @@ def _add_common(parser: argparse.ArgumentParser, formats: tuple[str, ...], shown
 
 
 def _validate(name: str) -> _Parser:
-    parser = _Parser(name, "validate", "Validates JSON, YAML and TOML files against a JSON Schema, draft 2020-12.")
+    parser = _Parser(name, "validate", "Validates JSON, YAML and TOML files against a JSON Schema, of draft 2020-12 or older.")
     parser.add_argument("--schema", action="append", metavar="SCHEMA",
                         help="the file of the schema (default: the first file); its URI is its $id if that is "
                              "absolute, else its file's URL")
@@ -108,6 +121,12 @@ def _validate(name: str) -> _Parser:
                         help="warn of values of a valid instance that break a `format`; the verdict stays")
     parser.add_argument("--lines", action="store_true",
                         help="each line of a file is an instance; empty lines don't count")
+    parser.add_argument("--default-dialect", type=_dialect, metavar="DIALECT",
+                        help=f"the dialect of each schema document that names none: {', '.join(DRAFTS[:-1])} or "
+                             f"{DRAFTS[-1]} (the default), or the URI of one")
+    parser.add_argument("--no-upgrade", dest="upgrade", action="store_false",
+                        help=f"refuse schemas of older drafts, from {DRAFTS[0]} to {DRAFTS[-2]}, which are upgraded to "
+                             f"{DRAFTS[-1]} otherwise")
     parser.add_argument("--jobs", type=_jobs, default=1, metavar="N", help="how many checks run at once (default: 1)")
     parser.add_argument("files", nargs="*", metavar="INSTANCE",
                         help="a file; a folder, for the files in it, at any depth, whose suffix is of a kind (with "
@@ -159,5 +178,7 @@ def of_command(command: str, words: list[str], name: str) -> Arguments:
         parser.error(f"the following arguments are required: {'INSTANCE' if schemas else 'SCHEMA and INSTANCE'}")
     if given.lines and given.input not in (None, "json"):
         parser.error(f"--lines is for JSON: no line of {given.input} is a document")
+    if given.default_dialect and not given.upgrade:
+        parser.error("--default-dialect says what to upgrade from, and --no-upgrade upgrades nothing")
     return Arguments("validate", schemas[0], given.ref, given.ref_siblings, given.format, given.input, given.verbose,
-                     files, given.formats, given.lines, given.jobs)
+                     files, given.formats, given.lines, given.jobs, given.default_dialect, given.upgrade)

@@ -6,8 +6,10 @@ import sys
 from collections.abc import Sequence
 from typing import Optional
 
+from ..dialects import LATEST
 from ..lookup import Lookup, SchemaFile, schema_file
 from ..sources import SUFFIXES, kind_of
+from .arguments import Arguments
 from .files import Misuse
 
 
@@ -18,23 +20,22 @@ def kind_for(path: str, given: Optional[str]) -> str:
     return kind_of(path) if is_known or given is None else given
 
 
-def document(argument: str, option: str, kind: Optional[str] = None) -> SchemaFile:
-    """The document that the argument `[URI=]FILE` of an option names. Without a URI its `$id` counts, else its file's
-    URL."""
+def document(argument: str, option: str, kind: Optional[str] = None, assumed: int = LATEST) -> SchemaFile:
+    """The document that the argument `[URI=]FILE` of an option names, and the dialect that is assumed if it names none.
+    Without a URI its identifier counts, else its file's URL."""
     uri, mark, path = argument.rpartition("=")
     if not mark or os.path.isfile(argument):
         uri, path = "", argument
     _check_names(uri, path, option)
-    return schema_file(path, uri, kind_for(path, kind))
+    return schema_file(path, uri, kind_for(path, kind), assumed)
 
 
-def referred(files: Sequence[SchemaFile], refs: Sequence[str], siblings: bool, kind: Optional[str],
-             verbose: bool) -> list[SchemaFile]:
+def referred(files: Sequence[SchemaFile], arguments: Arguments, assumed: int = LATEST) -> list[SchemaFile]:
     """The documents of `--ref`, and those that are found in its folders and beside the files."""
-    folders = [ref for ref in refs if os.path.isdir(ref)]
-    named = [document(ref, "--ref", kind) for ref in refs if ref not in folders]
-    taken = Lookup(folders, siblings).taken([*files, *named])
-    for it in taken if verbose else ():
+    folders = [ref for ref in arguments.refs if os.path.isdir(ref)]
+    named = [document(ref, "--ref", arguments.input, assumed) for ref in arguments.refs if ref not in folders]
+    taken = Lookup(folders, arguments.siblings, assumed).taken([*files, *named])
+    for it in taken if arguments.verbose else ():
         print(f"jschema: {it.file.path} is taken for {it.file.uri}, which {it.referring} refers to", file=sys.stderr)
     return [*named, *(it.file for it in taken)]
 

@@ -48,7 +48,7 @@ def _results(given: Sequence[Input], arguments: Arguments) -> Iterator[Result]:
             else:
                 result = _result(it, [broken(it.source)])
         results.append(result)
-    beside = referred(files, arguments.refs, arguments.siblings, arguments.input, arguments.verbose)
+    beside = referred(files, arguments)
     found = iter(lint_documents(documents, [it for it in map(walked, beside) if it]))
     return iter([_result(it, next(found)) if result is None else result for it, result in zip(given, results)])
 

@@ -8,7 +8,7 @@ from typing import Optional
 
 from ..locations import pointer
 from ..lookup import SchemaFile, walked
-from ..resources import Document, target
+from ..resources import Document, original_of
 from ..scanner import NotJson
 from .problems import SchemaPlace
 
@@ -30,11 +30,12 @@ class Places:
                 walks = [(file, walked(file)) for file in self._files]
                 self._paths = {id(document): file.path for file, document in walks if document is not None}
                 self._documents = [document for _, document in walks if document is not None]
-        found = target(keyword_uri, self._documents)
+        found = original_of(keyword_uri, self._documents)
         if found is None:
             return None
+        document, keyword = found
         try:
-            where = found.document.source.name(pointer([*found.tokens])).begin
+            where = document.source.name(pointer([*keyword.tokens])).begin
         except (LookupError, NotJson):
             return None
-        return SchemaPlace(self._paths[id(found.document)], where)
+        return SchemaPlace(self._paths[id(document)], where)

@@ -123,7 +123,8 @@ class Checker:
 def refusal(given: Input, refused: Refused) -> Result:
     """The result of what is refused."""
     where = in_file(given, given.source.refusal(refused))
-    problem = Problem(REFUSED, refused.kind, refused.meaning, where, refused.place or "", refused=refused)
+    message = f"{refused.meaning}, in the upgraded document" if refused.is_upgraded else refused.meaning
+    problem = Problem(REFUSED, refused.kind, message, where, refused.place or "", refused=refused)
     return Result(given, Status.REFUSED, [problem])
 
 

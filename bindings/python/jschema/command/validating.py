@@ -5,10 +5,12 @@ import sys
 from collections.abc import Iterable, Sequence
 from typing import TYPE_CHECKING
 
+from ..dialects import DRAFTS, LATEST, dialect_called
 from ..errors import Refused
-from ..lookup import SchemaFile, UnreadableFile
+from ..lookup import SchemaFile, UnreadableFile, walked
 from ..schemas import Schemas
 from ..sources import JsonSource
+from ..upgrading import may_be_older
 from .arguments import Arguments
 from .documents import document, referred
 from .files import files_of, suffixes
@@ -28,17 +30,19 @@ def validate(arguments: Arguments) -> int:
     report = report_for(arguments.format, "validate", sys.stdout)
     assert arguments.schema is not None
     documents: list[SchemaFile] = []
+    assumed = LATEST if arguments.default_dialect is None else dialect_called(arguments.default_dialect)
     try:
-        schema = document(arguments.schema, "--schema", arguments.input)
-        documents = [schema, *referred([schema], arguments.refs, arguments.siblings, arguments.input,
-                                       arguments.verbose)]
-        schemas = Schemas((it.uri, it.source.json) for it in documents)
+        schema = document(arguments.schema, "--schema", arguments.input, assumed)
+        documents = [schema, *referred([schema], arguments, assumed)]
+        schemas = Schemas(((it.uri, it.source.json) for it in documents), default_dialect=arguments.default_dialect,
+                          upgrade=arguments.upgrade)
     except UnreadableFile as error:
         report.refused_schema(unreadable_schema(error))
         return Status.REFUSED
     except Refused as refused:
         report.refused_schema(refused_schema(documents, refused))
         return Status.REFUSED
+    _note_upgrade(documents)
     formats = _formats() if arguments.formats else None
     progress = Progress(None if arguments.lines else len(files))
     with schemas:
@@ -48,6 +52,17 @@ def validate(arguments: Arguments) -> int:
     for message in sorted(set(formats.missing.values())) if formats is not None else ():
         print(f"jschema: {message}", file=sys.stderr)
     return status
+
+
+def _note_upgrade(documents: Sequence[SchemaFile]) -> None:
+    """Says once that documents of older drafts were upgraded."""
+    found = [(it.path, document.dialect) for it in documents if may_be_older(it.source.json, it.assumed)
+             if (document := walked(it)) is not None and document.dialect != LATEST]
+    if found:
+        path, dialect = found[0]
+        more = len(found) - 1
+        others = f" (and {more} other document{'s' if more > 1 else ''})" if more else ""
+        print(f"note: {path}: upgraded from {DRAFTS[dialect]}{others}", file=sys.stderr)
 
 
 def _formats() -> Formats:
@@ -70,8 +85,9 @@ def reported(report: Report, progress: Progress, found: Iterable[Result]) -> int
 
 
 def refused_schema(documents: Sequence[SchemaFile], refused: Refused) -> Result:
-    """Which of the schema documents is refused, and where. What is about all of them is at the first."""
-    file = documents[refused.index or 0]
+    """Which of the schema documents is refused, and where. What is about all of them, or about one that was taken of
+    another package, is at the first."""
+    file = documents[refused.index if refused.index is not None and refused.index < len(documents) else 0]
     return refusal(Input(file.path, 1, file.source), refused)
 
 

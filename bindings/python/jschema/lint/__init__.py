@@ -9,7 +9,7 @@ from collections.abc import Iterator, Sequence
 from typing import Any, Optional
 
 from ..documents import Documents, texts_of
-from ..errors import Refused
+from ..errors import Refused, UpgraderNotFound
 from ..limits import LARGEST_TEXT
 from ..locations import pointer
 from ..meanings import explain
@@ -82,12 +82,15 @@ def _document(uri: str, text: bytes, kind: str) -> Document | Finding:
 
 
 def _judged(documents: Sequence[tuple[str, Any]]) -> Optional[Refused]:
-    """The refusal of documents, if the validator refuses them."""
+    """The refusal of documents, if the validator refuses them. Where nothing upgrades older drafts, they are refused."""
     try:
-        with Schemas(documents):
-            return None
+        try:
+            Schemas(documents).close()
+        except UpgraderNotFound:
+            Schemas(documents, upgrade=False).close()
     except Refused as refused:
         return refused
+    return None
 
 
 def _refusals(documents: Sequence[Document]) -> dict[int, Refused]:

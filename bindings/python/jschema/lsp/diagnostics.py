@@ -176,7 +176,8 @@ def _refused_schema(document: Document, found: SchemaSet, refused: Refused) -> D
     """The refusal of a schema. One that is in another document stands where this one refers to it."""
     reading = document.reading()
     index = refused.index or 0
-    if index == 0:
+    # (Of a meta-schema that was taken of another package there is no document.)
+    if index == 0 or index >= len(found.documents):
         return Diagnostic(reading.refusal(reading.sources[0], refused), ERROR, refused.kind, refused.meaning)
     place = found.first_reference_to(found.documents[index][0])
     span = Span(0, 1) if place is None else reading.place(reading.sources[0], place)

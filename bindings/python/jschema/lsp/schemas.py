@@ -15,7 +15,7 @@ from ..lookup import Lookup, SchemaFile, file_url, is_absolute, schema_file, sch
 from ..resources import Target
 from ..schemas import Schemas
 from ..sources import Source, kind_of
-from ..uris import document_of, joined
+from ..uris import document_of, fragment_of, joined
 from .documents import Document
 from .ranges import Lines
 from .reading import Reading
@@ -71,12 +71,16 @@ class SchemaSet:
         return self.documents[0][0]
 
     def find(self, uri: str) -> Optional[Target]:
-        """What a URI names: an absolute location, also of a keyword, or an anchor."""
-        return resources.target(uri, self.resources)
+        """What an absolute location of the validator names, also that of a keyword; or a URI with an anchor. In a
+        schema of an older draft it is what that comes from."""
+        if fragment_of(uri)[:1] not in ("", "/"):
+            return resources.target(uri, self.resources)
+        found = resources.original_of(uri, self.resources)
+        return None if found is None else Target(found[0], found[1].tokens)
 
     def referred(self, location: str, reference: str) -> Optional[Target]:
         """What a reference leads to from the schema at an absolute location."""
-        return self.find(joined(location, reference))
+        return resources.target(joined(location, reference), self.resources)
 
     def target(self, place: str) -> Optional[Target]:
         """What the reference that stands at a pointer of the first document leads to."""
@@ -84,7 +88,9 @@ class SchemaSet:
         for schema in self.resources[0].schemas if self.resources and tokens else ():
             if schema.tokens == tokens[:-1]:
                 reference = dict(schema.references()).get(tokens[-1])
-                return None if reference is None else self.find(joined(schema.base, reference))
+                if reference is None:
+                    return None
+                return resources.target(joined(schema.base, reference), self.resources)
         return None
 
     def first_reference_to(self, uri: str) -> Optional[str]:

@@ -60,11 +60,12 @@ class Source:
         raise NotImplementedError
 
     def refusal(self, refused: Refused) -> Range:
-        """Where the text is refused: at the value that the refusal names, or where it ceases to be JSON."""
+        """Where the text is refused: at the value that the refusal names, or where it ceases to be JSON. A place in an
+        upgraded document has none."""
         if isinstance(refused, Unreadable):
             return refused.range
         start = Position(0, 1, 1)
-        if refused.place is None:
+        if refused.place is None or refused.is_upgraded:
             return Range(start, start)
         try:
             return self._place(refused)

@@ -54,6 +54,10 @@ def false_schema(instance: Any) -> str:
 
 def unexpected(keyword: str, schema: dict[str, Any], extras: list[Any]) -> str:
     """The message for members or items that there may not be."""
+    if keyword == "items" and isinstance(schema.get("items"), list):
+        # (Up to 2019-09 this is `additionalItems`.)
+        shown = ", ".join(map(repr, extras))
+        return f"Additional items are not allowed ({shown} {'was' if len(extras) == 1 else 'were'} unexpected)"
     if keyword == "items":
         prefix = len(schema.get("prefixItems", ()))
         rest = extras[0] if len(extras) == 1 else extras

@@ -4,7 +4,10 @@ from __future__ import annotations
 from collections.abc import Mapping
 from typing import Any, Optional
 
+from ..dialects import LATEST, dialect_of
 from ..errors import Refused
+from ..metaschemas import ALL, metaschemas_for
+from ..originals import hides, identifier
 from ..resources import Document, document
 from ..sources import JsonSource
 from ..uris import document_of, joined, without_fragment
@@ -14,13 +17,13 @@ from ..values import text_of_value
 BASE = "schema:///"
 
 
-def gathered(schema: Any, registry: Optional[Mapping[str, Any]]) -> list[Document]:
-    """The document of a schema, and those of the registry that it refers to. A reference that leads nowhere is left to
-    the validator.
+def gathered(schema: Any, registry: Optional[Mapping[str, Any]], assumed: int = LATEST) -> list[Document]:
+    """The document of a schema, and those of the registry that it refers to, with meta-schemas. Each is of the dialect
+    that is assumed if it names none. A reference that leads nowhere is left to the validator.
 
     Raises `Refused` for a value that is none of JSON's within the profile, and `TypeError`.
     """
-    documents = [_document(_own_uri(schema) or BASE, schema)]
+    documents = [_document(_own_uri(schema, assumed) or BASE, schema, assumed)]
     # (The list grows on the way.)
     for it in documents:
         for found in it.schemas:
@@ -30,23 +33,25 @@ def gathered(schema: Any, registry: Optional[Mapping[str, Any]]) -> list[Documen
                     continue
                 contents = _contents(registry, without_fragment(wanted))
                 if contents is not None:
-                    more = _document(without_fragment(wanted), contents)
+                    more = _document(without_fragment(wanted), contents, assumed)
                     # What was taken before, and is a part of this one, is left to it.
                     documents[1:] = [other for other in documents[1:] if document_of(other.uri) not in more.targets]
                     documents.append(more)
-    return documents
+    texts = [(it.uri, it.source.json) for it in documents]
+    return [*documents, *(document(uri, JsonSource("json", text, text)) for uri, text in metaschemas_for(texts, ALL))]
 
 
-def _document(uri: str, value: Any) -> Document:
+def _document(uri: str, value: Any, assumed: int) -> Document:
     try:
         text = text_of_value(value)
     except Refused as refused:
         raise Refused("document", refused.kind, refused.place, 0, uri) from None
-    return document(uri, JsonSource("json", text, text))
+    return document(uri, JsonSource("json", text, text), assumed)
 
 
-def _own_uri(schema: Any) -> Optional[str]:
-    name = schema.get("$id") if isinstance(schema, dict) else None
+def _own_uri(schema: Any, assumed: int) -> Optional[str]:
+    dialect = dialect_of(schema, assumed)
+    name = schema.get(identifier(dialect)) if isinstance(schema, dict) and not hides(schema, dialect) else None
     return joined(BASE, without_fragment(name)) if isinstance(name, str) else None
 
 

@@ -9,8 +9,9 @@ from collections.abc import Iterator, Sequence
 from typing import Any, Callable, Optional, Union
 
 from ..locations import schema_steps, steps
+from ..originals import own_dialect, upgraded_value
 from ..positions import Text
-from ..resources import Document, target
+from ..resources import Document, original_of
 from . import messages
 from .errors import DetailedError, Path
 
@@ -89,16 +90,19 @@ class Reading:
 
     def _set_keyword(self, error: DetailedError) -> None:
         """Sets the keyword, its value, and its schema."""
-        found = target(error.absolute_keyword_location, self._documents)
-        tokens = [*found.tokens] if found is not None else []
-        value = _at(found.document.value, tokens) if found is not None else None
+        found = original_of(error.absolute_keyword_location, self._documents)
         last = schema_steps(error.keyword_location)[-1:]
         is_keyword = bool(last) and last[0].is_keyword
-        if value is False and not (is_keyword and last[0].token in _EXTRAS):
+        if found is not None and found[1].value is False and not (is_keyword and last[0].token in _EXTRAS):
             error.schema = False
             return
-        error.validator, error.validator_value = error.keyword, value
-        error.schema = _at(found.document.value, tokens[:-1]) if found is not None else None
+        error.validator = error.keyword
+        above = original_of(_above(error.absolute_keyword_location), self._documents)
+        if above is not None:
+            schema, dialect = above[1].value, above[1].dialect
+            # (In draft-03 the name of a type may stand in place of a schema.)
+            error.schema = {"type": schema} if isinstance(schema, str) else schema
+            error.validator_value = upgraded_value(error.schema, error.keyword, own_dialect(error.schema, dialect))
 
     def _held(self, error: DetailedError) -> list[Any]:
         """The subschemas of a `oneOf` that hold."""

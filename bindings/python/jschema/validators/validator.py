@@ -9,6 +9,7 @@ from ..errors import Refused
 from ..outputs import parse
 from ..resources import Document
 from ..schemas import Schemas
+from ..upgrading import Upgrade
 from ..values import text_of_value
 from .errors import DetailedError, SchemaError
 from .registries import gathered
@@ -24,17 +25,21 @@ class Validator:
     mapping of URIs to schemas. Raises `SchemaError` for a schema that the validator refuses, also for a reference that
     leads nowhere.
 
+    A schema of an older draft (draft-03 to 2019-09) gives the verdict of its draft. One that names no dialect is of the
+    `default_dialect`, as for `Schemas`.
+
     Each call raises `Refused` for an instance that has no verdict, and what those of `Schemas` raise otherwise. It may
     be used from any thread.
     """
 
     def __init__(self, schema: Any, registry: Optional[Mapping[str, Any]] = None, *,
-                 engine: Optional[Engine] = None) -> None:
+                 engine: Optional[Engine] = None, default_dialect: Optional[str] = None) -> None:
         self.schema = schema
-        self._registry = registry
+        self._registry, self._default_dialect = registry, default_dialect
         try:
-            self._documents = gathered(schema, registry)
-            self._schemas = Schemas([(it.uri, it.source.json) for it in self._documents], engine=engine)
+            self._documents = gathered(schema, registry, Upgrade(default_dialect, True).assumed)
+            self._schemas = Schemas([(it.uri, it.source.json) for it in self._documents], engine=engine,
+                                    default_dialect=default_dialect)
         except Refused as refused:
             _raise_schema_error(refused)
 
@@ -70,7 +75,7 @@ class Validator:
 
     def evolve(self, schema: Any) -> Validator:
         """A validator for another schema with the same registry."""
-        return Validator(schema, self._registry)
+        return Validator(schema, self._registry, default_dialect=self._default_dialect)
 
     def _holds(self, uri: str, value: Any) -> bool:
         return self._schemas.is_valid(uri, text_of_value(value))
@@ -83,9 +88,10 @@ class Validator:
         return f"Validator({self.schema!r})"
 
 
-def validator_for(schema: Any, registry: Optional[Mapping[str, Any]] = None) -> Validator:
+def validator_for(schema: Any, registry: Optional[Mapping[str, Any]] = None, *,
+                  default_dialect: Optional[str] = None) -> Validator:
     """The validator for a schema."""
-    return Validator(schema, registry)
+    return Validator(schema, registry, default_dialect=default_dialect)
 
 
 def validate(instance: Any, schema: Any, registry: Optional[Mapping[str, Any]] = None) -> None:
@@ -95,5 +101,5 @@ def validate(instance: Any, schema: Any, registry: Optional[Mapping[str, Any]] =
 
 def _raise_schema_error(refused: Refused) -> NoReturn:
     error = SchemaError(refused.subject, refused.kind, refused.place, refused.index, refused.document)
-    error.meaning = refused.meaning
+    error.meaning, error.is_upgraded = refused.meaning, refused.is_upgraded
     raise error from None
