@@ -1,7 +1,7 @@
 -- Names of types and schemas, one of which has to hold.
-use Rattle.std.proofs.Common.{◌≡◌, ◌≢◌, List, [], ◌∷◌, Bool, true, false, ◌||◌, cond, map, refl, sym, ap, ◌∙◌, codes}
+use Rattle.std.proofs.Common.{◌≡◌, ◌≢◌, List, [], ◌∷◌, true, false, ◌||◌, cond, map, refl, ap, ◌∙◌, codes}
 use Rattle.std.specs.List.{list_any}
-use Rattle.js_doc.specs.Value.{Value, list, items, Named}
+use Rattle.js_doc.specs.Value.{list, items, Named}
 use Rattle.js_doc.specs.Seen.{value_of}
 use Rattle.js_doc.specs.declared.doc.Doc.{Doc}
 use Rattle.js_upgrade.specs.Schema.{alternative, alternatives_upgraded, is_any, one}

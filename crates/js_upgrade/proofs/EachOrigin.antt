@@ -1,17 +1,17 @@
 -- Each keyword that a keyword becomes comes from it.
-use Rattle.std.proofs.Common.{◌≡◌, List, [], ◌∷◌, ◌++◌, Bool, true, false, ◌&&◌, Some, cond, refl, sym, ap, ◌∙◌}
-use Rattle.std.proofs.Common.{map, subst, codes, bytes_eq}
+use Rattle.std.proofs.Common.{◌≡◌, List, [], ◌∷◌, Bool, true, false, Some, cond, refl}
+use Rattle.std.proofs.Common.{map, codes, bytes_eq}
 use Rattle.std.specs.List.{after_first, before_first, list_any}
 use Rattle.std.proofs.lemmas.Bool.{and_parts}
 use Rattle.js_doc.specs.Members.{get}
 use Rattle.js_doc.specs.Parts.{item_list, member_list}
-use Rattle.js_doc.specs.Value.{Value, null, truth, whole, text, list, object, no_items, item, items, members}
+use Rattle.js_doc.specs.Value.{Value, null, truth, whole, text, list, object, items}
 use Rattle.js_doc.specs.Value.{Text, Values, Named}
 use Rattle.js_doc.proofs.TokenLookup.{is_text-sound}
 use Rattle.js_upgrade.specs.Schema.{alternative, alternatives_upgraded, dependencies_upgraded, dependent_names}
 use Rattle.js_upgrade.specs.Schema.{dependent_schema, extends_upgraded, gathered, identifier_upgraded, is_any, is_list}
 use Rattle.js_upgrade.specs.Schema.{is_mark, is_name, is_simple_type, is_true, list_or_schema_upgraded, members_found}
-use Rattle.js_upgrade.specs.Schema.{one, put_all, required_names, some_items, some_members, some_name, some_uri}
+use Rattle.js_upgrade.specs.Schema.{one, required_names, some_items, some_members, some_name, some_uri}
 use Rattle.js_upgrade.specs.Schema.{types_upgraded, upgraded_by}
 use Rattle.js_upgrade.specs.declared.keyword.Change.{Change}
 use Rattle.js_upgrade.specs.declared.keyword.Change.TheVariants.{Stays, Asserts, Refers}

@@ -1,13 +1,13 @@
 -- Schemas of older drafts, and what becomes of them.
-use Rattle.std.proofs.Common.{◌≡◌, ℕ, [], ◌∷◌, List, pos, true, false, Some, None, codes, refl}
-use Rattle.js_doc.specs.Value.{Value, null, truth, whole, text, list, object, items, members, Text, Values, Named}
+use Rattle.std.proofs.Common.{◌≡◌, ℕ, [], ◌∷◌, pos, true, false, Some, None, codes, refl}
+use Rattle.js_doc.specs.Value.{Value, null, truth, whole, text, list, object, items, members, Values, Named}
 use Rattle.js_upgrade.specs.Dialect.{dialect_named, version_named}
 use Rattle.js_upgrade.specs.Keyword.{core_change, applicator_change, assertion_change}
 use Rattle.js_upgrade.specs.Schema.{is_simple_type}
 use Rattle.js_upgrade.specs.Upgrade.{document_upgraded, schema_uri}
 use Rattle.js_upgrade.specs.declared.dialect.Dialect.{Dialect}
 use Rattle.js_upgrade.specs.declared.dialect.Dialect.TheVariants.{Draft03, Draft04, Draft06}
-use Rattle.js_upgrade.specs.declared.dialect.Dialect.TheVariants.{Draft07, Draft2019, Draft2020}
+use Rattle.js_upgrade.specs.declared.dialect.Dialect.TheVariants.{Draft07, Draft2019}
 
 -- ---- short forms
 

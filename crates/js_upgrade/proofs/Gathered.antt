@@ -1,10 +1,10 @@
 -- Members that are gathered: what is there when some are.
-use Rattle.std.proofs.Common.{◌≡◌, ◌≢◌, ◌++◌, List, [], ◌∷◌, map, refl, sym, ap, ◌∙◌, subst}
-use Rattle.js_doc.specs.Value.{Value, list, object, items, members, Text, Values, Named}
-use Rattle.js_doc.specs.Seen.{value_of, pair_of}
+use Rattle.std.proofs.Common.{◌≡◌, ◌≢◌, ◌++◌, List, [], ◌∷◌, map, refl}
+use Rattle.js_doc.specs.Value.{list, object, items, members, Text, Named}
+use Rattle.js_doc.specs.Seen.{value_of}
 use Rattle.js_doc.proofs.PartLists.{item_list-items, member_list-members}
 use Rattle.js_doc.specs.declared.doc.Doc.{Doc}
-use Rattle.js_upgrade.specs.Schema.{gathered, one, put_all, some_items, some_members}
+use Rattle.js_upgrade.specs.Schema.{one, put_all, some_items, some_members}
 
 pub some_items_of : (name : Text) (ds : List Doc) → ds ≢ [] → some_items name (map value_of ds)
     ≡ one name (list (items (map value_of ds)))

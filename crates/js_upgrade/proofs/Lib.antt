@@ -6,9 +6,12 @@ pub mod Each
 pub mod EachOnce
 pub mod EachOrigin
 pub mod Examples
+pub mod FaultExamples
+pub mod FirstFault
 pub mod Fragments
 pub mod Gathered
 pub mod InOrder
+pub mod KnownDialects
 pub mod Lookups
 pub mod Loops
 pub mod MovedExamples
@@ -21,6 +24,7 @@ pub mod PlainChanges
 pub mod Prefixes
 pub mod ReferenceExamples
 pub mod Relocating
+pub mod RepeatedUris
 pub mod Standing
 pub mod Staying
 pub mod StayingTogether

@@ -1,12 +1,12 @@
 -- What stands under a name among members that are gathered.
-use Rattle.std.proofs.Common.{◌≡◌, List, [], ◌∷◌, ◌++◌, Option, Some, None, Ordering, Less, Equal, Greater}
+use Rattle.std.proofs.Common.{◌≡◌, [], ◌∷◌, Option, Some, None, Ordering, Less, Equal, Greater}
 use Rattle.std.proofs.Common.{option_and_then, refl, sym, ap, ◌∙◌}
 use Rattle.std.specs.Cmp.{tied_itself}
 use Rattle.std.specs.Ordering.{match_ordering}
 use Rattle.std.proofs.lemmas.Cmp.{nat_list_cmp_total}
 use Rattle.js_doc.specs.Members.{get, name_cmp, put, IsAscending}
 use Rattle.js_doc.specs.Value.{Value, Text, Named}
-use Rattle.js_doc.proofs.FiniteMaps.{get-put, get-put_other, get_below, get_past, name_equal}
+use Rattle.js_doc.proofs.FiniteMaps.{get-put, get-put_other, get_below, name_equal}
 use Rattle.js_upgrade.specs.Schema.{gathered, put_all}
 use Rattle.js_upgrade.proofs.Each.{Each}
 

@@ -1,24 +1,24 @@
 -- A loop over an object's members or over a list's items, whose schemas are upgraded one after the other.
 use Rattle.std.proofs.Common.{◌≡◌, ℕ, ◌+◌, ◌<◌, List, [], ◌∷◌, ◌++◌, Bool, true, false, cond, map, get_or, length, drop}
-use Rattle.std.proofs.Common.{String, Global, refl, sym, ap, ◌∙◌, subst, append_assoc, string_bytes, codes}
-use Rattle.std.proofs.lemmas.List.{append-nil, drop_more}
+use Rattle.std.proofs.Common.{refl, sym, ap, ◌∙◌, append_assoc, codes}
+use Rattle.std.proofs.lemmas.List.{drop_more}
 use Rattle.js_doc.specs.Nesting.{depth}
 use Rattle.js_doc.specs.Value.{Value, Text, Values, Named, list, items, object, members, text}
 use Rattle.js_doc.specs.Members.{get}
-use Rattle.js_doc.specs.Parts.{member_list, members_of}
+use Rattle.js_doc.specs.Parts.{members_of}
 use Rattle.js_doc.specs.Seen.{value_of, pair_of}
 use Rattle.js_doc.specs.declared.doc.Doc.{Doc}
 use Rattle.js_doc.proofs.PartLists.{member_list-members}
 use Rattle.js_doc.proofs.Smaller.{item_smaller, member_smaller}
-use Rattle.js_upgrade.specs.Schema.{alternative, gathered, is_true, put_all, required_names}
-use Rattle.js_upgrade.specs.Upgrade.{becomes, holding_in, items_upgraded, keywords_upgraded, members_upgraded}
+use Rattle.js_upgrade.specs.Schema.{gathered, is_true, put_all, required_names}
+use Rattle.js_upgrade.specs.Upgrade.{holding_in, keywords_upgraded, members_upgraded}
 use Rattle.js_upgrade.specs.Upgrade.{own_dialect, upgraded}
 use Rattle.js_upgrade.specs.declared.dialect.Dialect.{Dialect}
 use Rattle.js_upgrade.specs.declared.holding.Holding.{Holding}
 use Rattle.js_upgrade.specs.declared.holding.Holding.TheVariants.{One}
 
 abbrev pub Pairs : Type 0
-Pairs = List (String Global × Doc)
+Pairs = List (List ℕ × Doc)
 
 -- some are done, and these are left
 abbrev pub IsSplit : Pairs → Pairs → Type 0
@@ -27,7 +27,7 @@ IsSplit all left = (done : Pairs) × (all ≡ done ++ left)
 pub split_start : (all : Pairs) → IsSplit all all
 split_start all = ([], refl)
 
-pub split_next : (all old left : Pairs) (m : String Global × Doc) → IsSplit all old → old ≡ m ∷ left
+pub split_next : (all old left : Pairs) (m : List ℕ × Doc) → IsSplit all old → old ≡ m ∷ left
     → IsSplit all left
 split_next all old left m split step = (
   split.0 ++ m ∷ [],
@@ -35,7 +35,7 @@ split_next all old left m split step = (
 )
 
 -- the next one nests less deep than the object
-pub next_smaller : {pairs all old left : Pairs} {name : String Global} {value : Doc} {ms : Named}
+pub next_smaller : {pairs all old left : Pairs} {name : List ℕ} {value : Doc} {ms : Named}
     → map pair_of pairs ≡ ms → all ≡ pairs → IsSplit all old → old ≡ (name, value) ∷ left
     → depth (value_of value) < depth (object (members ms))
 next_smaller {pairs} {all} {old} {left} {name} {value} {ms} seen same split step =
@@ -48,8 +48,8 @@ next_item_smaller ds vs i {x} seen is low = item_smaller ds vs i x x seen low (s
 
 -- one member more is among the keywords
 pub gathered_next : (f : Text → Value → Named) (held : Text → Holding) (d : Dialect) (old left : Pairs)
-    (m : String Global × Doc) (among new whole : Named) → old ≡ m ∷ left
-    → new ≡ put_all (f (string_bytes m.0) (upgraded (held (string_bytes m.0)) d (value_of m.1))) among
+    (m : List ℕ × Doc) (among new whole : Named) → old ≡ m ∷ left
+    → new ≡ put_all (f m.0 (upgraded (held m.0) d (value_of m.1))) among
     → gathered f (members_upgraded held d (members (map pair_of old))) among ≡ whole
     → gathered f (members_upgraded held d (members (map pair_of left))) new ≡ whole
 gathered_next f held d old left m among new whole step put before =
@@ -90,14 +90,14 @@ required_first true v vs = refl
 required_first false v vs = refl
 
 -- the names of one member more
-pub required_next : (old left : Pairs) (m : String Global × Doc) (out new : Values) (whole : Values) → old ≡ m ∷ left
-    → new ≡ out ++ required_names ((string_bytes m.0, value_of m.1) ∷ [])
+pub required_next : (old left : Pairs) (m : List ℕ × Doc) (out new : Values) (whole : Values) → old ≡ m ∷ left
+    → new ≡ out ++ required_names ((m.0, value_of m.1) ∷ [])
     → out ++ required_names (map pair_of old) ≡ whole → new ++ required_names (map pair_of left) ≡ whole
 required_next old left m out new whole step pushed before =
     let b = is_true (get (codes "required") (members_of (value_of m.1))) in
     let rest = required_names (map pair_of left) in
-    ap (λ vs. vs ++ rest) pushed ∙ append_assoc out (required_names ((string_bytes m.0, value_of m.1) ∷ [])) rest
-    ∙ ap (λ vs. out ++ vs) (sym (required_first b (text (string_bytes m.0)) rest))
+    ap (λ vs. vs ++ rest) pushed ∙ append_assoc out (required_names ((m.0, value_of m.1) ∷ [])) rest
+    ∙ ap (λ vs. out ++ vs) (sym (required_first b (text m.0) rest))
     ∙ sym (ap (λ es. out ++ required_names (map pair_of es)) step) ∙ before
 
 -- none is left

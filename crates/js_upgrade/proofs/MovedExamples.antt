@@ -1,17 +1,17 @@
 -- Where parts of schemas of older drafts stand in 2020-12.
-use Rattle.std.proofs.Common.{◌≡◌, [], ◌∷◌, ◌++◌, List, map, true, false, Some, None, codes, refl}
+use Rattle.std.proofs.Common.{◌≡◌, [], ◌∷◌, Some, None, codes, refl}
 use Rattle.std.specs.Fmt.{digits}
 use Rattle.js_doc.specs.Pointer.{Tokens}
-use Rattle.js_doc.specs.Value.{Value, truth, text, Named, Text}
+use Rattle.js_doc.specs.Value.{text, Named}
 use Rattle.js_upgrade.specs.Dialect.{version_named}
 use Rattle.js_upgrade.specs.Keyword.{core_change, applicator_change, assertion_change}
 use Rattle.js_upgrade.specs.Moved.{moved}
 use Rattle.js_upgrade.specs.Schema.{is_simple_type}
 use Rattle.js_upgrade.specs.declared.dialect.Dialect.{Dialect}
-use Rattle.js_upgrade.specs.declared.dialect.Dialect.TheVariants.{Draft03, Draft04, Draft06}
+use Rattle.js_upgrade.specs.declared.dialect.Dialect.TheVariants.{Draft03}
 use Rattle.js_upgrade.specs.declared.dialect.Dialect.TheVariants.{Draft07, Draft2019, Draft2020}
 use Rattle.js_upgrade.specs.declared.holding.Holding.TheVariants.{One}
-use Rattle.js_upgrade.proofs.Examples.{arr, is_null, is_string, names_04, num, obj}
+use Rattle.js_upgrade.proofs.Examples.{arr, is_null, is_string, names_04, obj}
 
 -- what stands at the one place in a schema of the draft stands at the other afterwards
 abbrev Moves : Dialect → Named → Tokens → Tokens → Type 0

@@ -1,6 +1,6 @@
 -- What stands at tokens in a value stands, upgraded, at the moved tokens in the upgraded value.
-use Rattle.std.proofs.Common.{◌≡◌, ℕ, ◌+◌, List, [], ◌∷◌, ◌++◌, Bool, true, false, ◌&&◌, Option, Some, None, cond}
-use Rattle.std.proofs.Common.{decimal, option_and_then, option_map, refl, sym, ap, ◌∙◌, subst, codes, bytes_eq}
+use Rattle.std.proofs.Common.{◌≡◌, ℕ, ◌+◌, [], ◌∷◌, ◌++◌, Bool, true, false, Option, Some, None, cond}
+use Rattle.std.proofs.Common.{decimal, option_and_then, option_map, refl, sym, ap, ◌∙◌, subst, codes}
 use Rattle.std.proofs.lemmas.Bool.{and_parts}
 use Rattle.js_doc.specs.Lookup.{at, is_text, item_named, member_named, part_named}
 use Rattle.js_doc.specs.Members.{get, IsAscending, NamesAscend, NamesAscendInItems, NamesAscendInMembers}
@@ -9,16 +9,14 @@ use Rattle.js_doc.specs.Pointer.{Tokens}
 use Rattle.js_doc.specs.Value.{Value, null, truth, whole, text, list, object, Items as ItemList, no_items, item, items}
 use Rattle.js_doc.specs.Value.{Members, no_members, member, members, Text, Named}
 use Rattle.js_doc.proofs.FiniteMaps.{get_below, get_here, get_past}
-use Rattle.js_doc.proofs.PartLists.{members-member_list}
 use Rattle.js_doc.proofs.TokenLookup.{is_text-sound, member_is}
 use Rattle.js_upgrade.specs.Laws.{KeywordsHaveOrigins, StandsWhereMoved}
-use Rattle.js_upgrade.specs.Moved.{Reached, both, keyword_step, moved, reached, step, under}
+use Rattle.js_upgrade.specs.Moved.{Reached, both, moved, reached, step, under}
 use Rattle.js_upgrade.specs.Origin.{origin_by}
-use Rattle.js_upgrade.specs.Schema.{change_of, is_list, put_all, upgraded_by}
+use Rattle.js_upgrade.specs.Schema.{change_of, is_list, put_all}
 use Rattle.js_upgrade.specs.Upgrade.{becomes, holding_in, holding_of, items_upgraded, keywords_upgraded}
 use Rattle.js_upgrade.specs.Upgrade.{members_upgraded, own_dialect, upgraded}
 use Rattle.js_upgrade.specs.declared.dialect.Dialect.{Dialect}
-use Rattle.js_upgrade.specs.declared.keyword.Change.{Change}
 use Rattle.js_upgrade.specs.declared.keyword.Change.TheVariants.{Items}
 use Rattle.js_upgrade.specs.declared.holding.Holding.{Holding}
 use Rattle.js_upgrade.specs.declared.holding.Holding.TheVariants.{One, Listed, Named as ByName, OneOrListed, Nothing}

@@ -1,5 +1,5 @@
 -- What stands in an object or a list, and in what they are upgraded to.
-use Rattle.std.proofs.Common.{◌≡◌, ℕ, ◌+◌, List, [], ◌∷◌, ◌++◌, Bool, true, false, Option, Some, None, cond}
+use Rattle.std.proofs.Common.{◌≡◌, ℕ, ◌+◌, [], ◌∷◌, ◌++◌, Bool, true, false, Option, Some, None, cond}
 use Rattle.std.proofs.Common.{Ordering, Less, Equal, Greater, decimal, option_and_then, option_map, refl, sym, ap, ◌∙◌}
 use Rattle.std.proofs.Common.{subst, codes}
 use Rattle.std.specs.Fmt.{digits}

@@ -1,6 +1,6 @@
 -- Loops over an object's members or over a list's items, whose references are rewritten, or whose resources are found.
 use Rattle.std.proofs.Common.{◌≡◌, ℕ, ◌+◌, ◌<◌, List, [], ◌∷◌, ◌++◌, Option, Some, None, map, get_or, length, drop}
-use Rattle.std.proofs.Common.{String, Global, refl, sym, ap, ◌∙◌, append_assoc, string_bytes, unwrap_or}
+use Rattle.std.proofs.Common.{refl, sym, ap, ◌∙◌, append_assoc, unwrap_or}
 use Rattle.std.proofs.lemmas.List.{append-nil, drop_more}
 use Rattle.url.specs.Parts.{Parts}
 use Rattle.js_doc.specs.Members.{IsAscending, IsBelowHead}
@@ -15,15 +15,15 @@ use Rattle.js_upgrade.specs.Schema.{change_of, gathered, one, put_all}
 use Rattle.js_upgrade.specs.Upgrade.{holding_in, own_dialect}
 use Rattle.js_upgrade.specs.declared.dialect.Dialect.{Dialect}
 use Rattle.js_upgrade.specs.declared.holding.Holding.{Holding}
-use Rattle.js_upgrade.specs.declared.holding.Holding.TheVariants.{One, OneOrListed}
+use Rattle.js_upgrade.specs.declared.holding.Holding.TheVariants.{One}
 use Rattle.js_upgrade.proofs.InOrder.{gathered_one}
 use Rattle.js_upgrade.proofs.Loops.{Pairs}
 
 -- ---- members that are put one after the other, where g is what they become
 
-pub named_next : (g : Named → Named) (w : Value) (old left : Pairs) (m : String Global × Doc) (out new whole : Named)
-    → g (pair_of m ∷ map pair_of left) ≡ (string_bytes m.0, w) ∷ g (map pair_of left) → old ≡ m ∷ left
-    → new ≡ put_all (one (string_bytes m.0) w) out → gathered one (g (map pair_of old)) out ≡ whole
+pub named_next : (g : Named → Named) (w : Value) (old left : Pairs) (m : List ℕ × Doc) (out new whole : Named)
+    → g (pair_of m ∷ map pair_of left) ≡ (m.0, w) ∷ g (map pair_of left) → old ≡ m ∷ left
+    → new ≡ put_all (one m.0 w) out → gathered one (g (map pair_of old)) out ≡ whole
     → gathered one (g (map pair_of left)) new ≡ whole
 named_next g w old left m out new whole unfolds step put before =
     ap (gathered one (g (map pair_of left))) put
@@ -82,7 +82,7 @@ own_base_is own base siblings found is = ap (λ u. unwrap_or u base) is
 
 -- ---- resources
 
-pub resources_next : (g : Named → List Resource) (here : List Resource) (old left : Pairs) (m : String Global × Doc)
+pub resources_next : (g : Named → List Resource) (here : List Resource) (old left : Pairs) (m : List ℕ × Doc)
     (out new whole : List Resource) → g (pair_of m ∷ map pair_of left) ≡ here ++ g (map pair_of left)
     → old ≡ m ∷ left → new ≡ out ++ here → out ++ g (map pair_of old) ≡ whole → new ++ g (map pair_of left) ≡ whole
 resources_next g here old left m out new whole unfolds step put before =

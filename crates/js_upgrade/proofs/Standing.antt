@@ -1,8 +1,8 @@
 -- What stands at moved tokens, in what a keyword becomes.
-use Rattle.std.proofs.Common.{◌≡◌, ℕ, ◌+◌, List, [], ◌∷◌, ◌++◌, Bool, true, false, ◌||◌, Option, Some, None, cond}
+use Rattle.std.proofs.Common.{◌≡◌, ℕ, ◌+◌, [], ◌∷◌, ◌++◌, Bool, true, false, ◌||◌, Option, Some, None, cond}
 use Rattle.std.proofs.Common.{decimal, map, option_and_then, option_map, refl, sym, ap, ◌∙◌, subst, codes, bytes_eq}
 use Rattle.std.specs.List.{list_any}
-use Rattle.js_doc.specs.Lookup.{at, is_text, item_named, member_named, part_named}
+use Rattle.js_doc.specs.Lookup.{at, is_text, item_named}
 use Rattle.js_doc.specs.Members.{get, IsAscending, NamesAscend}
 use Rattle.js_doc.specs.Parts.{item_list, member_list}
 use Rattle.js_doc.specs.Pointer.{Tokens}

@@ -1,7 +1,7 @@
 -- Documents of 2020-12 that are upgraded together stay as they are, and so do their references.
 use Rattle.std.proofs.Common.{◌≡◌, ℕ, ◌+◌, List, [], ◌∷◌, ◌++◌, Bool, true, false, ◌&&◌, Option, Some, None, cond, map}
-use Rattle.std.proofs.Common.{decimal, find, flat_map, is_some, option_and_then, refl, sym, ap, ap₂, ◌∙◌, subst, codes}
-use Rattle.std.proofs.Common.{bytes_eq, unwrap_or}
+use Rattle.std.proofs.Common.{decimal, find, is_some, option_and_then, refl, sym, ap, ap₂, ◌∙◌, subst}
+use Rattle.std.proofs.Common.{bytes_eq}
 use Rattle.std.specs.List.{AllByRecursion, list_all}
 use Rattle.url.specs.Parts.{Parts}
 use Rattle.js_doc.specs.Lookup.{is_text, item_named, member_named, part_named}
@@ -12,7 +12,7 @@ use Rattle.js_doc.specs.Value.{Members, no_members, member, members, Text, Named
 use Rattle.js_doc.proofs.PartLists.{items-item_list, members-member_list}
 use Rattle.js_doc.proofs.TokenLookup.{is_text-refl, is_text-sound}
 use Rattle.js_upgrade.specs.Current.{AreCurrent, IsCurrent, ItemsAreCurrent}
-use Rattle.js_upgrade.specs.Documents.{Source, all_resources, all_upgraded, is_known, resources_by, source_dialect}
+use Rattle.js_upgrade.specs.Documents.{Source, all_resources, is_known, resources_by}
 use Rattle.js_upgrade.specs.Documents.{source_resources, upgraded_among, upgraded_by_dialect}
 use Rattle.js_upgrade.specs.Keyword.{change_in}
 use Rattle.js_upgrade.specs.Laws.{AllCurrentStay, IsCurrentSource}
@@ -20,10 +20,10 @@ use Rattle.js_upgrade.specs.Moved.{both, just, moved, step, under}
 use Rattle.js_upgrade.specs.Reference.{argument_rewritten, as_it_is, followed, in_resource, items_relocated}
 use Rattle.js_upgrade.specs.Reference.{members_relocated, moved_in, relocated, rewritten, same_tokens, with_pointer}
 use Rattle.js_upgrade.specs.Reference.{with_target}
-use Rattle.js_upgrade.specs.Resource.{Resource, begun, identity, item_resources, member_resources, own_base, resource}
+use Rattle.js_upgrade.specs.Resource.{Resource, begun, identity, item_resources, member_resources, own_base}
 use Rattle.js_upgrade.specs.Resource.{resource_named, resources}
 use Rattle.js_upgrade.specs.Schema.{change_of}
-use Rattle.js_upgrade.specs.Upgrade.{holding_in, holding_of, own_dialect, root_upgraded, upgraded}
+use Rattle.js_upgrade.specs.Upgrade.{holding_in, own_dialect, upgraded}
 use Rattle.js_upgrade.specs.Url.{fragment_pointer, joined, printed, without_fragment}
 use Rattle.js_upgrade.specs.declared.dialect.Dialect.{Dialect}
 use Rattle.js_upgrade.specs.declared.dialect.Dialect.TheVariants.{Draft2020}

@@ -1,8 +1,219 @@
--- Why documents aren't upgraded: the dialect of one isn't known, or, where they are, there was no memory.
-use Rattle.std.specs.Prelude.{◌≡◌, Option, Some, None}
+-- Why documents aren't upgraded: the first fault, where it stands, and its kind. First come the dialects and the
+-- identifiers of all documents, then the documents' URIs, then the references of all documents. Documents come in
+-- order; a schema comes before those that it holds, and those by name or index ascending.
+use Rattle.std.specs.Prelude.{◌≡◌, ℕ, ◌+◌, List, [], ◌∷◌, Bool, true, false, Option, Some, None, codes, decimal, length}
+use Rattle.std.specs.Prelude.{is_none, nat_lt, bytes_eq, option_map, option_and_then, ◌⊎◌, if◌then◌else◌}
+use Rattle.std.specs.List.{list_any}
+use Rattle.url.specs.Parts.{Parts}
+use Rattle.js_doc.specs.Lookup.{at}
+use Rattle.js_doc.specs.Members.{get}
+use Rattle.js_doc.specs.Parts.{member_list, members_of}
+use Rattle.js_doc.specs.Pointer.{Tokens}
+use Rattle.js_doc.specs.Value.{Value, text, list, object, Items, no_items, item, Members, no_members, member}
+use Rattle.js_doc.specs.Value.{Text, Named}
+use Rattle.js_upgrade.specs.Dialect.{first_of}
+use Rattle.js_upgrade.specs.Documents.{Source, Sources, all_resources, source_dialect}
+use Rattle.js_upgrade.specs.Resource.{Resource, own_base, resource_named}
+use Rattle.js_upgrade.specs.Schema.{hides}
+use Rattle.js_upgrade.specs.Upgrade.{dialect_in, holding_in, identifier, identifies, is_uri, own_dialect}
+use Rattle.js_upgrade.specs.Url.{fragment_pointer, joined, longest_uri, printed, without_fragment}
+use Rattle.js_upgrade.specs.declared.dialect.Dialect.{Dialect}
 use Rattle.js_upgrade.specs.declared.fault.UpgradeFault.{UpgradeFault}
-use Rattle.js_upgrade.specs.declared.fault.UpgradeFault.TheVariants.{Memory, UnknownDialect}
+use Rattle.js_upgrade.specs.declared.fault.UpgradeFaultKind.{UpgradeFaultKind}
+use Rattle.js_upgrade.specs.declared.fault.UpgradeFaultKind.TheVariants.{Memory, TooManyDocuments, UnknownDialect}
+use Rattle.js_upgrade.specs.declared.fault.UpgradeFaultKind.TheVariants.{BadKeyword, UriTooLong, BadId, DuplicateUri}
+use Rattle.js_upgrade.specs.declared.fault.UpgradeFaultKind.TheVariants.{BadReference, Unresolved}
+use Rattle.js_upgrade.specs.declared.fault.Pass.{Pass}
+use Rattle.js_upgrade.specs.declared.fault.Pass.TheVariants.{Names, References}
+use Rattle.js_upgrade.specs.declared.fault.Stop.{Stop}
+use Rattle.js_upgrade.specs.declared.fault.Stop.TheVariants as stop
+use Rattle.js_upgrade.specs.declared.holding.Holding.{Holding}
+use Rattle.js_upgrade.specs.declared.holding.Holding.TheVariants.{One, Listed, Named as ByName, OneOrListed}
 
-abbrev pub IsUpgradeFault : {A : Type 0} → Option A → UpgradeFault → Type 0
-IsUpgradeFault None fault = fault ≡ UnknownDialect
-IsUpgradeFault (Some upgraded) fault = fault ≡ Memory
+abbrev pub Kind : Type 0
+Kind = UpgradeFaultKind
+
+-- ---- what is wrong with a keyword
+
+-- a `$schema` that names no dialect
+abbrev pub no_dialect : Value → Kind
+no_dialect (text t) = UnknownDialect
+no_dialect _ = BadKeyword
+
+abbrev pub unnamed : Value → Option Dialect → Option Kind
+unnamed v None = Some (no_dialect v)
+unnamed v (Some d) = None
+
+abbrev pub dialect_kind : Option Value → Option Kind
+dialect_kind None = None
+dialect_kind (Some v) = unnamed v (dialect_in v)
+
+-- an identifier that can't be joined with its base
+abbrev pub joined_kind : Parts → Text → Option Kind
+joined_kind base t =
+    if nat_lt longest_uri (length t) then Some UriTooLong
+    else (if is_none (joined base t) then Some BadId else None)
+
+-- an identifier that is no text
+abbrev pub identifier_kind : Parts → Option Value → Option Kind
+identifier_kind base None = None
+identifier_kind base (Some (text t)) = if is_uri t then joined_kind base t else None
+identifier_kind base (Some _) = Some BadKeyword
+
+-- what a pointer leads to in a resource; a name leads to the resource
+abbrev pub part_at : Option Tokens → Resource → Option Value
+part_at None r = Some r.root
+part_at (Some tokens) r = at tokens r.root
+
+module _ (all : List Resource) where
+  abbrev pub target : Parts → Option Value
+  target uri =
+      option_and_then (part_at (fragment_pointer uri)) (resource_named all (printed (without_fragment uri)))
+
+  abbrev pub target_kind : Option Parts → Option Kind
+  target_kind None = Some BadReference
+  target_kind (Some uri) = if is_none (target uri) then Some Unresolved else None
+
+  -- a reference that is no text, or leads nowhere
+  abbrev pub reference_kind : Parts → Option Value → Option Kind
+  reference_kind base None = None
+  reference_kind base (Some (text t)) =
+      if nat_lt longest_uri (length t) then Some UriTooLong else target_kind (joined base t)
+  reference_kind base (Some _) = Some BadKeyword
+
+-- ---- in a schema
+
+-- in a document: where, and why
+pub record Found : Type 0 where
+  pub place : Tokens
+  pub kind : Kind
+
+abbrev pub at_keyword : Text → Option Kind → Option Found
+at_keyword keyword kind = option_map (λ k. record { place = keyword ∷ []; kind = k }) kind
+
+-- further down, behind a token
+abbrev pub deeper : Text → Found → Found
+deeper token f = record { place = token ∷ f.place; kind = f.kind }
+
+-- the schema's `$schema`, which counts beside an identifier
+abbrev pub declared_kind : Dialect → Named → Option Kind
+declared_kind d siblings = if identifies d siblings then dialect_kind (get (codes "$schema") siblings) else None
+
+-- its identifier, unless a reference hides it
+abbrev pub own_kind : Dialect → Parts → Named → Option Kind
+own_kind own base siblings =
+    if hides own siblings then None else identifier_kind base (get (identifier own) siblings)
+
+-- `d` and `base` are those around the schema
+abbrev pub schema_fault : Pass → List Resource → Dialect → Parts → Named → Option Found
+schema_fault Names all d base siblings =
+    first_of (at_keyword (codes "$schema") (declared_kind d siblings))
+    (at_keyword (identifier (own_dialect d siblings)) (own_kind (own_dialect d siblings) base siblings))
+schema_fault References all d base siblings =
+    at_keyword (codes "$ref")
+    (reference_kind all (own_base (own_dialect d siblings) base siblings) (get (codes "$ref") siblings))
+
+-- ---- in a value that holds schemas
+
+module _ (pass : Pass) (all : List Resource) where
+  abbrev mutual
+    pub fault_in : Holding → Dialect → Parts → Value → Option Found
+    fault_in One d base (object ms) =
+        let own = own_dialect d (member_list ms) in
+        first_of (schema_fault pass all d base (member_list ms))
+        (member_fault (holding_in own (member_list ms)) own (own_base own base (member_list ms)) ms)
+    fault_in OneOrListed d base (object ms) =
+        let own = own_dialect d (member_list ms) in
+        first_of (schema_fault pass all d base (member_list ms))
+        (member_fault (holding_in own (member_list ms)) own (own_base own base (member_list ms)) ms)
+    fault_in ByName d base (object ms) = member_fault (λ name. One) d base ms
+    fault_in Listed d base (list vs) = item_fault d base 0 vs
+    fault_in OneOrListed d base (list vs) = item_fault d base 0 vs
+    fault_in _ d base v = None
+
+    -- the first has the index n
+    pub item_fault : Dialect → Parts → ℕ → Items → Option Found
+    item_fault d base n no_items = None
+    item_fault d base n (item v vs) =
+        first_of (option_map (deeper (decimal n)) (fault_in One d base v)) (item_fault d base (n + 1) vs)
+
+    pub member_fault : (Text → Holding) → Dialect → Parts → Members → Option Found
+    member_fault held d base no_members = None
+    member_fault held d base (member name v ms) =
+        first_of (option_map (deeper name) (fault_in (held name) d base v)) (member_fault held d base ms)
+
+-- ---- in documents
+
+-- of a document's root, its `$schema`
+abbrev pub root_kind : Value → Option Kind
+root_kind root = dialect_kind (get (codes "$schema") (members_of root))
+
+abbrev pub root_fault : Value → Option Found
+root_fault root = at_keyword (codes "$schema") (root_kind root)
+
+abbrev pub fault_by : Pass → List Resource → Source → Option Dialect → Option Found
+fault_by pass all s None = root_fault s.root
+fault_by pass all s (Some d) = fault_in pass all One d s.uri s.root
+
+abbrev pub source_fault : Pass → List Resource → Source → Option Found
+source_fault pass all s = fault_by pass all s (source_dialect s)
+
+abbrev pub in_document : ℕ → Found → UpgradeFault
+in_document n f = record { document = n; place = f.place; kind = f.kind }
+
+-- of a document by itself, whose references stay as they are
+abbrev pub document_fault : Value → Option UpgradeFault
+document_fault root = option_map (in_document 0) (root_fault root)
+
+-- the first document has the number n
+abbrev pub documents_fault : Pass → List Resource → ℕ → Sources → Option UpgradeFault
+documents_fault pass all n [] = None
+documents_fault pass all n (s ∷ ss) =
+    first_of (option_map (in_document n) (source_fault pass all s)) (documents_fault pass all (n + 1) ss)
+
+abbrev pub of_document : ℕ → Kind → UpgradeFault
+of_document n kind = record { document = n; place = []; kind = kind }
+
+abbrev pub most_documents : ℕ
+most_documents = 1000
+
+abbrev pub number_fault : ℕ → Option UpgradeFault
+number_fault n = if nat_lt most_documents n then Some (of_document most_documents TooManyDocuments) else None
+
+-- a URI that an earlier document has
+abbrev pub repeated_fault : List Text → ℕ → Sources → Option UpgradeFault
+repeated_fault seen n [] = None
+repeated_fault seen n (s ∷ ss) =
+    if list_any (bytes_eq (printed s.uri)) seen then Some (of_document n DuplicateUri)
+    else repeated_fault (printed s.uri ∷ seen) (n + 1) ss
+
+-- ---- the first fault of documents that are upgraded together
+
+abbrev pub uris_fault : List Resource → Sources → Option UpgradeFault
+uris_fault all sources = first_of (repeated_fault [] 0 sources) (documents_fault References all 0 sources)
+
+abbrev pub names_fault : List Resource → Sources → Option UpgradeFault
+names_fault all sources = first_of (documents_fault Names all 0 sources) (uris_fault all sources)
+
+abbrev pub fault_among : List Resource → Sources → Option UpgradeFault
+fault_among all sources = first_of (number_fault (length sources)) (names_fault all sources)
+
+abbrev pub first_fault : Sources → Option UpgradeFault
+first_fault sources = fault_among (all_resources sources) sources
+
+-- want of memory is recorded of no place
+abbrev pub no_memory : UpgradeFault
+no_memory = of_document 0 Memory
+
+-- documents that have no fault may be refused so: want of memory may come at any time
+abbrev pub IsFaultOf : Option UpgradeFault → UpgradeFault → Type 0
+IsFaultOf fault e = (e ≡ no_memory) ⊎ (fault ≡ Some e)
+
+abbrev pub fault_by_stop : Stop → UpgradeFault
+fault_by_stop stop.Memory = no_memory
+fault_by_stop (stop.Fault e) = e
+
+-- why an upgrade stops
+abbrev pub IsStoppedBy : Option UpgradeFault → Stop → Type 0
+IsStoppedBy fault stop.Memory = Unit {0}
+IsStoppedBy fault (stop.Fault e) = fault ≡ Some e

@@ -1,15 +1,15 @@
 //! Documents that are upgraded together: a reference of one may lead into another.
-ghost use Rattle.std.specs.Prelude.{◌≡◌, IfErr, IfOk, OnOk, Some, ◌++◌, map};
-ghost use Rattle.std.specs.List.{list_all};
+ghost use Rattle.std.specs.Prelude.{◌≡◌, IfErr, IfOk, OnOk, None, Some, ◌++◌, map};
 ghost use Rattle.js_doc.specs.Seen.{value_of};
-ghost use Rattle.js_upgrade.specs.Documents.{all_resources, all_upgraded, each_upgraded, is_known, source_dialect};
+ghost use Rattle.js_upgrade.specs.Documents.{all_resources, all_upgraded, source_dialect};
 ghost use Rattle.js_upgrade.specs.Documents.{source_resources, upgraded_among};
-ghost use Rattle.js_upgrade.specs.Fault.{IsUpgradeFault};
+ghost use Rattle.js_upgrade.specs.Fault.{first_fault, IsFaultOf, IsStoppedBy};
 ghost use Rattle.js_upgrade.specs.Seen.{resource_of, source_of};
 
+use crate::checking::fault_among;
 use crate::dialect::Dialect;
 use crate::document::{document_dialect, root_upgraded};
-use crate::fault::UpgradeFault;
+use crate::fault::{Stop, UpgradeFault, fault_of};
 use crate::holding::Holding;
 use crate::reference::relocated;
 use crate::resources::{Resource, push_resource, push_resources};
@@ -28,42 +28,64 @@ pub struct Source {
 /// The documents as ones of 2020-12, in order, with their references rewritten to where their targets stand.
 ///
 /// # Errors
-/// `UnknownDialect`, if the `$schema` of a document's root names none; else `Memory`.
+/// The first fault: `TooManyDocuments`, of the document 1,000; of each document `UnknownDialect` and `BadKeyword`
+/// (`$schema`), `BadKeyword`, `UriTooLong` and `BadId` (identifiers); `DuplicateUri` of a document; of each document
+/// `BadKeyword`, `UriTooLong`, `BadReference` and `Unresolved` (references). A schema comes before those that it holds,
+/// and those by name or index ascending. `Memory` may come at any point; its document is 0, and its place the empty
+/// pointer.
 pub fn upgrade_all(alloc: Global, sources: &[Source]) -> Result<Vec<Doc>, UpgradeFault>
     ensures ok { IfOk result (λ v. all_upgraded (map source_of sources.now) ≡ Some (map value_of v.items)) }
-    ensures err { IfErr result (λ e. IsUpgradeFault (all_upgraded (map source_of sources.now)) e) }
+    ensures clear { OnOk result (first_fault (map source_of sources.now) ≡ None) }
+    ensures err { IfErr result (IsFaultOf (first_fault (map source_of sources.now))) }
 {
-    if are_known(sources) {
-        Ok(each_upgraded(alloc, sources)?)
-    } else {
-        Err(UpgradeFault::UnknownDialect)
+    match all_upgraded(alloc, sources) {
+        Ok(documents) => Ok(documents),
+        Err(stop) => Err(fault_of(alloc, stop)),
     }
 }
 
-fn are_known(sources: &[Source]) -> bool
-    ensures { result ≡ list_all is_known (map source_of sources.now) }
+fn all_upgraded(alloc: Global, sources: &[Source]) -> Result<Vec<Doc>, Stop>
+    ensures ok { IfOk result (λ v. all_upgraded (map source_of sources.now) ≡ Some (map value_of v.items)) }
+    ensures clear { OnOk result (first_fault (map source_of sources.now) ≡ None) }
+    ensures err { IfErr result (IsStoppedBy (first_fault (map source_of sources.now))) }
 {
-    for source in sources {
-        if source_dialect(source).is_none() {
-            return false;
-        }
+    let resources = all_resources(alloc, sources)?;
+    match fault_among(alloc, resources.as_slice(), sources)? {
+        Some(fault) => Err(Stop::Fault(fault)),
+        None => Ok(upgraded_clear(alloc, resources.as_slice(), sources)?),
     }
-    true
 }
 
-fn source_dialect(source: &Source) -> Option<Dialect>
+// Of documents that have no fault.
+fn upgraded_clear(
+    alloc: Global,
+    resources: &[Resource],
+    sources: &[Source],
+) -> Result<Vec<Doc>, Memory>
+    requires resources { map resource_of resources.now ≡ all_resources (map source_of sources.now) }
+    requires clear { first_fault (map source_of sources.now) ≡ None }
+    ensures { IfOk result (λ v. all_upgraded (map source_of sources.now) ≡ Some (map value_of v.items)) }
+{
+    each_upgraded(alloc, resources, sources)
+}
+
+pub(crate) fn source_dialect(source: &Source) -> Option<Dialect>
     ensures { result ≡ source_dialect (source_of source.now) }
 {
     document_dialect(source.assumed, &source.root)
 }
 
-fn each_upgraded(alloc: Global, sources: &[Source]) -> Result<Vec<Doc>, Memory>
-    ensures { IfOk result (λ v. map value_of v.items ≡ each_upgraded (map source_of sources.now)) }
+fn each_upgraded(
+    alloc: Global,
+    resources: &[Resource],
+    sources: &[Source],
+) -> Result<Vec<Doc>, Memory>
+    ensures { IfOk result (λ v. map value_of v.items
+        ≡ map (upgraded_among (map resource_of resources.now)) (map source_of sources.now)) }
 {
-    let resources = all_resources(alloc, sources)?;
     let mut upgraded = Vec::with_capacity(alloc, sources.len())?;
     for source in sources {
-        upgraded.push(upgraded_among(alloc, resources.as_slice(), source)?)?;
+        upgraded.push(upgraded_among(alloc, resources, source)?)?;
     }
     Ok(upgraded)
 }

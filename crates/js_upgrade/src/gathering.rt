@@ -3,7 +3,7 @@ ghost use Rattle.std.specs.Prelude.{◌≡◌, OnOk, map};
 ghost use Rattle.js_doc.specs.Seen.{value_of};
 ghost use Rattle.js_upgrade.specs.Schema.{one, put_all, some_items, some_members};
 
-use js_doc::{Doc, Items, Members, Memory};
+use js_doc::{Doc, Items, Members, Memory, Text};
 use std::alloc::Global;
 
 /// Puts a value under a name.
@@ -18,7 +18,7 @@ pub(crate) fn put_one(
 ) -> Result<(), Memory>
     ensures { OnOk result (among.new ≡ put_all (one name.now (value_of value)) among.old) }
 {
-    let name = String::from_str(alloc, name)?;
+    let name = Text::from_str(alloc, name)?;
     among.put(name, value)
 }
 

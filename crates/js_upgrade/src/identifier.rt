@@ -58,12 +58,8 @@ fn put_uri(alloc: Global, among: &mut Members, uri: &str) -> Result<(), Memory>
     if uri.is_empty() {
         return Ok(());
     }
-    put_one(
-        alloc,
-        among,
-        "$id",
-        Doc::Text(Text::new(String::from_str(alloc, uri)?)),
-    )
+    let uri = Text::from_str(alloc, uri)?;
+    put_one(alloc, among, "$id", Doc::Text(uri))
 }
 
 fn put_name(alloc: Global, among: &mut Members, name: &str) -> Result<(), Memory>
@@ -72,12 +68,8 @@ fn put_name(alloc: Global, among: &mut Members, name: &str) -> Result<(), Memory
     if !is_name(name.as_bytes()) {
         return Ok(());
     }
-    put_one(
-        alloc,
-        among,
-        "$anchor",
-        Doc::Text(Text::new(String::from_str(alloc, name)?)),
-    )
+    let name = Text::from_str(alloc, name)?;
+    put_one(alloc, among, "$anchor", Doc::Text(name))
 }
 
 // What `$anchor` may be.

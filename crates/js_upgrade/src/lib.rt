@@ -2,14 +2,17 @@
 #![tactic(auto)]
 
 mod becoming;
+mod checking;
 mod dialect;
 mod document;
 mod documents;
 mod fault;
+mod finding;
 mod gathering;
 mod holding;
 mod identifier;
 mod keyword;
+mod kinds;
 pub mod laws;
 mod moving;
 mod once;
@@ -27,7 +30,7 @@ mod walking;
 pub use dialect::Dialect;
 pub use document::upgrade;
 pub use documents::{Source, upgrade_all};
-pub use fault::UpgradeFault;
+pub use fault::{UpgradeFault, UpgradeFaultKind};
 pub use holding::Holding;
 pub use keyword::{Change, change_in};
 pub use moving::moved;

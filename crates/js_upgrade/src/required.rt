@@ -56,7 +56,7 @@ fn push_required(alloc: Global, names: &mut Vec<Doc>, name: &str, value: &Doc) -
         ≡ map value_of names.old.items ++ required_names ((name.now, value_of value.now) ∷ [])) }
 {
     if is_required(value) {
-        names.push(Doc::Text(Text::new(String::from_str(alloc, name)?)))?;
+        names.push(Doc::Text(Text::from_str(alloc, name)?))?;
     }
     Ok(())
 }

@@ -22,7 +22,7 @@ pub fn change_of(dialect: Dialect, siblings: &Members, name: &str) -> Change
 }
 
 // Whether a reference hides its siblings.
-fn hides(dialect: Dialect, siblings: &Members) -> bool
+pub(crate) fn hides(dialect: Dialect, siblings: &Members) -> bool
     ensures { result ≡ hides dialect siblings.now }
 {
     dialect.is_before(Dialect::Draft2019) && siblings.get("$ref").is_some()
@@ -98,7 +98,7 @@ fn is_identifier(found: Option<&Doc>) -> bool
     }
 }
 
-fn is_uri(uri: &str) -> bool
+pub(crate) fn is_uri(uri: &str) -> bool
     ensures { result ≡ is_uri uri.now }
 {
     let bytes = uri.as_bytes();

@@ -10,7 +10,7 @@ use std::alloc::Global;
 use url::{ParseError, Url};
 
 /// No URI, identifier or reference may have more bytes.
-const LONGEST: usize = 65_536;
+pub(crate) const LONGEST: usize = 65_536;
 
 /// A text joined with a base. None if it is too long, or can't be joined.
 ///

@@ -1,6 +1,6 @@
 use Rattle.std.proofs.Common.{◌≡◌, ◌++◌, map, drop}
 use Rattle.js_doc.specs.Seen.{value_of}
-use Rattle.js_upgrade.specs.Documents.{each_upgraded, upgraded_among}
+use Rattle.js_upgrade.specs.Documents.{upgraded_among}
 use Rattle.js_upgrade.specs.Seen.{resource_of, source_of}
 use Rattle.js_upgrade.proofs.documents.each_upgraded.Given as goal
 
@@ -8,5 +8,5 @@ use Rattle.js_upgrade.proofs.documents.each_upgraded.Given as goal
 abbrev pub invariant-loop-source : goal.invariant-loop-source
 invariant-loop-source l =
     map value_of l.upgraded.items
-    ++ map (upgraded_among (map resource_of l.resources.items)) (map source_of (drop l.source-index l.sources))
-    ≡ map (upgraded_among (map resource_of l.resources.items)) (map source_of l.sources)
+    ++ map (upgraded_among (map resource_of l.resources)) (map source_of (drop l.source-index l.sources))
+    ≡ map (upgraded_among (map resource_of l.resources)) (map source_of l.sources)

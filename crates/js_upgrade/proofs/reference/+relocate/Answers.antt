@@ -1,4 +1,4 @@
-use Rattle.std.proofs.Common.{◌≡◌, ◌∷◌, [], map, refl, sym, ap, ◌∙◌, arith, string_bytes, String, Global, unwrap_or}
+use Rattle.std.proofs.Common.{ℕ, List, ◌≡◌, map, refl, sym, ap, ◌∙◌, arith, unwrap_or}
 use Rattle.std.proofs.lemmas.Result.{IfOk-weaker}
 use Rattle.js_doc.specs.Value.{Text, members, object}
 use Rattle.js_doc.specs.Seen.{value_of}
@@ -35,19 +35,19 @@ keywords_relocated-loop-name-preserved t c =
     let base = c.args.base.now in
     let siblings = c.args.siblings.now in
     let argument = λ (name : Text). argument_rewritten all (change_of d siblings name) base in
-    let m : String Global × Doc = (c.in-Some.name.now, c.in-Some.argument.now) in
+    let m : List ℕ × Doc = (c.in-Some.name.now, c.in-Some.argument.now) in
     let v = value_of m.1 in
-    let k = string_bytes m.0 in (
+    let k = m.0 in (
       split_next _ l.name-iterator c.next.new.self m l.invariant.0 c.in-Some.ensures.steps,
       named_next (λ ms. members_relocated all (holding_in d siblings) argument d base (members ms))
           (argument k v (relocated all (holding_in d siblings k) d base v)) l.name-iterator c.next.new.self m l.out
           c.put_one.new.among _ refl c.in-Some.ensures.steps
           (c.in_ok-put_one.ensures
-          ∙ ap (λ n. put_all (one n (value_of c.in_ok-value.value)) l.out) c.as_str-key.ensures.value
+          ∙ ap (λ n. put_all (one n (value_of c.in_ok-value.value)) l.out) c.as_str-key.ensures
           ∙ ap (λ w. put_all (one k w) l.out)
           (c.in_ok-value.ensures
           ∙ ap (λ h. argument_rewritten all h base v (relocated all (holding_of h) d base v))
-          (c.change_of-change.ensures ∙ ap (change_of d siblings) c.as_str-key.ensures.value)))
+          (c.change_of-change.ensures ∙ ap (change_of d siblings) c.as_str-key.ensures)))
           l.invariant.1,
     )
 
@@ -68,14 +68,14 @@ members_relocated-loop-name-preserved t c =
     let all = map resource_of c.args.resources.now in
     let d = c.args.dialect in
     let base = c.args.base.now in
-    let m : String Global × Doc = (c.in-Some.name.now, c.in-Some.schema.now) in (
+    let m : List ℕ × Doc = (c.in-Some.name.now, c.in-Some.schema.now) in (
       split_next _ l.name-iterator c.next.new.self m l.invariant.0 c.in-Some.ensures.steps,
       named_next (λ ms. members_relocated all (λ name. One) as_it_is d base (members ms))
           (relocated all One d base (value_of m.1)) l.name-iterator c.next.new.self m l.out c.put_one.new.among _ refl
           c.in-Some.ensures.steps
           (c.in_ok-put_one.ensures
-          ∙ ap (λ n. put_all (one n (value_of c.in_ok-schema.schema)) l.out) c.as_str.ensures.value
-          ∙ ap (λ w. put_all (one (string_bytes m.0) w) l.out) c.in_ok-schema.ensures)
+          ∙ ap (λ n. put_all (one n (value_of c.in_ok-schema.schema)) l.out) c.as_str.ensures
+          ∙ ap (λ w. put_all (one m.0 w) l.out) c.in_ok-schema.ensures)
           l.invariant.1,
     )
 

@@ -1,6 +1,6 @@
-use Rattle.std.proofs.Common.{◌≡◌, ◌∷◌, ◌++◌, [], map, refl, sym, ap, ◌∙◌, subst, arith, string_bytes, String, Global}
+use Rattle.std.proofs.Common.{ℕ, List, ◌≡◌, ◌++◌, map, refl, sym, ap, ◌∙◌, subst, arith}
 use Rattle.std.proofs.Common.{OnOk}
-use Rattle.js_doc.specs.Value.{Text, members}
+use Rattle.js_doc.specs.Value.{members}
 use Rattle.js_doc.specs.Seen.{value_of}
 use Rattle.js_doc.specs.declared.doc.Doc.{Doc}
 use Rattle.js_upgrade.specs.Resource.{member_resources, resources, schema_resources}
@@ -33,16 +33,16 @@ push_keyword_resources-loop-name-preserved t c =
     let d = c.args.dialect in
     let base = c.args.base.now in
     let siblings = c.args.siblings.now in
-    let m : String Global × Doc = (c.in-Some.name.now, c.in-Some.argument.now) in (
+    let m : List ℕ × Doc = (c.in-Some.name.now, c.in-Some.argument.now) in (
       split_next _ l.name-iterator c.next.new.self m l.invariant.0 c.in-Some.ensures.steps,
       resources_next (λ ms. member_resources (holding_in d siblings) d base (members ms))
-          (resources (holding_in d siblings (string_bytes m.0)) d base (value_of m.1)) l.name-iterator
+          (resources (holding_in d siblings m.0) d base (value_of m.1)) l.name-iterator
           c.next.new.self m (map resource_of l.out.items) (map resource_of c.push_resources.new.out.items) _ refl
           c.in-Some.ensures.steps
           (c.in_ok-push_resources.ensures
           ∙ ap (λ h. map resource_of l.out.items ++ resources h d base (value_of m.1))
           (c.holding_of-holding.ensures
-          ∙ ap holding_of (c.change_of.ensures ∙ ap (change_of d siblings) c.as_str.ensures.value)))
+          ∙ ap holding_of (c.change_of.ensures ∙ ap (change_of d siblings) c.as_str.ensures)))
           l.invariant.1,
     )
 
@@ -60,7 +60,7 @@ push_member_resources-loop-schema-preserved t c =
     let l = c.loop-schema in
     let d = c.args.dialect in
     let base = c.args.base.now in
-    let m : String Global × Doc = (c.in-Some.field-0-0.now, c.in-Some.schema.now) in (
+    let m : List ℕ × Doc = (c.in-Some.field-0-0.now, c.in-Some.schema.now) in (
       split_next _ l.schema-iterator c.next.new.self m l.invariant.0 c.in-Some.ensures.steps,
       resources_next (λ ms. member_resources (λ name. One) d base (members ms))
           (resources One d base (value_of m.1)) l.schema-iterator c.next.new.self m (map resource_of l.out.items)

@@ -1,4 +1,4 @@
-use Rattle.std.proofs.Common.{◌≡◌, ◌∷◌, IfOk, sym, ap, ◌∙◌, subst}
+use Rattle.std.proofs.Common.{◌∷◌, IfOk, sym, ap, ◌∙◌, subst}
 use Rattle.js_doc.specs.Lookup.{part_named}
 use Rattle.js_doc.specs.Seen.{value_of}
 use Rattle.js_upgrade.specs.Moved.{alternative_under, types_under}

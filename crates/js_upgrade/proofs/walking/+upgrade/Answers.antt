@@ -1,4 +1,4 @@
-use Rattle.std.proofs.Common.{◌∷◌, [], map, sym, ap, ◌∙◌, arith, string_bytes, String, Global}
+use Rattle.std.proofs.Common.{ℕ, List, [], ap, ◌∙◌, arith}
 use Rattle.js_doc.specs.Value.{members}
 use Rattle.js_doc.specs.Seen.{value_of}
 use Rattle.js_doc.specs.declared.doc.Doc.{Doc}
@@ -30,12 +30,12 @@ schema_upgraded-loop-name-preserved t c =
     let l = c.loop-name in
     let own = c.own_dialect-own.result in
     let siblings = c.args.siblings.now in
-    let m : String Global × Doc = (c.in-Some.name.now, c.in-Some.argument.now) in (
+    let m : List ℕ × Doc = (c.in-Some.name.now, c.in-Some.argument.now) in (
       split_next _ l.name-iterator c.next.new.self m l.invariant.0 c.in-Some.ensures.steps,
       gathered_next (becomes own siblings) (holding_in own siblings) own l.name-iterator c.next.new.self m l.keywords
           c.put_keyword.new.among _ c.in-Some.ensures.steps
           (c.in_ok-put_keyword.ensures ∙ ap (λ k. put_all (becomes own siblings k
-          (upgraded (holding_in own siblings k) own (value_of m.1))) l.keywords) c.as_str.ensures.value)
+          (upgraded (holding_in own siblings k) own (value_of m.1))) l.keywords) c.as_str.ensures)
           l.invariant.1,
     )
 
@@ -54,13 +54,13 @@ pub members_upgraded-loop-name-preserved : goal.members_upgraded-loop-name-prese
 members_upgraded-loop-name-preserved t c =
     let l = c.loop-name in
     let d = c.args.dialect in
-    let m : String Global × Doc = (c.in-Some.name.now, c.in-Some.schema.now) in (
+    let m : List ℕ × Doc = (c.in-Some.name.now, c.in-Some.schema.now) in (
       split_next _ l.name-iterator c.next.new.self m l.invariant.0 c.in-Some.ensures.steps,
       gathered_next one (λ name. One) d l.name-iterator c.next.new.self m l.out c.put_one.new.among _
           c.in-Some.ensures.steps
           (c.in_ok-put_one.ensures
-          ∙ ap (λ k. put_all (one k (value_of c.in_ok-schema.schema)) l.out) c.as_str.ensures.value
-          ∙ ap (λ v. put_all (one (string_bytes m.0) v) l.out) c.in_ok-schema.ensures)
+          ∙ ap (λ k. put_all (one k (value_of c.in_ok-schema.schema)) l.out) c.as_str.ensures
+          ∙ ap (λ v. put_all (one m.0 v) l.out) c.in_ok-schema.ensures)
           l.invariant.1,
     )
 

@@ -1,0 +1,89 @@
+-- Faults, and where they stand.
+use Rattle.std.proofs.Common.{◌≡◌, [], ◌∷◌, Some, None, codes, refl}
+use Rattle.std.specs.Fmt.{digits}
+use Rattle.std.specs.Str.{chars, is_utf8}
+use lib.Utf8.{encode}
+use Rattle.percent_encoding.specs.AsciiSet.{should_percent_encode}
+use Rattle.percent_encoding.specs.Percent.{percent_decode, percent_encode, percent_encode_byte}
+use Rattle.url.specs.Input.{rsplit_once, split_once, strip_tabs_and_new_lines, trim_c0_control_and_space}
+use Rattle.url.specs.Parser.{leading_slashes, parse_body, parse_parts, parse_relative, parse_url, split_scheme}
+use Rattle.url.specs.Path.{dot_count, parse_segments, push_segment, shorten_path}
+use Rattle.url.specs.Scheme.{default_port, scheme_len, scheme_type}
+use Rattle.js_doc.specs.Pointer.{Tokens}
+use Rattle.js_doc.specs.Value.{Value, null, text, Named}
+use Rattle.js_upgrade.specs.Dialect.{version_named}
+use Rattle.js_upgrade.specs.Fault.{Found, Kind, first_fault, source_fault}
+use Rattle.js_upgrade.specs.Keyword.{core_change, applicator_change, assertion_change}
+use Rattle.js_upgrade.specs.Url.{printed, without_fragment}
+use Rattle.js_upgrade.specs.declared.dialect.Dialect.TheVariants.{Draft04, Draft07}
+use Rattle.js_upgrade.specs.declared.fault.Pass.TheVariants.{Names}
+use Rattle.js_upgrade.specs.declared.fault.UpgradeFaultKind.TheVariants.{BadKeyword, DuplicateUri, UnknownDialect}
+use Rattle.js_upgrade.specs.declared.fault.UpgradeFaultKind.TheVariants.{Unresolved}
+use Rattle.js_upgrade.proofs.DocumentExamples.{refers, source}
+use Rattle.js_upgrade.proofs.Examples.{is_null, obj}
+
+abbrev found : Tokens → Kind → Found
+found place kind = record { place = place; kind = kind }
+
+-- a dialect that isn't known
+abbrev unknown : Named
+unknown = (codes "$schema", text (codes "https://o.example/x")) ∷ []
+
+-- at the root
+root_unknown : source_fault Names [] (source Draft07 (codes "/s") unknown)
+    ≡ Some (found (codes "$schema" ∷ []) UnknownDialect)
+unfolding version_named
+root_unknown = refl
+
+root_no_text : source_fault Names [] (source Draft07 (codes "/s") ((codes "$schema", null) ∷ []))
+    ≡ Some (found (codes "$schema" ∷ []) BadKeyword)
+root_no_text = refl
+
+-- beside an identifier, and else it doesn't count
+embedded : source_fault Names []
+    (source Draft07 (codes "/s") ((codes "not", obj ((codes "$id", text (codes "t")) ∷ unknown)) ∷ []))
+    ≡ Some (found (codes "not" ∷ codes "$schema" ∷ []) UnknownDialect)
+unfolding core_change applicator_change assertion_change version_named
+embedded = refl
+
+not_embedded : source_fault Names [] (source Draft07 (codes "/s") ((codes "not", obj unknown) ∷ [])) ≡ None
+unfolding core_change applicator_change assertion_change version_named
+not_embedded = refl
+
+-- an identifier that is no text, by the dialect's name for it
+no_identifier : source_fault Names [] (source Draft04 (codes "/s") ((codes "not", obj ((codes "id", null) ∷ [])) ∷ []))
+    ≡ Some (found (codes "not" ∷ codes "id" ∷ []) BadKeyword)
+unfolding core_change applicator_change assertion_change
+no_identifier = refl
+
+of_another_draft : source_fault Names [] (source Draft07 (codes "/s") ((codes "id", null) ∷ [])) ≡ None
+unfolding core_change applicator_change assertion_change
+of_another_draft = refl
+
+-- a reference hides it
+hidden : source_fault Names []
+    (source Draft07 (codes "/s") ((codes "$id", null) ∷ (codes "$ref", text (codes "#")) ∷ [])) ≡ None
+unfolding core_change applicator_change assertion_change
+hidden = refl
+
+-- a reference to nothing; one in a value, and one under an unknown keyword are none
+nowhere : first_fault (source Draft07 (codes "/s") ((codes "const", refers (codes "#/y"))
+    ∷ (codes "not", refers (codes "#/definitions/x")) ∷ (codes "x", refers (codes "#/y")) ∷ []) ∷ [])
+    ≡ Some (record { document = 0; place = codes "not" ∷ codes "$ref" ∷ []; kind = Unresolved })
+unfolding core_change applicator_change assertion_change version_named printed without_fragment chars encode
+    is_utf8 should_percent_encode percent_decode percent_encode percent_encode_byte split_once strip_tabs_and_new_lines
+    trim_c0_control_and_space parse_parts parse_url split_scheme default_port scheme_len scheme_type
+nowhere = refl
+
+-- two documents under one URI
+twice : first_fault (source Draft07 (codes "/s") [] ∷ source Draft04 (codes "/s") [] ∷ [])
+    ≡ Some (record { document = 1; place = []; kind = DuplicateUri })
+unfolding printed chars digits default_port
+twice = refl
+
+-- names come before references
+names_first : first_fault (source Draft07 (codes "/s") ((codes "$ref", text (codes "t")) ∷ [])
+    ∷ source Draft07 (codes "/t") unknown ∷ [])
+    ≡ Some (record { document = 1; place = codes "$schema" ∷ []; kind = UnknownDialect })
+unfolding core_change applicator_change assertion_change version_named
+names_first = refl

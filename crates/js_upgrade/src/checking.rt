@@ -1,0 +1,157 @@
+//! The first fault of documents that are upgraded together.
+ghost use Rattle.std.specs.Prelude.{◌≡◌, [], IfOk, map, option_map};
+ghost use Rattle.js_doc.specs.Seen.{value_of};
+ghost use Rattle.js_upgrade.specs.Fault.{documents_fault, fault_among, in_document, names_fault, number_fault};
+ghost use Rattle.js_upgrade.specs.Fault.{repeated_fault, root_fault, source_fault, uris_fault};
+ghost use Rattle.js_upgrade.specs.Seen.{found_of, resource_of, source_of};
+
+use crate::documents::{Source, source_dialect};
+use crate::fault::{Pass, UpgradeFault, UpgradeFaultKind, of_document};
+use crate::finding::{Found, at_keyword, fault_in};
+use crate::holding::Holding;
+use crate::kinds::dialect_kind;
+use crate::resources::Resource;
+use crate::uri::printed;
+use js_doc::{Doc, Memory, Pointer};
+use std::alloc::Global;
+use std::collections::BTreeSet;
+
+/// No more documents are upgraded together.
+const MOST_DOCUMENTS: usize = 1_000;
+
+/// The first fault.
+///
+/// # Errors
+/// `Memory`.
+pub(crate) fn fault_among(
+    alloc: Global,
+    resources: &[Resource],
+    sources: &[Source],
+) -> Result<Option<UpgradeFault>, Memory>
+    ensures { IfOk result (λ f. f ≡ fault_among (map resource_of resources.now) (map source_of sources.now)) }
+{
+    match number_fault(alloc, sources.len()) {
+        Some(fault) => Ok(Some(fault)),
+        None => names_fault(alloc, resources, sources),
+    }
+}
+
+fn names_fault(
+    alloc: Global,
+    resources: &[Resource],
+    sources: &[Source],
+) -> Result<Option<UpgradeFault>, Memory>
+    ensures { IfOk result (λ f. f ≡ names_fault (map resource_of resources.now) (map source_of sources.now)) }
+{
+    match documents_fault(alloc, Pass::Names, resources, sources)? {
+        Some(fault) => Ok(Some(fault)),
+        None => uris_fault(alloc, resources, sources),
+    }
+}
+
+fn uris_fault(
+    alloc: Global,
+    resources: &[Resource],
+    sources: &[Source],
+) -> Result<Option<UpgradeFault>, Memory>
+    ensures { IfOk result (λ f. f ≡ uris_fault (map resource_of resources.now) (map source_of sources.now)) }
+{
+    match repeated_fault(alloc, sources)? {
+        Some(fault) => Ok(Some(fault)),
+        None => documents_fault(alloc, Pass::References, resources, sources),
+    }
+}
+
+fn number_fault(alloc: Global, documents: usize) -> Option<UpgradeFault>
+    ensures { result ≡ number_fault documents }
+{
+    if MOST_DOCUMENTS < documents {
+        Some(of_document(
+            alloc,
+            MOST_DOCUMENTS,
+            UpgradeFaultKind::TooManyDocuments,
+        ))
+    } else {
+        None
+    }
+}
+
+fn repeated_fault(alloc: Global, sources: &[Source]) -> Result<Option<UpgradeFault>, Memory>
+    ensures { IfOk result (λ f. f ≡ repeated_fault [] 0 (map source_of sources.now)) }
+{
+    let mut seen: BTreeSet<&str> = BTreeSet::new(alloc);
+    for i in 0..sources.len() {
+        if !seen.insert(printed(&sources[i].uri))? {
+            return Ok(Some(of_document(alloc, i, UpgradeFaultKind::DuplicateUri)));
+        }
+    }
+    Ok(None)
+}
+
+fn documents_fault(
+    alloc: Global,
+    pass: Pass,
+    resources: &[Resource],
+    sources: &[Source],
+) -> Result<Option<UpgradeFault>, Memory>
+    ensures { IfOk result
+        (λ f. f ≡ documents_fault pass (map resource_of resources.now) 0 (map source_of sources.now)) }
+{
+    for i in 0..sources.len() {
+        if let Some(found) = source_fault(alloc, pass, resources, &sources[i])? {
+            return Ok(Some(in_document(alloc, i, &found)?));
+        }
+    }
+    Ok(None)
+}
+
+fn source_fault(
+    alloc: Global,
+    pass: Pass,
+    resources: &[Resource],
+    source: &Source,
+) -> Result<Option<Found>, Memory>
+    ensures { IfOk result (λ f. option_map found_of f
+        ≡ source_fault pass (map resource_of resources.now) (source_of source.now)) }
+{
+    match source_dialect(source) {
+        Some(dialect) => fault_in(
+            alloc,
+            pass,
+            resources,
+            Holding::One,
+            dialect,
+            &source.uri,
+            &source.root,
+        ),
+        None => root_fault(alloc, &source.root),
+    }
+}
+
+// Of a document whose dialect isn't known.
+#[tactic(auto, using(crate::proofs::Gathered::gathering_rules))]
+fn root_fault(alloc: Global, root: &Doc) -> Result<Option<Found>, Memory>
+    ensures { IfOk result (λ f. option_map found_of f ≡ root_fault (value_of root.now)) }
+{
+    match root {
+        Doc::Members(members) => at_keyword(alloc, "$schema", dialect_kind(members.get("$schema"))),
+        _ => Ok(None),
+    }
+}
+
+// The way back, from its end on.
+fn in_document(alloc: Global, document: usize, found: &Found) -> Result<UpgradeFault, Memory>
+    ensures { IfOk result (λ f. f ≡ in_document document (found_of found.now)) }
+{
+    let tokens = found.back.tokens();
+    let mut place = Pointer::new(alloc);
+    for i in (0..tokens.len()).rev() {
+        let token = &tokens[i];
+        place.push(token.as_str())?;
+    }
+    Ok(UpgradeFault {
+        document,
+        place,
+        kind: found.kind,
+    })
+}
