@@ -21,7 +21,7 @@ use Rattle.js_upgrade.specs.declared.dialect.Dialect.{Dialect}
 use Rattle.js_upgrade.specs.declared.dialect.Dialect.TheVariants.{Draft07, Draft2020}
 use Rattle.js_upgrade.proofs.Examples.{arr, is_null, is_string, obj}
 
-abbrev at_path : Text → Parts
+abbrev pub at_path : Text → Parts
 at_path path =
     record {
       scheme = codes "https";
@@ -34,10 +34,10 @@ at_path path =
       fragment = None;
     }
 
-abbrev source : Dialect → Text → Named → Source
+abbrev pub source : Dialect → Text → Named → Source
 source d path ms = record { uri = at_path path; assumed = d; root = obj ms }
 
-abbrev refers : Text → Value
+abbrev pub refers : Text → Value
 refers uri = obj ((codes "$ref", text uri) ∷ [])
 
 abbrev list_in : Text → Text → Named
