@@ -15,7 +15,8 @@ use crate::walking::upgraded;
 use js_doc::{Doc, Memory, Pointer, Text};
 use std::alloc::Global;
 
-/// The document as one of 2020-12. Where it names no dialect, the one given is assumed. Its references stay as they are.
+/// The document as one of 2020-12. Where it names no dialect, the one given is assumed. Its references stay as they
+/// are.
 ///
 /// # Errors
 /// `UnknownDialect` or `BadKeyword`, at the root's `$schema`; else `Memory`. The fault's document is 0.
