@@ -53,6 +53,16 @@ def usages(interface, usage):
            set(found("js_command/specs/Words.antt", r'codes "(usage: .*)"')))
 
 
+def upgrade_texts(interface, usages):
+    """Where the crates have the usage texts and the dialects of jschema-upgrade."""
+    for path, pattern in (("js_upgrade_command/src/words.rt", r'b"(usage: .*)\\n"'),
+                          ("js_upgrade_command/specs/Words.antt", r'codes "(usage: .*)"')):
+        yield path, "the usage texts", set(usages), set(found(path, pattern))
+    for path, pattern in (("js_upgrade_command/src/words.rt", r'"(.*)" => Some\(Dialect::'),
+                          ("js_upgrade_command/specs/Words.antt", r'codes "(.*)"\) then Some Draft')):
+        yield path, "the dialects", interface["upgrade"]["dialects"], found(path, pattern)
+
+
 def refusals(interface):
     """Where the crates have the names of what is refused."""
     names = [it["name"] for it in sorted(interface["refusal"], key=lambda it: it["number"])]
@@ -140,9 +150,10 @@ def versions(number):
            found("jschema_c/src/lib.rt", r"(?:≡ |\n    )(\d+)", r"fn jschema_version\(\).*?\n\}"))
 
 
-def faults(interface, usage, version):
+def faults(interface, usage, upgrade_usages, version):
     """How many comparisons there are, and of each that fails what it finds."""
     compared = [*versions(version), *formats(interface), *statuses(interface), *usages(interface, usage),
+                *upgrade_texts(interface, upgrade_usages),
                 *refusals(interface), *numbers_of_refusals(interface), *limits(interface),
                 *reference_limits(interface)]
     return len(compared), [f"{path}: {name}: {there}, and interface.toml has {wanted}"

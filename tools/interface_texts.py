@@ -70,7 +70,7 @@ def roff(text):
     """A text for the manual page, in its lines: `code` is bold, arguments are italic."""
     text = text.strip().replace("\\", "\\e").replace("-", "\\-")
     text = re.sub(r"`(.*?)`", r"\\fB\1\\fR", text)
-    text = re.sub(r"\b(FORMAT|INSTANCE|ENTRY|SUITE|URI|FILE|PAIR)\b", r"\\fI\1\\fR", text)
+    text = re.sub(r"\b(FORMAT|INSTANCE|ENTRY|SUITE|URI|FILE|PAIR|DIALECT|FOLDER)\b", r"\\fI\1\\fR", text)
     text = text.replace("absolute \\fIURI\\fR", "absolute URI")
     return "\n".join(textwrap.wrap(text, 80, break_long_words=False, break_on_hyphens=False)) + "\n"
 
@@ -145,6 +145,55 @@ def project_version(interface):
 
 def c_statuses(interface):
     return c_enum([(it["c_name"], it["number"], it["c"]) for it in interface["status"]])
+
+
+def upgrade_usages(interface):
+    """The usage texts of jschema-upgrade."""
+    upgrade = interface["upgrade"]
+    return [f"usage: {text}" for text in (
+        f"jschema-upgrade {upgrade['arguments']}", interface["pairs_usage"],
+        upgrade["dialect_usage"], upgrade["folder_usage"],
+        upgrade["names_usage"])]
+
+
+def upgrade_help(interface):
+    """The function of ./jschema-upgrade that prints the help."""
+    upgrade = interface["upgrade"]
+    options = [(f"{it['name']} {it['argument']}", it["help"]) for it in upgrade["option"]]
+    statuses = [(str(it["number"]), it.get("launcher", it["help"])) for it in upgrade["status"]]
+    return function("print_upgrade", (
+        f"{upgrade['summary']}\n\nUsage:\n  jschema-upgrade [--default-dialect DIALECT] [--into FOLDER]\n"
+        "      URI FILE [URI FILE]...\n\n"
+        "Each FILE holds a schema document. References find it by the URI before it;\nnothing is fetched.\n\n"
+        + section("Options", options, 29) + section("Exit status", statuses, 5)))
+
+
+def upgrade_title(interface):
+    return f'.TH JSCHEMA\\-UPGRADE 1 {interface["date"]} "jschema {interface["version"]}" "User Commands"\n'
+
+
+def upgrade_synopsis(interface):
+    return "\\fBjschema\\-upgrade\\fR " + roff(interface["upgrade"]["arguments"])
+
+
+def upgrade_options(interface):
+    return "".join(f".TP\n\\fB{roff(it['name']).strip()}\\fR " + roff(it["argument"]) + roff(it["manual"])
+                   for it in interface["upgrade"]["option"])
+
+
+def upgrade_statuses(interface):
+    return manual_statuses(interface["upgrade"])
+
+
+def upgrade_bash_words(interface):
+    options = " ".join(it["name"] for it in interface["upgrade"]["option"])
+    return (f"_jschema_upgrade_options='{options}'\n"
+            f"_jschema_upgrade_dialects='{' '.join(interface['upgrade']['dialects'])}'\n")
+
+
+def upgrade_zsh_words(interface):
+    options = "".join(f"    '{it['name']}:{it['short']}'\n" for it in interface["upgrade"]["option"])
+    return f"local -a options=(\n{options})\nlocal -a dialects=({' '.join(interface['upgrade']['dialects'])})\n"
 
 
 def by_number(entries):
@@ -254,11 +303,15 @@ def page_examples(*kinds):
 # For each file its marks, and what writes the text between each and the next `interface: end`.
 TEXTS = {
     "jschema": {"version": launcher_version, "usage": launcher_usages, "help": launcher_help,
-                "options": launcher_options},
+                "options": launcher_options, "upgrade help": upgrade_help},
     "tools/installed/jschema.1": {"title": manual_title, "synopsis": manual_synopsis, "commands": manual_commands,
                                   "formats": manual_formats, "statuses": manual_statuses, "limits": manual_limits},
     "tools/installed/jschema.bash": {"words": bash_words},
     "tools/installed/jschema.zsh": {"words": zsh_words},
+    "tools/installed/jschema-upgrade.1": {"upgrade title": upgrade_title, "upgrade synopsis": upgrade_synopsis,
+                                          "upgrade options": upgrade_options, "upgrade statuses": upgrade_statuses},
+    "tools/installed/jschema-upgrade.bash": {"upgrade words": upgrade_bash_words},
+    "tools/installed/jschema-upgrade.zsh": {"upgrade words": upgrade_zsh_words},
     "bindings/c/jschema.pc": {"version": package_version},
     "bindings/c/jschema.h": {"version": c_version, "statuses": c_statuses, "formats": c_formats,
                              "refusals": c_refusals, "subjects": c_subjects},

@@ -10,6 +10,7 @@ from subprocess import PIPE, TimeoutExpired
 HOME = os.path.dirname(os.path.dirname(os.path.dirname(os.path.abspath(__file__))))
 OUT = os.path.join(HOME, "crates", "js_cli", "out")
 PROGRAM = os.path.join(OUT, "js_cli")
+UPGRADE = os.path.join(HOME, "crates", "js_upgrade_cli", "out", "js_upgrade_cli")
 
 
 def add_options(parser, seconds, program=PROGRAM):

@@ -1,0 +1,41 @@
+//! The machine's files.
+use js_command::Files;
+use js_output::{Fault, Source, read_all};
+use js_upgrade_command::Folder;
+use std::alloc::Global;
+use std::fs;
+
+/// Files on the disk, reached through the runtime.
+pub struct Disk<'a, R: std::rt::Files> {
+    rt: &'a R,
+}
+
+impl<'a, R: std::rt::Files> Disk<'a, R> {
+    pub fn new(rt: &'a R) -> Disk<'a, R> {
+        Disk { rt }
+    }
+}
+
+impl<R: std::rt::Files> Drop for Disk<'_, R> {
+    fn drop(self) {
+        let Disk { rt: _ } = self;
+    }
+}
+
+impl<R: std::rt::Files> Files for Disk<'_, R> {
+    fn take(&mut self, alloc: Global, path: &str) -> Result<Vec<u8>, Fault> {
+        match fs::open(self.rt, path) {
+            Ok(file) => read_all(alloc, &mut Source::new(file)),
+            Err(_) => Err(Fault::Read),
+        }
+    }
+}
+
+impl<R: std::rt::Files> Folder for Disk<'_, R> {
+    fn put(&mut self, path: &str, bytes: &[u8]) -> Result<(), Fault> {
+        match fs::write(self.rt, path, bytes) {
+            Ok(()) => Ok(()),
+            Err(_) => Err(Fault::Write),
+        }
+    }
+}

@@ -1,0 +1,11 @@
+use Rattle.std.proofs.Common.{◌≡◌, [], drop, map}
+use Rattle.js_upgrade.specs.Seen.{source_of}
+use Rattle.js_upgrade_command.specs.Outcome.{sources_after}
+use Rattle.js_upgrade_command.specs.code.Seen.{texts_seen}
+use Rattle.js_upgrade_command.proofs.sources.sources_of.Given as goal
+
+-- those left are read behind those that were
+abbrev pub invariant-loop-number : goal.invariant-loop-number
+invariant-loop-number l =
+    sources_after l.assumed (map source_of l.sources.items) l.number (texts_seen (drop l.number l.documents))
+    ≡ sources_after l.assumed [] 0 (texts_seen l.documents)

@@ -1,0 +1,7 @@
+pub mod Names
+pub mod Outcome
+pub mod Outputs
+pub mod Stop
+pub mod Upgraded
+pub mod Words
+pub mod code

@@ -1,0 +1,2 @@
+-- What only private functions speak of: no public clause cites it.
+pub mod Seen

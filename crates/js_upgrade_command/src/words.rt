@@ -1,0 +1,180 @@
+//! The program's words, one after another.
+ghost use Rattle.std.specs.Prelude.{◌≡◌, ◌++◌, ◌∷◌, [], Ok, OnOk, IfErr};
+ghost use Rattle.js_upgrade_command.specs.Words.{dialect_of, dialect_said, is_flag, option_said, plain_said, word_said};
+ghost use Rattle.js_upgrade_command.specs.code.Seen.{IsMisuse, said_seen};
+
+use js_upgrade::Dialect;
+use std::alloc::{AllocError, AllocFailed, Global};
+
+/// The usage text, written if the words don't have the program's form.
+pub const USAGE: &[u8] =
+    b"usage: jschema-upgrade [--default-dialect DIALECT] [--into FOLDER] URI FILE [URI FILE]...\n";
+
+/// The usage text if a URI has no file.
+pub(crate) const PAIRS_USAGE: &[u8] = b"usage: URI and FILE come in pairs\n";
+
+/// The usage text if a word that is to be a dialect is none.
+pub(crate) const DIALECT_USAGE: &[u8] =
+    b"usage: DIALECT is draft-03, draft-04, draft-06, draft-07, 2019-09, 2020-12 or its URI\n";
+
+/// The usage text if there are several documents, and no folder.
+pub(crate) const FOLDER_USAGE: &[u8] = b"usage: several documents need --into FOLDER\n";
+
+/// The usage text if two documents would be written to one file.
+pub(crate) const NAMES_USAGE: &[u8] = b"usage: with --into each FILE needs a name of its own\n";
+
+/// Why the words ask for nothing.
+#[derive(Clone, Copy, Debug, Drop, PartialEq, Eq)]
+pub enum Misuse {
+    /// Memory ran out.
+    Memory,
+    /// They don't have the program's form.
+    OtherForm,
+    /// A URI has no file.
+    OddPairs,
+    /// A word that is to be a dialect is none.
+    NoDialect,
+    /// There are several documents, and no folder.
+    NoFolder,
+    /// Two documents would be written to one file.
+    OneName,
+}
+
+impl<T: Drop> From<AllocFailed<T>> for Misuse {
+    ghost use Rattle.js_upgrade_command.specs.declared.words.Misuse.TheVariants.{Memory};
+
+    ghost from_gives = { λ _ m. m ≡ Memory };
+
+    fn from(_refused: AllocFailed<T>) -> Misuse {
+        Misuse::Memory
+    }
+}
+
+/// What the next word is.
+#[derive(Clone, Copy, Drop)]
+pub(crate) enum Waiting {
+    /// An option, or a word of a pair.
+    ForAny,
+    /// The dialect that is assumed.
+    ForDialect,
+    /// The folder.
+    ForFolder,
+    /// A word of a pair.
+    ForPairs,
+}
+
+/// A document: its URI, and its file.
+#[derive(Clone, Copy, Drop)]
+pub(crate) struct DocumentFile<'a> {
+    pub(crate) uri: &'a str,
+    pub(crate) file: &'a str,
+}
+
+/// What the words so far say.
+#[derive(Drop)]
+pub(crate) struct Said<'a> {
+    pub(crate) waiting: Waiting,
+    pub(crate) assumed: Dialect,
+    pub(crate) into: Option<&'a str>,
+    /// A URI whose file is the next word of a pair.
+    pub(crate) uri: Option<&'a str>,
+    pub(crate) documents: Vec<DocumentFile<'a>>,
+}
+
+/// What a word says after those before it.
+///
+/// # Errors
+/// See [`Misuse`].
+pub(crate) fn say<'a>(said: &mut Said<'a>, word: &'a str) -> Result<(), Misuse>
+    ensures ok { OnOk result (word_said (said_seen said.old) word.entry.now ≡ Ok (said_seen said.new)) }
+    ensures err { IfErr result (IsMisuse (word_said (said_seen said.old) word.entry.now)) }
+{
+    match said.waiting {
+        Waiting::ForAny => say_option(said, word),
+        Waiting::ForDialect => say_dialect(said, dialect_of(word)),
+        Waiting::ForFolder => {
+            said.waiting = Waiting::ForAny;
+            said.into = Some(word);
+            Ok(())
+        }
+        Waiting::ForPairs => say_plain(said, word),
+    }
+}
+
+fn say_option<'a>(said: &mut Said<'a>, word: &'a str) -> Result<(), Misuse>
+    ensures ok { OnOk result (option_said (said_seen said.old) word.entry.now ≡ Ok (said_seen said.new)) }
+    ensures err { IfErr result (IsMisuse (option_said (said_seen said.old) word.entry.now)) }
+{
+    match word {
+        "--default-dialect" => said.waiting = Waiting::ForDialect,
+        "--into" => said.waiting = Waiting::ForFolder,
+        "--" => said.waiting = Waiting::ForPairs,
+        _ => {
+            if is_flag(word) {
+                return Err(Misuse::OtherForm);
+            }
+            return say_plain(said, word);
+        }
+    }
+    Ok(())
+}
+
+// A word that begins with `-` and has more.
+fn is_flag(word: &str) -> bool
+    ensures { result ≡ is_flag word.now }
+{
+    let bytes = word.as_bytes();
+    1 < bytes.len() && bytes[0] == b'-'
+}
+
+fn say_dialect(said: &mut Said<'_>, dialect: Option<Dialect>) -> Result<(), Misuse>
+    ensures ok { OnOk result (dialect_said (said_seen said.old) dialect ≡ Ok (said_seen said.new)) }
+    ensures err { IfErr result (IsMisuse (dialect_said (said_seen said.old) dialect)) }
+{
+    let Some(dialect) = dialect else {
+        return Err(Misuse::NoDialect);
+    };
+    said.waiting = Waiting::ForAny;
+    said.assumed = dialect;
+    Ok(())
+}
+
+// The dialect that a word names, as the drafts are called, or as `$schema` names them.
+fn dialect_of(word: &str) -> Option<Dialect>
+    ensures { result ≡ dialect_of word.now }
+{
+    match word {
+        "draft-03" => Some(Dialect::Draft03),
+        "draft-04" => Some(Dialect::Draft04),
+        "draft-06" => Some(Dialect::Draft06),
+        "draft-07" => Some(Dialect::Draft07),
+        "2019-09" => Some(Dialect::Draft2019),
+        "2020-12" => Some(Dialect::Draft2020),
+        _ => Dialect::named(word),
+    }
+}
+
+// A word of a pair.
+fn say_plain<'a>(said: &mut Said<'a>, word: &'a str) -> Result<(), Misuse>
+    ensures ok { OnOk result (said_seen said.new ≡ plain_said (said_seen said.old) word.entry.now) }
+    ensures err { IfErr result (λ m. m ≡ Misuse.Memory) }
+{
+    match said.uri {
+        None => {
+            said.uri = Some(word);
+            Ok(())
+        }
+        Some(uri) => {
+            said.uri = None;
+            append(&mut said.documents, DocumentFile { uri, file: word })?;
+            Ok(())
+        }
+    }
+}
+
+/// Adds an item at the end.
+pub(crate) fn append<T: Drop>(list: &mut Vec<T>, item: T) -> Result<(), AllocFailed<T>>
+    ensures { OnOk result (list.new.items ≡ list.old.items ++ item ∷ []) }
+{
+    list.push(item)
+}
