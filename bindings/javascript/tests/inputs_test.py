@@ -51,6 +51,7 @@ class RefusedSchema(OnThisCommand, machines.RefusedSchema):
 
 
 class Encodings(OnThisCommand, machines.Encodings):
+    FORMATS = ("flag", "basic", "json", "github")
     # Node reads U+FFFD in place of bytes that aren't UTF-8, so such a file isn't found.
     test_name_that_is_not_utf_8 = None
 

@@ -18,8 +18,9 @@ const BLOCK = 1 << 16;
  */
 export function readDocument(argument, option) {
   const mark = argument.lastIndexOf("=");
-  const [uri, path] = mark < 0 || isFile(argument) ? ["", argument]
-    : [argument.slice(0, mark), argument.slice(mark + 1)];
+  const before = argument.slice(0, Math.max(mark, 0));
+  // (A URI that is absolute has a colon.)
+  const [uri, path] = !before.includes(":") || isFile(argument) ? ["", argument] : [before, argument.slice(mark + 1)];
   checkName(path, option);
   const text = within(new Reader(path), textOf);
   return { path, uri: uri || ownUri(text) || fileUrl(path), text };
