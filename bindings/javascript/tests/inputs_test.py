@@ -36,6 +36,8 @@ class RefusedSchema(OnThisCommand, machines.RefusedSchema):
 
 
 class Encodings(OnThisCommand, machines.Encodings):
+    FORMATS = ("flag", "basic", "json", "github", "sarif", "junit")
+
     def test_file_that_is_not_found(self):
         """Node reads U+FFFD in place of bytes that aren't UTF-8, so such a file isn't found."""
         with open(os.fsencode(self.folder) + b"/empty/\xff.json", "wb") as file:

@@ -72,6 +72,10 @@ class Files(Case):
 
     def test_name_of_a_file_with_the_sign(self):
         self.judge(["-"], "", "1 valid, 0 invalid\n", 0, given='"A"', schema="a=b.json")
+        for words in (["--schema", "v=2/other.json"], [*SOME[1:], "--ref", "v=2/other.json"]):
+            with self.subTest(words):
+                self.assertEqual(self.run_command("validate", *words, "-", given="1"),
+                                 ("", "jschema: v=2/other.json: No such file or directory\n", 4))
 
     def test_relative_id(self):
         url = (self.folder / "schema.json").resolve().as_uri()

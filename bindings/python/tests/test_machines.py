@@ -60,13 +60,14 @@ class RefusedSchema(Case):
 
 
 class Encodings(Case):
+    FORMATS = ("flag", "basic", "json", "github", "html", "sarif", "junit")
     ENVIRONMENTS = ({"PYTHONIOENCODING": "utf-16"},
                     {"LC_ALL": "POSIX", "PYTHONCOERCECLOCALE": "0", "PYTHONUTF8": "0"})
 
     def test_encodings(self):
         (self.folder / "é.json").write_text('{"/é\U0001f600": 1}', "utf-8")
         (self.folder / "odd.json").write_text('{"additionalProperties": false}', "utf-8")
-        for format in ("flag", "basic", "json", "github", "html", "sarif", "junit"):
+        for format in self.FORMATS:
             words = ["--schema", "odd.json", "--format", format, "é.json", "torn.json"]
             expected = self.output({"PYTHONIOENCODING": "utf-8"}, *words)
             if format in ("basic", "github", "html", "junit"):

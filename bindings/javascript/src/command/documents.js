@@ -20,8 +20,9 @@ export function documentsOf({ schema, refs, siblings, input, verbose }) {
 /** The document that the argument `[URI=]FILE` of an option names. */
 function document(argument, option, input) {
   const mark = argument.lastIndexOf("=");
-  const [uri, path] = mark < 0 || isFile(argument) ? ["", argument]
-    : [argument.slice(0, mark), argument.slice(mark + 1)];
+  const before = argument.slice(0, Math.max(mark, 0));
+  // (A URI that is absolute has a colon.)
+  const [uri, path] = !before.includes(":") || isFile(argument) ? ["", argument] : [before, argument.slice(mark + 1)];
   checkName(path, option);
   return schemaFile(path, uri, suffixKind(path) ?? input);
 }

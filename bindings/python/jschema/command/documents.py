@@ -23,8 +23,9 @@ def kind_for(path: str, given: Optional[str]) -> str:
 def document(argument: str, option: str, kind: Optional[str] = None, assumed: int = LATEST) -> SchemaFile:
     """The document that the argument `[URI=]FILE` of an option names, and the dialect that is assumed if it names none.
     Without a URI its identifier counts, else its file's URL."""
-    uri, mark, path = argument.rpartition("=")
-    if not mark or os.path.isfile(argument):
+    uri, _, path = argument.rpartition("=")
+    # (A URI that is absolute has a colon.)
+    if ":" not in uri or os.path.isfile(argument):
         uri, path = "", argument
     _check_names(uri, path, option)
     return schema_file(path, uri, kind_for(path, kind), assumed)
