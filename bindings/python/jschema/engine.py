@@ -21,7 +21,8 @@ class Answer(NamedTuple):
 class Engine(Protocol):
     """Schema documents, and checks against them: `add` each, `finish` once, then check, from any thread.
 
-    `add`, `upgrade`, `finish`, `is_valid` and `check` raise `Refused`, `MemoryError`, or `EngineError` for any other failure.
+    `add`, `upgrade`, `finish`, `is_valid` and `check` raise `Refused`, `MemoryError`, or `EngineError` for any other
+    failure.
     """
 
     def add(self, uri: str, document: bytes) -> None:

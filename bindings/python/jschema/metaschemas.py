@@ -4,25 +4,35 @@ from __future__ import annotations
 
 import json
 import re
-from collections.abc import Iterable, Iterator
+from collections.abc import Container, Iterable, Iterator
 from functools import lru_cache
 from importlib.util import find_spec
 from pathlib import Path
-from typing import Any
+from typing import Any, NamedTuple
 
 from .dialects import LATEST, dialect_named
-from .uris import document_of
+from .uris import document_of, joined
 
 _PACKAGES = ("jsonschema_specifications", "jsonschema")
 # What refers to one, or is one. (A slash may be escaped. What is found in a value that is no schema does no harm.)
 _URI = rb'"\s*:\s*"(https?:\\?/\\?/json-schema\.org\\?/[^"#]*)'
 _REFERENCE = re.compile(rb'"\$(?:ref|dynamicRef|recursiveRef)' + _URI)
 _IDENTIFIER = re.compile(rb'"\$?id' + _URI)
+# A reference of a meta-schema, as `json.dumps` writes it.
+_WRITTEN = re.compile(r'"\$(?:ref|dynamicRef|recursiveRef)": "([^"]*)"')
 
 
-def metaschemas_for(documents: Iterable[tuple[str, bytes]], drafts: Iterable[int]) -> list[tuple[str, bytes]]:
-    """The meta-schemas of these drafts that documents refer to, with their URIs: all documents of each draft that a
-    reference leads to, or that a document is a part of, without those that are given."""
+class _Metaschema(NamedTuple):
+    """A document of a draft, and the URIs of those that it refers to."""
+
+    draft: int
+    text: bytes
+    references: frozenset[str]
+
+
+def metaschemas_for(documents: Iterable[tuple[str, bytes]], drafts: Container[int]) -> list[tuple[str, bytes]]:
+    """The meta-schemas of these drafts that documents refer to, and those that these refer to in turn, with their URIs.
+    One that is given, by its URI or its identifier, isn't taken, but what it refers to is."""
     given: set[str] = set()
     wanted: set[str] = set()
     for uri, text in documents:
@@ -31,9 +41,14 @@ def metaschemas_for(documents: Iterable[tuple[str, bytes]], drafts: Iterable[int
         wanted |= {*own, *_found(_REFERENCE, text)}
     if not any("//json-schema.org/" in uri for uri in wanted):
         return []
-    by_draft = _by_draft()
-    return [(uri, text) for draft in drafts for uri, text in by_draft.get(draft, {}).items()
-            if uri not in given and not wanted.isdisjoint(by_draft[draft])]
+    known = _known()
+    waiting = [*wanted]
+    for uri in waiting:
+        # (The list grows on the way.)
+        more: frozenset[str] = known[uri].references - wanted if uri in known else frozenset()
+        wanted |= more
+        waiting += more
+    return [(uri, it.text) for uri, it in known.items() if uri in wanted and uri not in given and it.draft in drafts]
 
 
 def _found(pattern: re.Pattern[bytes], text: bytes) -> Iterator[str]:
@@ -42,13 +57,15 @@ def _found(pattern: re.Pattern[bytes], text: bytes) -> Iterator[str]:
 
 
 @lru_cache(maxsize=None)
-def _by_draft() -> dict[int, dict[str, bytes]]:
-    """The documents of each draft by their URIs. Of two packages the first one's count."""
-    found: dict[int, dict[str, bytes]] = {}
+def _known() -> dict[str, _Metaschema]:
+    """The documents by their URIs. Of two packages the first one's count."""
+    found: dict[str, _Metaschema] = {}
     for uri, value in _values():
-        draft = dialect_named(value.get("$schema"))
-        if draft is not None:
-            found.setdefault(draft, {}).setdefault(document_of(uri), json.dumps(value).encode())
+        draft, uri = dialect_named(value.get("$schema")), document_of(uri)
+        if draft is not None and uri not in found:
+            text = json.dumps(value)
+            references = frozenset(document_of(joined(uri, it)) for it in _WRITTEN.findall(text))
+            found[uri] = _Metaschema(draft, text.encode(), references)
     return found
 
 

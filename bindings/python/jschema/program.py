@@ -47,7 +47,7 @@ def find_upgrader(program: str) -> str:
     for name in _UPGRADERS:
         if found := shutil.which(os.path.join(folder, name)):
             return found
-    raise UpgraderNotFound(f"schemas of older drafts need the library (tools/build-library in its repository makes it), "
+    raise UpgraderNotFound("schemas of older drafts need the library (tools/build-library in its repository makes it), "
                            f"or the program jschema-upgrade beside {program}")
 
 

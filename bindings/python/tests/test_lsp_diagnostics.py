@@ -28,6 +28,18 @@ class Instances(Session):
         line = PERSON.split("\n")[related["location"]["range"]["start"]["line"]]
         self.assertEqual(line[related["location"]["range"]["start"]["character"]:][:9], '"minimum"')
 
+    def test_older_draft(self):
+        """The keyword of a schema of draft-07 is shown where it is written."""
+        self.write("older.json", '{"$schema": "http://json-schema.org/draft-07/schema#",\n'
+                                 ' "properties": {"a": {"items": [{"type": "null"}], "additionalItems": false}}}')
+        self.start()
+        found = self.open("a.json", '{"$schema": "older.json",\n "a": [1, 2]}')
+        self.assertEqual(shown(found), [(1, 7, 8, "type"), (1, 10, 11, "items")])
+        related = [it["location"] for error in found for it in error["relatedInformation"]]
+        self.assertEqual([it["uri"] for it in related], [self.uri("older.json")] * 2)
+        begins = [it["range"]["start"] for it in related]
+        self.assertEqual(sorted((it["line"], it["character"]) for it in begins), [(1, 33), (1, 51)])
+
     def test_missing_member(self):
         self.start()
         self.assertEqual(shown(self.open("a.person.json", ' {"friends": [{"age": 1}]}')),

@@ -298,13 +298,15 @@ class Metaschemas(LibraryCase):
         files = {"draft7/metaschema.json": {"$schema": SEVEN, "$id": SEVEN, "definitions": {"a": {"type": "object"}},
                                             "$ref": "#/definitions/a"},
                  "draft2020-12.json": {"$schema": LATEST, "$id": LATEST, "allOf": [{"$ref": "meta/object"}]},
-                 "vocabularies/all.json": vocabularies, "bad.json": [1]}
+                 "vocabularies/all.json": {**vocabularies, f"{LATEST}/lost": {
+                     "$schema": LATEST, "$id": f"{LATEST}/lost", "$ref": "nowhere"}},
+                 "bad.json": [1]}
         for name, value in files.items():
             path = Path(folder.name, name)
             path.parent.mkdir(exist_ok=True)
             path.write_text(json.dumps(value), "utf-8")
-        metaschemas._by_draft.cache_clear()
-        self.addCleanup(metaschemas._by_draft.cache_clear)
+        metaschemas._known.cache_clear()
+        self.addCleanup(metaschemas._known.cache_clear)
         patched = mock.patch.object(metaschemas, "_folders", return_value=[Path(folder.name)])
         patched.start()
         self.addCleanup(patched.stop)
@@ -315,7 +317,8 @@ class Metaschemas(LibraryCase):
                 self.assertTrue(schemas.is_valid(URI, [{}]))
                 self.assertFalse(schemas.is_valid(URI, [1]))
         with jschema.Schemas({URI: {"$ref": LATEST}}) as schemas:
-            self.assertEqual(len(schemas.places()), 5)
+            self.assertEqual(schemas.places(), [f"{URI}#", f"{LATEST}#", f"{LATEST}#/allOf/0",
+                                                "https://json-schema.org/draft/2020-12/meta/object#"])
 
     def test_not_asked_for(self):
         with jschema.Schemas({URI: {"$schema": LATEST, "$comment": SEVEN}}) as schemas:
@@ -342,7 +345,7 @@ class InstalledMetaschemas(LibraryCase):
 
     def setUp(self):
         super().setUp()
-        if not metaschemas._by_draft():
+        if not metaschemas._known():
             self.skipTest("neither jsonschema-specifications nor Debian's python3-jsonschema")
 
     def test_each_draft(self):

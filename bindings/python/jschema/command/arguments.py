@@ -111,7 +111,8 @@ def _add_common(parser: argparse.ArgumentParser, formats: tuple[str, ...], shown
 
 
 def _validate(name: str) -> _Parser:
-    parser = _Parser(name, "validate", "Validates JSON, YAML and TOML files against a JSON Schema, of draft 2020-12 or older.")
+    parser = _Parser(name, "validate",
+                     "Validates JSON, YAML and TOML files against a JSON Schema, of draft 2020-12 or an older one.")
     parser.add_argument("--schema", action="append", metavar="SCHEMA",
                         help="the file of the schema (default: the first file); its URI is its $id if that is "
                              "absolute, else its file's URL")

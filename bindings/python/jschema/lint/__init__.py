@@ -82,7 +82,7 @@ def _document(uri: str, text: bytes, kind: str) -> Document | Finding:
 
 
 def _judged(documents: Sequence[tuple[str, Any]]) -> Optional[Refused]:
-    """The refusal of documents, if the validator refuses them. Where nothing upgrades older drafts, they are refused."""
+    """The refusal of documents, if the validator refuses them. Where nothing upgrades older drafts they are refused."""
     try:
         try:
             Schemas(documents).close()
