@@ -83,8 +83,8 @@ pub extern "C" fn jschema_add(
 }
 
 /// Upgrades the documents from older drafts to 2020-12, together: a reference of one may lead into another. A document
-/// that names no dialect is of the one whose URI this is; of 2020-12 if it is empty. If one is refused, all stay as they
-/// were.
+/// that names no dialect is of the one whose URI this is; of 2020-12 if it is empty. If one is refused, all stay as
+/// they were.
 #[unsafe(no_mangle)]
 pub extern "C" fn jschema_upgrade(alloc: Global, handle: &mut Handle, dialect: &[u8]) -> u32
     ensures { OnHandle (SessionUpgrades dialect.now) handle.old.value handle.new.value result }

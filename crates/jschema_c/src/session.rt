@@ -2,7 +2,8 @@
 ghost use Rattle.std.specs.Prelude.{◌≡◌, [], None, true, false, IfOk, IfSome, IfNone, OnErr, MatchOption};
 ghost use Rattle.std.specs.Str.{IsUtf8};
 ghost use Rattle.jschema_c.specs.Exports.{IsNew, SessionAdds, SessionFinishes, SessionLists, SessionEnters};
-ghost use Rattle.jschema_c.specs.Exports.{IsSharedBy, SessionChecks, SessionLimits, SessionUpgrades, TellsRefusal, room};
+ghost use Rattle.jschema_c.specs.Exports.{IsSharedBy, SessionChecks, SessionLimits, SessionUpgrades};
+ghost use Rattle.jschema_c.specs.Exports.{TellsRefusal, room};
 ghost use Rattle.jschema_c.specs.Said.{text_in};
 ghost use Rattle.jschema_c.specs.Session.{finished_in, IsFinished};
 ghost use Rattle.jschema_c.specs.Session.{Adds, Finishes, IsUriText, has_zero, Lists, Enters, Checks, Judges};

@@ -5,7 +5,7 @@ use super::writing::{
 };
 use crate::word_at;
 use js_doc::{
-    Doc, Members, Memory, Pointer, from_value, push_fragment_token, push_string, push_token,
+    Doc, Members, Memory, Pointer, Text, from_value, push_fragment_token, push_string, push_token,
     put_text, read, text,
 };
 use serde_json::Value;
