@@ -15,10 +15,10 @@ use Rattle.js_upgrade.specs.Dialect.{version_named}
 use Rattle.js_upgrade.specs.Fault.{Found, Kind, first_fault, source_fault}
 use Rattle.js_upgrade.specs.Keyword.{core_change, applicator_change, assertion_change}
 use Rattle.js_upgrade.specs.Url.{printed, without_fragment}
-use Rattle.js_upgrade.specs.declared.dialect.Dialect.TheVariants.{Draft04, Draft07}
-use Rattle.js_upgrade.specs.declared.fault.Pass.TheVariants.{Names}
+use Rattle.js_upgrade.specs.declared.dialect.Dialect.TheVariants.{Draft04, Draft07, Draft2019}
+use Rattle.js_upgrade.specs.declared.fault.Pass.TheVariants.{Names, References}
 use Rattle.js_upgrade.specs.declared.fault.UpgradeFaultKind.TheVariants.{BadKeyword, DuplicateUri, UnknownDialect}
-use Rattle.js_upgrade.specs.declared.fault.UpgradeFaultKind.TheVariants.{Unresolved}
+use Rattle.js_upgrade.specs.declared.fault.UpgradeFaultKind.TheVariants.{BadReference, Unresolved}
 use Rattle.js_upgrade.proofs.DocumentExamples.{refers, source}
 use Rattle.js_upgrade.proofs.Examples.{is_null, obj}
 
@@ -74,6 +74,19 @@ unfolding core_change applicator_change assertion_change version_named printed w
     is_utf8 should_percent_encode percent_decode percent_encode percent_encode_byte split_once strip_tabs_and_new_lines
     trim_c0_control_and_space parse_parts parse_url split_scheme default_port scheme_len scheme_type
 nowhere = refl
+
+-- what 2019-09 follows dynamically; to draft-07 it is an unknown keyword
+abbrev recursive : Named
+recursive = (codes "$recursiveRef", text (codes "#")) ∷ []
+
+followed_nowhere : source_fault References [] (source Draft2019 (codes "/s") recursive)
+    ≡ Some (found (codes "$recursiveRef" ∷ []) BadReference)
+unfolding core_change applicator_change assertion_change
+followed_nowhere = refl
+
+unknown_there : source_fault References [] (source Draft07 (codes "/s") recursive) ≡ None
+unfolding core_change applicator_change assertion_change
+unknown_there = refl
 
 -- two documents under one URI
 twice : first_fault (source Draft07 (codes "/s") [] ∷ source Draft04 (codes "/s") [] ∷ [])

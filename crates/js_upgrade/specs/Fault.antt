@@ -18,6 +18,7 @@ use Rattle.js_upgrade.specs.Schema.{hides}
 use Rattle.js_upgrade.specs.Upgrade.{dialect_in, holding_in, identifier, identifies, is_uri, own_dialect}
 use Rattle.js_upgrade.specs.Url.{fragment_pointer, joined, longest_uri, printed, without_fragment}
 use Rattle.js_upgrade.specs.declared.dialect.Dialect.{Dialect}
+use Rattle.js_upgrade.specs.declared.dialect.Dialect.TheVariants.{Draft2019}
 use Rattle.js_upgrade.specs.declared.fault.UpgradeFault.{UpgradeFault}
 use Rattle.js_upgrade.specs.declared.fault.UpgradeFaultKind.{UpgradeFaultKind}
 use Rattle.js_upgrade.specs.declared.fault.UpgradeFaultKind.TheVariants.{Memory, TooManyDocuments, UnknownDialect}
@@ -104,14 +105,20 @@ abbrev pub own_kind : Dialect → Parts → Named → Option Kind
 own_kind own base siblings =
     if hides own siblings then None else identifier_kind base (get (identifier own) siblings)
 
+-- its `$recursiveRef` (2019-09 Core, 8.2.4.2), which isn't followed
+abbrev pub recursive_kind : Dialect → Named → Option Kind
+recursive_kind Draft2019 siblings = option_map (λ v. BadReference) (get (codes "$recursiveRef") siblings)
+recursive_kind _ siblings = None
+
 -- `d` and `base` are those around the schema
 abbrev pub schema_fault : Pass → List Resource → Dialect → Parts → Named → Option Found
 schema_fault Names all d base siblings =
     first_of (at_keyword (codes "$schema") (declared_kind d siblings))
     (at_keyword (identifier (own_dialect d siblings)) (own_kind (own_dialect d siblings) base siblings))
 schema_fault References all d base siblings =
-    at_keyword (codes "$ref")
-    (reference_kind all (own_base (own_dialect d siblings) base siblings) (get (codes "$ref") siblings))
+    first_of (at_keyword (codes "$ref")
+    (reference_kind all (own_base (own_dialect d siblings) base siblings) (get (codes "$ref") siblings)))
+    (at_keyword (codes "$recursiveRef") (recursive_kind (own_dialect d siblings) siblings))
 
 -- ---- in a value that holds schemas
 

@@ -11,7 +11,7 @@ ghost use Rattle.js_upgrade.specs.declared.holding.Holding.TheVariants.{One};
 use crate::dialect::Dialect;
 use crate::fault::{Pass, UpgradeFaultKind};
 use crate::holding::{Holding, holding_of};
-use crate::kinds::{declared_kind, own_kind, reference_kind};
+use crate::kinds::{declared_kind, own_kind, recursive_kind, reference_kind};
 use crate::resources::{Resource, identity};
 use crate::schema::{change_of, identifier, own_dialect};
 use js_doc::{Doc, Items, Members, Memory, Pointer};
@@ -100,7 +100,11 @@ fn schema_fault(
                 Some(below) => reference_kind(alloc, resources, &below, siblings.get("$ref"))?,
                 None => reference_kind(alloc, resources, base, siblings.get("$ref"))?,
             };
-            at_keyword(alloc, "$ref", kind)
+            let found = at_keyword(alloc, "$ref", kind)?;
+            if found.is_some() {
+                return Ok(found);
+            }
+            at_keyword(alloc, "$recursiveRef", recursive_kind(own, siblings))
         }
     }
 }

@@ -2,7 +2,8 @@
 ghost use Rattle.std.specs.Prelude.{◌≡◌, IfOk, is_none, map, option_map, option_and_then};
 ghost use Rattle.js_doc.specs.Seen.{value_of};
 ghost use Rattle.js_upgrade.specs.Fault.{declared_kind, dialect_kind, identifier_kind, joined_kind, no_dialect};
-ghost use Rattle.js_upgrade.specs.Fault.{own_kind, part_at, reference_kind, target, target_kind, unnamed};
+ghost use Rattle.js_upgrade.specs.Fault.{own_kind, part_at, recursive_kind, reference_kind, target, target_kind};
+ghost use Rattle.js_upgrade.specs.Fault.{unnamed};
 ghost use Rattle.js_upgrade.specs.Seen.{resource_of};
 
 use crate::dialect::Dialect;
@@ -44,6 +45,19 @@ pub(crate) fn no_dialect(uri: &Doc) -> UpgradeFaultKind
     match uri {
         Doc::Text(_) => UpgradeFaultKind::UnknownDialect,
         _ => UpgradeFaultKind::BadKeyword,
+    }
+}
+
+/// Of the schema's `$recursiveRef`, which isn't followed.
+pub(crate) fn recursive_kind(own: Dialect, siblings: &Members) -> Option<UpgradeFaultKind>
+    ensures { result ≡ recursive_kind own siblings.now }
+{
+    match own {
+        Dialect::Draft2019 => match siblings.get("$recursiveRef") {
+            Some(_) => Some(UpgradeFaultKind::BadReference),
+            None => None,
+        },
+        _ => None,
     }
 }
 
