@@ -1,0 +1,20 @@
+use Rattle.std.proofs.Common.{◌≡◌, IfErr, inl, refl}
+use Rattle.std.proofs.lemmas.Result.{err_from_is_err_and}
+use Rattle.js_output.specs.declared.fault.Fault.TheVariants as fault
+use Rattle.js_upgrade.specs.Documents.{Sources}
+use Rattle.js_upgrade.specs.Fault.{no_memory}
+use Rattle.jschema_c.specs.Upgrading.{RefusesSources}
+use Rattle.jschema_c.proofs.upgrading.upgraded_bundle.Goals as goal
+
+memory : (all : Sources) → RefusesSources all fault.Memory
+memory all = (no_memory, inl refl, refl)
+
+pub returns-in_err-sources-clause-err : goal.returns-in_err-sources-clause-err
+returns-in_err-sources-clause-err c =
+    let p = err_from_is_err_and c.from_residual.result c.from_residual.ensures.1 in
+    rw (p.1, p.2) (memory _)
+
+pub returns-in_err-with_roots-in-Ok-clause-err : goal.returns-in_err-with_roots-in-Ok-clause-err
+returns-in_err-with_roots-in-Ok-clause-err c =
+    let p = err_from_is_err_and c.from_residual-in_err-with_roots.result c.from_residual-in_err-with_roots.ensures.1 in
+    rw (p.1, p.2) (memory _)
