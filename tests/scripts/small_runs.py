@@ -69,6 +69,9 @@ RUN_BY = {
     "tools/build-wasm": Step("bindings/javascript/test --build"),
     "(cd bindings/javascript && npm pack)": Step("bindings/javascript/test --build"),
     "tools/install ~/.local": Step("tests/scripts/test_install"),
+    "jschema-upgrade https://example.com/person old/person.json >person.json": Step("tests/upgrade/run"),
+    "jschema-upgrade --default-dialect draft-07 --into new urn:person old/person.json urn:people old/people.json":
+        Step("tests/upgrade/run"),
     "pip install ./bindings/python": Step("bindings/python/test"),
     "pip install './bindings/python[yaml]'": Step("bindings/python/test"),
     "PYTHONPATH=bindings/python python3 examples/dask_validate.py --schema examples/person.schema.json --workers 2 "
