@@ -21,6 +21,8 @@ export function explain(refused, text, uri, limits = undefined) {
   } else if (refused.kind === "Unresolved") {
     const wanted = refused.place === undefined ? uri : referenceAt(text, refused.place, uri);
     if (wanted !== undefined) refused.meaning = `no schema has the URI ${wanted}; give its document too`;
+  } else if (refused.kind === "BadReference" && refused.place?.endsWith("/$recursiveRef")) {
+    refused.meaning = "$recursiveRef of 2019-09 isn't followed";
   }
   return refused;
 }
