@@ -1,5 +1,5 @@
-//! JSON values whose numbers are integers in plain digits, read from bytes and written to text; JSON Pointers, and where
-//! in a text the values at pointers stand.
+//! JSON values whose numbers are integers in plain digits, read from bytes and written to text; JSON Pointers, and
+//! where in a text the values at pointers stand.
 #![tactic(auto)]
 
 mod bytes_out;

@@ -50,7 +50,8 @@ convert_members-push-requires t c =
     let left = c.next.new.self in
     let all : c.args.map.entries ≡ done ++ e ∷ left = l.invariant.1 ∙ ap (λ es. done ++ es) c.in-Some.ensures.steps in
     let above = above_found done e left l.members l.invariant.2
-    (subst (λ es. IsStrictlySortedBy string_cmp (keys_of es)) all c.into_iter-name-iterator.ensures.into_iter_gives.5) in
+    (subst (λ es. IsStrictlySortedBy string_cmp (keys_of es)) all
+    c.into_iter-name-iterator.ensures.into_iter_gives.5) in
     subst (λ k. IsAboveAll k l.members) (sym c.new.ensures) above
 
 pub convert_members-loop-name-preserved : goal.convert_members-loop-name-preserved

@@ -25,4 +25,5 @@ returns c =
     let given = gives_string c.args.json.now text (token_of c.in-Some.token) c.next.new.self
     (sym c.in_ok-reader.ensures.ok ∙ c.in-Some.ensures.value) e in
     let read = sym c.string_in.ensures ∙ ap (option_map (λ s. s.now)) c.in-Some-string_in.is in
-    is ∙ same_read c.in-Some-string_in.text.now text (string_in (token_of c.in-Some.token)) read given) c.from_str.ensures
+    is ∙ same_read c.in-Some-string_in.text.now text (string_in (token_of c.in-Some.token)) read given)
+    c.from_str.ensures
