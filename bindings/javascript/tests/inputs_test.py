@@ -20,7 +20,8 @@ class Folders(Bounded, inputs.Folders):
 
 
 class Paths(Bounded, inputs.Paths):
-    pass
+    # There is no lint.
+    test_lint_of_a_name_with_a_hyphen = None
 
 
 class Bounds(Bounded, inputs.Bounds):

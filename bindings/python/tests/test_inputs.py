@@ -101,6 +101,12 @@ class Paths(Inputs):
             self.write(name, '{"name": "A"}')
             with self.subTest(name):
                 self.judge(["data/ada.json", "--", name, "data/ada.json"], "", "3 valid, 0 invalid\n", 0)
+
+    def test_lint_of_a_name_with_a_hyphen(self):
+        """After `--` come files."""
+        for name in ("-x.json", "--", "--jobs"):
+            self.write(name, '{"name": "A"}')
+            with self.subTest(name):
                 out, _, status = self.run_inside("lint", "--format", "short", "--", name)
                 self.assertEqual((out.split(" ")[0], status), (f"{name}:1:2:", 0))
 
