@@ -79,9 +79,10 @@ def packages(release, triplet):
     def here(files):
         return tuple(placed(it, triplet) for it in files)
 
-    program, library = release.programs["jschema"], release.library / tree.SONAME
+    library = release.library / tree.SONAME
+    needed = max((elf.glibc(it) for it in release.programs.values()), key=lambda it: [*map(int, it.split("."))])
     yield Package("jschema", "utils", "proved validator for JSON Schema 2020-12",
-                  "This package has the program.", f"libc6 (>= {elf.glibc(program)})", here(tree.programs(release)))
+                  "This package has the programs.", f"libc6 (>= {needed})", here(tree.programs(release)))
     yield Package("libjschema0", "libs", "proved validator for JSON Schema 2020-12 (library)",
                   "This package has the shared library.", f"libc6 (>= {elf.glibc(library)})",
                   here(tree.shared(release)), "Multi-Arch: same\n",

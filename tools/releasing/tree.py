@@ -7,7 +7,7 @@ from pathlib import Path
 from .files import File, read, text
 
 # Each program with its manual page and completions, as they stand in tools/installed.
-PROGRAMS = ("jschema",)
+PROGRAMS = ("jschema", "jschema-upgrade")
 SONAME = "libjschema.so.0"
 
 
