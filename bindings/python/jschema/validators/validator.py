@@ -25,7 +25,7 @@ class Validator:
     mapping of URIs to schemas. Raises `SchemaError` for a schema that the validator refuses, also for a reference that
     leads nowhere.
 
-    A schema of an older draft (draft-03 to 2019-09) gives the verdict of its draft. One that names no dialect is of the
+    A schema of an older draft (draft-03 to 2019-09) is upgraded to 2020-12. One that names no dialect is of the
     `default_dialect`, as for `Schemas`.
 
     Each call raises `Refused` for an instance that has no verdict, and what those of `Schemas` raise otherwise. It may
