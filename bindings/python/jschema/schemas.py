@@ -28,10 +28,10 @@ class Schemas:
     library.
 
     Documents of older drafts, from draft-03 to 2019-09, are upgraded to 2020-12 (docs/MIGRATING.md says where the
-    verdict differs); `upgrade=False` refuses them. A document that names no dialect is of the `default_dialect`: `draft-03`,
-    `draft-04`, `draft-06`, `draft-07`, `2019-09` or `2020-12`, or the URI of one. Locations in errors and outputs are
-    those of the upgraded schemas. Meta-schemas that documents refer to are taken from pip's `jsonschema-specifications`
-    or Debian's `python3-jsonschema`, where that is installed.
+    verdict differs); `upgrade=False` refuses them. A document that names no dialect is of the `default_dialect`:
+    `draft-03`, `draft-04`, `draft-06`, `draft-07`, `2019-09` or `2020-12`, or the URI of one. Locations in errors and
+    outputs are those of the upgraded schemas. Meta-schemas that documents refer to are taken from pip's
+    `jsonschema-specifications` or Debian's `python3-jsonschema`, where that is installed.
 
     Each call raises `Refused` for an input that has no verdict, `MemoryError` if memory runs out, `EngineError` if the
     engine fails otherwise, `TypeError` for a value that JSON doesn't have, and `ValueError` after `close`.
