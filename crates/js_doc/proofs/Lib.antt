@@ -28,4 +28,5 @@ pub mod TapeNodes
 pub mod TokenNumbers
 pub mod PositionsFound
 pub mod TokenStarts
+pub mod ValueEnds
 pub mod SpotTable

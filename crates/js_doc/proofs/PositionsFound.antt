@@ -17,6 +17,7 @@ use Rattle.json.specs.declared.tape.Node.TheVariants.{Number, Bool, Null}
 use Rattle.js_doc.specs.Pointer.{Tokens}
 use Rattle.json.proofs.Found.{not_empty}
 use Rattle.js_doc.specs.Positions.{Placed, is_key, name_start, placed, spot_at, spots, token_start}
+use Rattle.js_doc.specs.Positions.{value_end}
 
 pub some_of : {A : Type 0} (o : Option A) → IsSome o → (a : A) × (o ≡ Some a)
 some_of None h = absurd (false≢true h)
@@ -52,15 +53,16 @@ no_name ns (suc n) text e h l never =
 
 -- ---- with lines and columns
 
+abbrev all_of : List ℕ → Option Placed → Option ((ℕ × (ℕ × ℕ)) × (ℕ × Option (ℕ × (ℕ × ℕ))))
+all_of text o =
+    option_map (λ (p : ℕ × (ℕ × Option ℕ)). (spot_at text p.0, (p.1.0, option_map (spot_at text) p.1.1)))
+    (option_map (λ (p : Placed). (token_start p.0 text, (value_end p.0 p.1 text, name_start p.0 text))) o)
+
 pub spots_there : (text : List ℕ) (pointer : Tokens) (at : ℕ) (v : Json)
     → option_and_then (placed pointer 0) (document text) ≡ Some (at, v) → spots text pointer
-    ≡ Some (spot_at text (token_start at text), option_map (spot_at text) (name_start at text))
-spots_there text pointer at v e =
-    ap (λ o. option_map (λ (p : ℕ × Option ℕ). (spot_at text p.0, option_map (spot_at text) p.1))
-    (option_map (λ (p : Placed). (token_start p.0 text, name_start p.0 text)) o)) e
+    ≡ Some (spot_at text (token_start at text), (value_end at v text, option_map (spot_at text) (name_start at text)))
+spots_there text pointer at v e = ap (all_of text) e
 
 pub spots_nowhere : (text : List ℕ) (pointer : Tokens) → option_and_then (placed pointer 0) (document text) ≡ None
     → spots text pointer ≡ None
-spots_nowhere text pointer e =
-    ap (λ o. option_map (λ (p : ℕ × Option ℕ). (spot_at text p.0, option_map (spot_at text) p.1))
-    (option_map (λ (p : Placed). (token_start p.0 text, name_start p.0 text)) o)) e
+spots_nowhere text pointer e = ap (all_of text) e

@@ -66,7 +66,26 @@ bytes_before m n (x ∷ xs) =
 abbrev pub token_start : ℕ → List ℕ → ℕ
 token_start = bytes_before between
 
--- ---- both together
+-- ---- where values end
+
+-- what may stand between a value and the token behind it
+abbrev pub is_separator : ℕ → Bool
+is_separator x = is_space x || x == ascii.comma
+
+abbrev pub are_separators : List ℕ → Bool
+are_separators [] = true
+are_separators (x ∷ xs) = is_separator x && are_separators xs
+
+-- the length without the separators at the end
+abbrev pub trimmed_length : List ℕ → ℕ
+trimmed_length [] = 0
+trimmed_length (x ∷ xs) = if are_separators (x ∷ xs) then 0 else suc (trimmed_length xs)
+
+-- how many bytes stand before the end of the value with n tokens before it
+abbrev pub value_end : ℕ → Json → List ℕ → ℕ
+value_end n v text = trimmed_length (take (token_start (n + length (json_tokens v)) text) text)
+
+-- ---- all together
 
 abbrev pub is_key : token.Token → Bool
 is_key token.begin_object = false
@@ -85,10 +104,11 @@ abbrev pub name_start : ℕ → List ℕ → Option ℕ
 name_start zero text = None
 name_start (suc n) text = if is_key (get_or (tokens text) n token.null) then Some (token_start n text) else None
 
--- the offsets of the value at the pointer and of its member's name
-abbrev pub position : List ℕ → Tokens → Option (ℕ × Option ℕ)
+-- where the value at the pointer begins and ends, and where its member's name begins
+abbrev pub position : List ℕ → Tokens → Option (ℕ × (ℕ × Option ℕ))
 position text pointer =
-    option_map (λ p. (token_start p.0 text, name_start p.0 text)) (option_and_then (placed pointer 0) (document text))
+    option_map (λ p. (token_start p.0 text, (value_end p.0 p.1 text, name_start p.0 text)))
+    (option_and_then (placed pointer 0) (document text))
 
 -- from the offset on the text begins with the value at the pointer
 abbrev pub BeginsAt : List ℕ → Tokens → ℕ → Type 0
@@ -117,7 +137,7 @@ line_and_column_at offset text = line_and_column_past 1 1 (take offset text)
 abbrev pub spot_at : List ℕ → ℕ → ℕ × (ℕ × ℕ)
 spot_at text offset = (offset, line_and_column_at offset text)
 
--- `position`, with lines and columns
-abbrev pub spots : List ℕ → Tokens → Option ((ℕ × (ℕ × ℕ)) × Option (ℕ × (ℕ × ℕ)))
+-- `position`, with the lines and columns of what begins
+abbrev pub spots : List ℕ → Tokens → Option ((ℕ × (ℕ × ℕ)) × (ℕ × Option (ℕ × (ℕ × ℕ))))
 spots text pointer =
-    option_map (λ p. (spot_at text p.0, option_map (spot_at text) p.1)) (position text pointer)
+    option_map (λ p. (spot_at text p.0, (p.1.0, option_map (spot_at text) p.1.1))) (position text pointer)

@@ -6,5 +6,5 @@ use Rattle.js_doc.specs.declared.positions.batch.Spots.{Spots}
 abbrev pub spot_seen : Spot → ℕ × (ℕ × ℕ)
 spot_seen s = (s.offset, (s.line, s.column))
 
-abbrev pub spots_seen : Option Spots → Option ((ℕ × (ℕ × ℕ)) × Option (ℕ × (ℕ × ℕ)))
-spots_seen = option_map (λ s. (spot_seen s.value, option_map spot_seen s.name))
+abbrev pub spots_seen : Option Spots → Option ((ℕ × (ℕ × ℕ)) × (ℕ × Option (ℕ × (ℕ × ℕ))))
+spots_seen = option_map (λ s. (spot_seen s.value, (s.end, option_map spot_seen s.name)))

@@ -1,8 +1,10 @@
 //! Where the value at a pointer stands in a text.
-ghost use Rattle.std.specs.Prelude.{◌≡◌, ◌<◌, IfOk, IfSome, IsUtf8, None, Some, length, map, option_map};
+ghost use Rattle.std.specs.Prelude.{◌≡◌, ◌<◌, IfOk, IfSome, IsUtf8, None, Some, drop, length, map, option_map};
+ghost use Rattle.json.specs.Find.{BeginsWith};
+ghost use Rattle.json.specs.Json.{Json};
 ghost use Rattle.json.specs.Lex.{tokens};
-ghost use Rattle.json.specs.Tape.{node_token};
-ghost use Rattle.js_doc.specs.Positions.{BeginsAt, name_start, position, token_start};
+ghost use Rattle.json.specs.Tape.{Linked, node_token};
+ghost use Rattle.js_doc.specs.Positions.{BeginsAt, name_start, position, token_start, value_end};
 
 use crate::memory::Memory;
 use crate::pointer::Pointer;
@@ -11,14 +13,16 @@ use simdutf8::compat::from_utf8;
 use std::alloc::Global;
 
 mod batch;
+mod ends;
 mod lines;
 mod nodes;
 mod spots;
 mod starts;
 
 pub use batch::{Spots, positions_of};
+use ends::trimmed_length;
 pub use lines::line_and_column;
-use nodes::placed;
+use nodes::{after, placed};
 pub use spots::Spot;
 use starts::token_start;
 
@@ -27,6 +31,8 @@ use starts::token_start;
 pub struct Position {
     /// The offset of the value's first byte.
     pub offset: usize,
+    /// The offset of the byte after its last.
+    pub end: usize,
     /// The offset of the first byte of the member's name, where the value is a member's.
     pub name: Option<usize>,
 }
@@ -43,7 +49,7 @@ pub fn position_of(
     pointer: &Pointer,
 ) -> Result<Option<Position>, Memory>
     ensures found { IfOk result (λ o. IfSome o (λ p. IsUtf8 bytes.now
-        × (position bytes.now pointer.now ≡ Some (p.offset, p.name)))) }
+        × (position bytes.now pointer.now ≡ Some (p.offset, (p.end, p.name))))) }
     ensures begins { IfOk result (λ o. IfSome o (λ p. BeginsAt bytes.now pointer.now p.offset)) }
     ensures none { IfOk result
         (λ o. o ≡ None → IsUtf8 bytes.now → position bytes.now pointer.now ≡ None) }
@@ -56,7 +62,7 @@ pub fn position_of(
 
 fn position_in(alloc: Global, text: &str, pointer: &Pointer) -> Result<Option<Position>, Memory>
     ensures is { IfOk result
-        (λ o. option_map (λ p. (p.offset, p.name)) o ≡ position text.now pointer.now) }
+        (λ o. option_map (λ p. (p.offset, (p.end, p.name))) o ≡ position text.now pointer.now) }
     ensures begins { IfOk result (λ o. IfSome o (λ p. BeginsAt text.now pointer.now p.offset)) }
 {
     let mut scratch = Scratch::new(alloc);
@@ -69,10 +75,18 @@ fn position_in(alloc: Global, text: &str, pointer: &Pointer) -> Result<Option<Po
     match placed(nodes, pointer.tokens()) {
         Some(at) => Ok(Some(Position {
             offset: token_start(text.as_bytes(), at),
+            end: value_end(text.as_bytes(), nodes, at),
             name: name_start(text, nodes, at),
         })),
         None => Ok(None),
     }
+}
+
+fn value_end(text: &[u8], nodes: &[Node<'_>], at: usize) -> usize
+    requires { (at < length nodes.now) × Linked (map node_token nodes.now) 0 nodes.now }
+    ensures { (j : Json) → BeginsWith (drop at (map node_token nodes.now)) j → result ≡ value_end at j text.now }
+{
+    trimmed_length(text, token_start(text, after(nodes, at)))
 }
 
 fn name_start(text: &str, nodes: &[Node<'_>], at: usize) -> Option<usize>

@@ -1,16 +1,19 @@
 //! Where the values at many pointers stand in a text.
-ghost use Rattle.std.specs.Prelude.{◌≡◌, ◌≢◌, ◌<◌, IfOk, IfSome, IsUtf8, None, Some, length, map, option_map};
-ghost use Rattle.json.specs.Json.{document};
+ghost use Rattle.std.specs.Prelude.{◌≡◌, ◌≢◌, ◌<◌, IfOk, IfSome, IsUtf8, None, Some, drop, length, map};
+ghost use Rattle.std.specs.Prelude.{option_map};
+ghost use Rattle.json.specs.Find.{BeginsWith};
+ghost use Rattle.json.specs.Json.{Json, document};
 ghost use Rattle.json.specs.Lex.{tokens};
-ghost use Rattle.json.specs.Tape.{node_token};
-ghost use Rattle.js_doc.specs.Positions.{name_start, spot_at, spots};
+ghost use Rattle.json.specs.Tape.{Linked, node_token};
+ghost use Rattle.js_doc.specs.Positions.{name_start, spot_at, spots, value_end};
 ghost use Rattle.js_doc.specs.Spots.{spot_seen, spots_seen};
 ghost use Rattle.js_doc.specs.code.Nodes.{IsTape};
 ghost use Rattle.js_doc.specs.code.SpotTable.{AreAllBegun};
 
+use super::ends::trimmed_length;
 use super::name_token;
-use super::nodes::placed;
-use super::spots::{Spot, spot_of, spots};
+use super::nodes::{after, placed};
+use super::spots::{Spot, spot_of, spots, start_of};
 use crate::memory::Memory;
 use crate::pointer::Pointer;
 use json::{Error, Node, Scratch, Tape};
@@ -22,6 +25,8 @@ use std::alloc::Global;
 pub struct Spots {
     /// The value's first byte.
     pub value: Spot,
+    /// The offset of the byte after its last.
+    pub end: usize,
     /// The first byte of the member's name, where the value is a member's.
     pub name: Option<Spot>,
 }
@@ -90,10 +95,19 @@ fn found(text: &str, nodes: &[Node<'_>], begun: &[Spot], pointer: &Pointer) -> O
     match placed(nodes, pointer.tokens()) {
         Some(at) => Some(Spots {
             value: spot_of(text, begun, at),
+            end: value_end(text, nodes, begun, at),
             name: name_spot(text, nodes, begun, at),
         }),
         None => None,
     }
+}
+
+fn value_end(text: &str, nodes: &[Node<'_>], begun: &[Spot], at: usize) -> usize
+    requires { (at < length nodes.now) × Linked (map node_token nodes.now) 0 nodes.now
+        × AreAllBegun text.now begun.now }
+    ensures { (j : Json) → BeginsWith (drop at (map node_token nodes.now)) j → result ≡ value_end at j text.now }
+{
+    trimmed_length(text.as_bytes(), start_of(text, begun, after(nodes, at)))
 }
 
 fn name_spot(text: &str, nodes: &[Node<'_>], begun: &[Spot], at: usize) -> Option<Spot>

@@ -94,8 +94,8 @@ fn is_end(node: &Node<'_>) -> bool
     matches!(node, Node::EndArray)
 }
 
-// The number of the token behind the value that begins at the node.
-fn after(nodes: &[Node<'_>], at: usize) -> usize
+/// The number of the token behind the value that begins at the node.
+pub(crate) fn after(nodes: &[Node<'_>], at: usize) -> usize
     requires { (at < length nodes.now) × Linked (map node_token nodes.now) 0 nodes.now }
     ensures value { (depth : ℕ) (j : Json) (rest : List JsonToken)
         → value depth (drop at (map node_token nodes.now)) ≡ Some (j, rest)

@@ -79,3 +79,14 @@ pub(crate) fn spot_of(text: &str, spots: &[Spot], number: usize) -> Spot
         column,
     }
 }
+
+/// How many bytes stand before the token that has `number` tokens before it: all of them if there is none.
+pub(crate) fn start_of(text: &str, spots: &[Spot], number: usize) -> usize
+    requires { AreAllBegun text.now spots.now }
+    ensures { result ≡ token_start number text.now }
+{
+    match spots.get(number) {
+        Some(spot) => spot.offset,
+        None => text.len(),
+    }
+}

@@ -84,7 +84,7 @@ fn is_mark(byte: u8) -> bool
         | (byte == b',')
 }
 
-fn is_space(byte: u8) -> bool
+pub(crate) fn is_space(byte: u8) -> bool
     ensures { result ≡ is_blank byte }
 {
     (byte == b' ') | (byte == b'\t') | (byte == b'\n') | (byte == b'\r')

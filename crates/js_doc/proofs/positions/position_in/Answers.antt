@@ -2,11 +2,21 @@ use Rattle.std.proofs.Common.{◌≡◌, map, drop, option_and_then, sym, ap, �
 use Rattle.std.proofs.lemmas.List.{length-map}
 use Rattle.json.specs.Find.{BeginsWith}
 use Rattle.json.specs.Lex.{tokens}
-use Rattle.json.specs.Tape.{node_token}
+use Rattle.json.specs.Tape.{Linked, node_token}
 use Rattle.js_doc.specs.Positions.{placed, token_start}
 use Rattle.js_doc.proofs.PositionsFound.{some_of, within}
 use Rattle.js_doc.proofs.TokenStarts.{begins_there}
 use Rattle.js_doc.proofs.positions.position_in.Goals as goal
+
+pub value_end-requires : goal.value_end-requires
+value_end-requires c =
+    let ns = c.nodes-nodes.result.now in let all = map node_token ns in let at = c.in-Some.at in
+    let d = some_of _ c.in-Ok.ensures.ok.1 in
+    let begins = subst (λ ts. BeginsWith ts d.0) (sym c.nodes-nodes.ensures.tokens) (c.in-Ok.ensures.value d.0 d.1) in
+    let p = c.in-Some.ensures d.0 begins in (
+      omega (arith, within all at p.0 p.2, length-map ns node_token),
+      subst (λ ts. Linked ts 0 ns) (sym c.nodes-nodes.ensures.tokens) c.nodes-nodes.ensures.links,
+    )
 
 pub name_start-requires : goal.name_start-requires
 name_start-requires c =
