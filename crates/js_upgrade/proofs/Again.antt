@@ -15,7 +15,8 @@ use Rattle.js_upgrade.specs.Dialect.{is_before, version_named}
 use Rattle.js_upgrade.specs.Keyword.{applicator_change, assertion_change, change_in, core_change}
 use Rattle.js_upgrade.specs.Laws.{TwiceIsOnce}
 use Rattle.js_upgrade.specs.Upgrade.{becomes, declared, dialect_found, dialect_in, dialect_or, document_dialect}
-use Rattle.js_upgrade.specs.Upgrade.{document_upgraded, holding_in, holding_of, identifier, identifies, is_identifier}
+use Rattle.js_upgrade.specs.Schema.{is_identifier}
+use Rattle.js_upgrade.specs.Upgrade.{document_upgraded, holding_in, holding_of, identifier, identifies}
 use Rattle.js_upgrade.specs.Upgrade.{items_upgraded, keywords_upgraded, members_upgraded, own_dialect, root_upgraded}
 use Rattle.js_upgrade.specs.Upgrade.{schema_uri, upgraded, with_schema_uri}
 use Rattle.js_upgrade.specs.declared.dialect.Dialect.{Dialect}
@@ -57,7 +58,7 @@ get_kept held d k h (member name v ms) =
 
 -- ---- so is the dialect
 
-abbrev in_2020 : Text → Holding
+abbrev pub in_2020 : Text → Holding
 in_2020 name = holding_of (change_in Draft2020 name)
 
 schema_held : in_2020 (codes "$schema") ≡ Nothing
@@ -113,10 +114,10 @@ upgraded_members_ascend held d ms s =
     subst (λ ns. IsAscending (members_upgraded held d ns)) (members-member_list ms)
     (names_ascend held d (member_list ms) (ascending ms s))
 
-abbrev parts : Dialect → Members → Named
+abbrev pub parts : Dialect → Members → Named
 parts own ms = members_upgraded (holding_in own (member_list ms)) own ms
 
-abbrev made : Dialect → Members → Named
+abbrev pub made : Dialect → Members → Named
 made own ms = keywords_upgraded own (member_list ms) (parts own ms)
 
 made_stay : (ms : Members) → NamesAscendInMembers ms → made Draft2020 ms ≡ parts Draft2020 ms
@@ -154,7 +155,7 @@ schema_current d ms s e =
     current_made (own_dialect d (member_list ms)) ms s (again_by d (member_list ms) (declared (member_list ms))) e
 
 mutual
-  current : (h : Holding) (d : Dialect) (v : Value) → NamesAscend v → IsCurrent h (upgraded h d v)
+  pub current : (h : Holding) (d : Dialect) (v : Value) → NamesAscend v → IsCurrent h (upgraded h d v)
   current One d (object ms) s =
       schema_current d ms s (members_current (holding_in (own_dialect d (member_list ms)) (member_list ms))
       (own_dialect d (member_list ms)) ms s)
@@ -209,14 +210,14 @@ uri_names : dialect_in schema_uri ≡ Some Draft2020
 unfolding version_named
 uri_names = refl
 
-abbrev with_uri : Members → Named
+abbrev pub with_uri : Members → Named
 with_uri ms = put (codes "$schema") schema_uri (member_list ms)
 
 uri_got : (ms : Members) → get (codes "$schema") (member_list (members (with_uri ms))) ≡ Some schema_uri
 uri_got ms = ap (get (codes "$schema")) (member_list-members (with_uri ms))
     ∙ get-put (codes "$schema") schema_uri (member_list ms)
 
-uri_current : (ms : Members) → IsCurrent One (object ms) → IsCurrent One (with_schema_uri (object ms))
+pub uri_current : (ms : Members) → IsCurrent One (object ms) → IsCurrent One (with_schema_uri (object ms))
 unfolding core_change applicator_change assertion_change
 uri_current ms c =
     let ns = member_list (members (with_uri ms)) in (
@@ -227,18 +228,18 @@ uri_current ms c =
           (each_current in_2020 ms c.1)),
     )
 
-uri_declared : (assumed : Dialect) (ms : Members)
+pub uri_declared : (assumed : Dialect) (ms : Members)
     → document_dialect assumed (with_schema_uri (object ms)) ≡ Some Draft2020
 uri_declared assumed ms = ap (dialect_found assumed) (uri_got ms) ∙ uri_names
 
-own_by : (assumed : Dialect) (siblings : Named) (found : Option Value)
+pub own_by : (assumed : Dialect) (siblings : Named) (found : Option Value)
     → dialect_found assumed found ≡ Some Draft2020
     → dialect_or Draft2020 siblings (option_and_then dialect_in found) ≡ Draft2020
 own_by assumed siblings None is = refl
 own_by assumed siblings (Some v) is =
     ap (dialect_or Draft2020 siblings) is ∙ either_way (identifies Draft2020 siblings)
 
-same_declared : (assumed : Dialect) (ms : Members) → NamesAscendInMembers ms
+pub same_declared : (assumed : Dialect) (ms : Members) → NamesAscendInMembers ms
     → document_dialect assumed (object ms) ≡ Some Draft2020
     → document_dialect assumed (upgraded One Draft2020 (object ms)) ≡ Some Draft2020
 same_declared assumed ms s is =

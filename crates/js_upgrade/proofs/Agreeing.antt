@@ -19,6 +19,7 @@ use Rattle.js_upgrade.specs.declared.keyword.Change.TheVariants.{HoldsOne, Holds
 use Rattle.js_upgrade.specs.declared.keyword.Change.TheVariants.{Goes, Identifier, Definitions, Items, AdditionalItems}
 use Rattle.js_upgrade.specs.declared.keyword.Change.TheVariants.{Dependencies, Minimum, Maximum, Divisor, Types}
 use Rattle.js_upgrade.specs.declared.keyword.Change.TheVariants.{Disallowed, Extended, Properties}
+use Rattle.js_upgrade.specs.declared.keyword.Change.TheVariants.{Contains, RecursiveReference, RecursiveAnchor}
 use Rattle.js_upgrade.specs.declared.holding.Holding.{Holding}
 use Rattle.js_upgrade.specs.declared.holding.Holding.TheVariants.{One, Listed, Named as ByName, OneOrListed, Nothing}
 use Rattle.js_upgrade.proofs.PlainChanges.{is_plain}
@@ -203,6 +204,9 @@ beside_plain Types e = absurd (cc)
 beside_plain Disallowed e = absurd (cc)
 beside_plain Extended e = absurd (cc)
 beside_plain Properties e = absurd (cc)
+beside_plain Contains e = absurd (cc)
+beside_plain RecursiveReference e = absurd (cc)
+beside_plain RecursiveAnchor e = absurd (cc)
 
 fit_by : (hidden : Bool) (d : Dialect) (name : Text) (v : Value)
     → is_plain (cond hidden (beside_reference (change_in d name)) (change_in d name)) ≡ true

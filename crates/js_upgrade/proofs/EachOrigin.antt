@@ -1,5 +1,5 @@
 -- Each keyword that a keyword becomes comes from it.
-use Rattle.std.proofs.Common.{◌≡◌, List, [], ◌∷◌, Bool, true, false, Some, cond, refl}
+use Rattle.std.proofs.Common.{◌≡◌, List, [], ◌∷◌, Bool, true, false, ◌&&◌, Some, cond, refl}
 use Rattle.std.proofs.Common.{map, codes, bytes_eq}
 use Rattle.std.specs.List.{after_first, before_first, list_any}
 use Rattle.std.proofs.lemmas.Bool.{and_parts}
@@ -12,13 +12,14 @@ use Rattle.js_upgrade.specs.Schema.{alternative, alternatives_upgraded, dependen
 use Rattle.js_upgrade.specs.Schema.{dependent_schema, extends_upgraded, gathered, identifier_upgraded, is_any, is_list}
 use Rattle.js_upgrade.specs.Schema.{is_mark, is_name, is_simple_type, is_true, list_or_schema_upgraded, members_found}
 use Rattle.js_upgrade.specs.Schema.{one, required_names, some_items, some_members, some_name, some_uri}
-use Rattle.js_upgrade.specs.Schema.{types_upgraded, upgraded_by}
+use Rattle.js_upgrade.specs.Schema.{holder, is_identifier, recursive_name, types_upgraded, upgraded_by}
 use Rattle.js_upgrade.specs.declared.keyword.Change.{Change}
 use Rattle.js_upgrade.specs.declared.keyword.Change.TheVariants.{Stays, Asserts, Refers}
 use Rattle.js_upgrade.specs.declared.keyword.Change.TheVariants.{HoldsOne, HoldsList, HoldsNamed}
 use Rattle.js_upgrade.specs.declared.keyword.Change.TheVariants.{Goes, Identifier, Definitions, Items, AdditionalItems}
 use Rattle.js_upgrade.specs.declared.keyword.Change.TheVariants.{Dependencies, Minimum, Maximum, Divisor, Types}
 use Rattle.js_upgrade.specs.declared.keyword.Change.TheVariants.{Disallowed, Extended, Properties}
+use Rattle.js_upgrade.specs.declared.keyword.Change.TheVariants.{Contains, RecursiveReference, RecursiveAnchor}
 use Rattle.js_upgrade.proofs.Each.{Each, each_append}
 use Rattle.js_upgrade.proofs.Origins.{all_from, outputs}
 use Rattle.js_upgrade.proofs.PlainChanges.{is_plain}
@@ -131,42 +132,49 @@ module _ (f : Text → Text) (k : Text) where
 
   pub each_from : (siblings : Named) (listed : Bool) (v : Value) → is_list (get (codes "items") siblings) ≡ listed
       → (change : Change) → all_from f k (outputs listed change) ≡ true → (is_plain change ≡ true → f k ≡ k)
-      → (change ≡ Items → is_list (Some v) ≡ listed) → AllFrom (upgraded_by siblings k v change)
-  each_from siblings listed v is Stays e plain same = (plain refl, tt)
-  each_from siblings listed v is Asserts e plain same = (plain refl, tt)
-  each_from siblings listed v is Refers e plain same = (plain refl, tt)
-  each_from siblings listed v is HoldsOne e plain same = (plain refl, tt)
-  each_from siblings listed v is HoldsList e plain same = (plain refl, tt)
-  each_from siblings listed v is HoldsNamed e plain same = (plain refl, tt)
-  each_from siblings listed v is Goes e plain same = tt
-  each_from siblings listed v is Identifier e plain same =
+      → (change ≡ Items → is_list (Some v) ≡ listed) → (change ≡ Contains → f (holder siblings) ≡ k)
+      → AllFrom (upgraded_by siblings k v change)
+  each_from siblings listed v is Stays e plain same held = (plain refl, tt)
+  each_from siblings listed v is Asserts e plain same held = (plain refl, tt)
+  each_from siblings listed v is Refers e plain same held = (plain refl, tt)
+  each_from siblings listed v is HoldsOne e plain same held = (plain refl, tt)
+  each_from siblings listed v is HoldsList e plain same held = (plain refl, tt)
+  each_from siblings listed v is HoldsNamed e plain same held = (plain refl, tt)
+  each_from siblings listed v is Goes e plain same held = tt
+  each_from siblings listed v is Identifier e plain same held =
       identifier_from v (from_first f k (codes "$id") (codes "$anchor" ∷ []) e)
       (from_second f k (codes "$id") (codes "$anchor") [] e)
-  each_from siblings listed v is Definitions e plain same = (from_first f k (codes "$defs") [] e, tt)
-  each_from siblings listed v is Items e plain same =
+  each_from siblings listed v is Definitions e plain same held = (from_first f k (codes "$defs") [] e, tt)
+  each_from siblings listed v is Items e plain same held =
       list_or_schema_from listed v (same refl)
       (from_first f k (cond listed (codes "prefixItems") (codes "items")) [] e)
-  each_from siblings listed v is AdditionalItems e plain same =
+  each_from siblings listed v is AdditionalItems e plain same held =
       behind_from listed (is_list (get (codes "items") siblings)) v is e
-  each_from siblings listed v is Dependencies e plain same =
+  each_from siblings listed v is Dependencies e plain same held =
       dependencies_from v (from_first f k (codes "dependentRequired") (codes "dependentSchemas" ∷ []) e)
       (from_second f k (codes "dependentRequired") (codes "dependentSchemas") [] e)
-  each_from siblings listed v is Minimum e plain same =
+  each_from siblings listed v is Minimum e plain same held =
       either_from (is_true (get (codes "exclusiveMinimum") siblings)) (codes "exclusiveMinimum") (codes "minimum") v
       (from_first f k (codes "exclusiveMinimum") (codes "minimum" ∷ []) e)
       (from_second f k (codes "exclusiveMinimum") (codes "minimum") [] e)
-  each_from siblings listed v is Maximum e plain same =
+  each_from siblings listed v is Maximum e plain same held =
       either_from (is_true (get (codes "exclusiveMaximum") siblings)) (codes "exclusiveMaximum") (codes "maximum") v
       (from_first f k (codes "exclusiveMaximum") (codes "maximum" ∷ []) e)
       (from_second f k (codes "exclusiveMaximum") (codes "maximum") [] e)
-  each_from siblings listed v is Divisor e plain same = (from_first f k (codes "multipleOf") [] e, tt)
-  each_from siblings listed v is Types e plain same =
+  each_from siblings listed v is Divisor e plain same held = (from_first f k (codes "multipleOf") [] e, tt)
+  each_from siblings listed v is Types e plain same held =
       types_from v (from_first f k (codes "type") (codes "anyOf" ∷ []) e)
       (from_second f k (codes "type") (codes "anyOf") [] e)
-  each_from siblings listed v is Disallowed e plain same = (from_first f k (codes "not") [] e, tt)
-  each_from siblings listed v is Extended e plain same = extends_from v (from_first f k (codes "allOf") [] e)
-  each_from siblings listed v is Properties e plain same = (
+  each_from siblings listed v is Disallowed e plain same held = (from_first f k (codes "not") [] e, tt)
+  each_from siblings listed v is Extended e plain same held = extends_from v (from_first f k (codes "allOf") [] e)
+  each_from siblings listed v is Properties e plain same held = (
     from_first f k (codes "properties") (codes "required" ∷ []) e,
     items_from (codes "required") (required_names (members_found (get (codes "properties") siblings)))
         (from_second f k (codes "properties") (codes "required") [] e),
   )
+  each_from siblings listed v is Contains e plain same held = (held refl, tt)
+  each_from siblings listed v is RecursiveReference e plain same held =
+      (from_first f k (codes "$dynamicRef") [] e, tt)
+  each_from siblings listed v is RecursiveAnchor e plain same held =
+      choice_from (is_true (Some v) && is_identifier (get (codes "$id") siblings)) (codes "$dynamicAnchor")
+      recursive_name (from_first f k (codes "$dynamicAnchor") [] e)

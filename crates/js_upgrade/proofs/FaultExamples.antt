@@ -10,7 +10,7 @@ use Rattle.url.specs.Parser.{leading_slashes, parse_body, parse_parts, parse_rel
 use Rattle.url.specs.Path.{dot_count, parse_segments, push_segment, shorten_path}
 use Rattle.url.specs.Scheme.{default_port, scheme_len, scheme_type}
 use Rattle.js_doc.specs.Pointer.{Tokens}
-use Rattle.js_doc.specs.Value.{Value, null, text, Named}
+use Rattle.js_doc.specs.Value.{Value, null, text, Text, Named}
 use Rattle.js_upgrade.specs.Dialect.{version_named}
 use Rattle.js_upgrade.specs.Fault.{Found, Kind, first_fault, source_fault}
 use Rattle.js_upgrade.specs.Keyword.{core_change, applicator_change, assertion_change}
@@ -75,16 +75,20 @@ unfolding core_change applicator_change assertion_change version_named printed w
     trim_c0_control_and_space parse_parts parse_url split_scheme default_port scheme_len scheme_type
 nowhere = refl
 
--- what 2019-09 follows dynamically; to draft-07 it is an unknown keyword
-abbrev recursive : Named
-recursive = (codes "$recursiveRef", text (codes "#")) ∷ []
+-- what 2019-09 follows dynamically is `#`; to draft-07 it is an unknown keyword
+abbrev recursive : Text → Named
+recursive t = (codes "$recursiveRef", text t) ∷ []
 
-followed_nowhere : source_fault References [] (source Draft2019 (codes "/s") recursive)
+followed : source_fault References [] (source Draft2019 (codes "/s") (recursive (codes "#"))) ≡ None
+unfolding core_change applicator_change assertion_change
+followed = refl
+
+followed_nowhere : source_fault References [] (source Draft2019 (codes "/s") (recursive (codes "#a")))
     ≡ Some (found (codes "$recursiveRef" ∷ []) BadReference)
 unfolding core_change applicator_change assertion_change
 followed_nowhere = refl
 
-unknown_there : source_fault References [] (source Draft07 (codes "/s") recursive) ≡ None
+unknown_there : source_fault References [] (source Draft07 (codes "/s") (recursive (codes "#a"))) ≡ None
 unfolding core_change applicator_change assertion_change
 unknown_there = refl
 

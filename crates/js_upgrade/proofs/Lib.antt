@@ -1,6 +1,8 @@
 pub mod Again
+pub mod AgainTogether
 pub mod Agreeing
 pub mod Alternatives
+pub mod AnyRecurses
 pub mod DocumentExamples
 pub mod Each
 pub mod EachOnce
@@ -10,6 +12,7 @@ pub mod FaultExamples
 pub mod FirstFault
 pub mod Fragments
 pub mod Gathered
+pub mod Holders
 pub mod InOrder
 pub mod KnownDialects
 pub mod Lookups
@@ -23,6 +26,7 @@ pub mod PartsAt
 pub mod PlainChanges
 pub mod Prefixes
 pub mod ReferenceExamples
+pub mod Relocated
 pub mod Relocating
 pub mod RepeatedUris
 pub mod Standing

@@ -1,7 +1,6 @@
 -- What stands at tokens in a value stands, upgraded, at the moved tokens in the upgraded value.
 use Rattle.std.proofs.Common.{◌≡◌, ℕ, ◌+◌, [], ◌∷◌, ◌++◌, Bool, true, false, Option, Some, None, cond}
 use Rattle.std.proofs.Common.{decimal, option_and_then, option_map, refl, sym, ap, ◌∙◌, subst, codes}
-use Rattle.std.proofs.lemmas.Bool.{and_parts}
 use Rattle.js_doc.specs.Lookup.{at, is_text, item_named, member_named, part_named}
 use Rattle.js_doc.specs.Members.{get, IsAscending, NamesAscend, NamesAscendInItems, NamesAscendInMembers}
 use Rattle.js_doc.specs.Parts.{member_list}
@@ -12,7 +11,7 @@ use Rattle.js_doc.proofs.FiniteMaps.{get_below, get_here, get_past}
 use Rattle.js_doc.proofs.TokenLookup.{is_text-sound, member_is}
 use Rattle.js_upgrade.specs.Laws.{KeywordsHaveOrigins, StandsWhereMoved}
 use Rattle.js_upgrade.specs.Moved.{Reached, both, moved, reached, step, under}
-use Rattle.js_upgrade.specs.Origin.{origin_by}
+use Rattle.js_upgrade.specs.Origin.{origin}
 use Rattle.js_upgrade.specs.Schema.{change_of, is_list, put_all}
 use Rattle.js_upgrade.specs.Upgrade.{becomes, holding_in, holding_of, items_upgraded, keywords_upgraded}
 use Rattle.js_upgrade.specs.Upgrade.{members_upgraded, own_dialect, upgraded}
@@ -24,7 +23,8 @@ use Rattle.js_upgrade.proofs.Again.{nothing_upgraded, upgraded_members_ascend}
 use Rattle.js_upgrade.proofs.Each.{Each}
 use Rattle.js_upgrade.proofs.EachOrigin.{each_from}
 use Rattle.js_upgrade.proofs.Lookups.{gathered_from, gathered_get}
-use Rattle.js_upgrade.proofs.Origins.{all_from, is_named, outputs, own_fits, stays_own}
+use Rattle.js_upgrade.proofs.Holders.{fits_all, holds_it, named_own, stays_itself}
+use Rattle.js_upgrade.proofs.Origins.{is_named}
 use Rattle.js_upgrade.proofs.PartsAt.{get_upgraded, item_upgraded, member_at}
 use Rattle.js_upgrade.proofs.Standing.{stands_in}
 use Rattle.js_upgrade.proofs.Staying.{ascending}
@@ -65,11 +65,7 @@ listed_in siblings = is_list (get (codes "items") siblings)
 
 named_items : (d : Dialect) (siblings : Named) (k : Text) → change_of d siblings k ≡ Items → k ≡ codes "items"
 named_items d siblings k is =
-    let listed = listed_in siblings in
-    let named : is_named (change_of d siblings k) k ≡ true =
-    (and_parts (all_from (origin_by d listed) k (outputs listed (change_of d siblings k)))
-    (is_named (change_of d siblings k) k) (own_fits d siblings listed k)).1 in
-    is_text-sound k (codes "items") (sym (ap (λ c. is_named c k) is) ∙ named)
+    is_text-sound k (codes "items") (sym (ap (λ c. is_named c k) is) ∙ named_own d siblings k)
 
 as_listed : (d : Dialect) (siblings : Named) (k : Text) (v : Value) → get k siblings ≡ Some v
     → change_of d siblings k ≡ Items → listed_in siblings ≡ is_list (Some v)
@@ -85,36 +81,29 @@ upgraded_listed d siblings k v got is =
 
 -- ---- the keywords of a schema
 
-fits_all : (d : Dialect) (siblings : Named) (k : Text)
-    → all_from (origin_by d (listed_in siblings)) k (outputs (listed_in siblings) (change_of d siblings k)) ≡ true
-fits_all d siblings k =
-    let listed = listed_in siblings in
-    (and_parts (all_from (origin_by d listed) k (outputs listed (change_of d siblings k)))
-    (is_named (change_of d siblings k) k) (own_fits d siblings listed k)).0
-
 -- each that a keyword becomes comes from it
 all_from_them : (d : Dialect) (siblings : Named) (ms : Members)
     → Each (λ k v. get k siblings ≡ Some v) (member_list ms)
-    → Each (λ k v. Each (λ n w. origin_by d (listed_in siblings) n ≡ k) (becomes d siblings k v))
+    → Each (λ k v. Each (λ n w. origin d siblings n ≡ k) (becomes d siblings k v))
     (members_upgraded (holding_in d siblings) d ms)
 all_from_them d siblings no_members e = tt
 all_from_them d siblings (member k v ms) e = (
-  each_from (origin_by d (listed_in siblings)) k siblings (listed_in siblings) (upgraded (holding_in d siblings k) d v)
-      refl (change_of d siblings k) (fits_all d siblings k) (stays_own d siblings (listed_in siblings) k)
-      (upgraded_listed d siblings k v e.0),
+  each_from (origin d siblings) k siblings (listed_in siblings) (upgraded (holding_in d siblings k) d v) refl
+      (change_of d siblings k) (fits_all d siblings k) (stays_itself d siblings k v e.0)
+      (upgraded_listed d siblings k v e.0) (holds_it d siblings k),
   all_from_them d siblings ms e.1,
 )
 
 pub each_has_its_origin : KeywordsHaveOrigins
 each_has_its_origin d ms name s =
     let siblings = member_list ms in
-    gathered_from (origin_by d (listed_in siblings)) (becomes d siblings) name
+    gathered_from (origin d siblings) (becomes d siblings) name
     (members_upgraded (holding_in d siblings) d ms) [] (upgraded_members_ascend (holding_in d siblings) d ms s)
     (all_from_them d siblings ms (each_got siblings (ascending ms s))) refl
 
 keyword_found : (d : Dialect) (ms : Members) (token : Text) (part : Value) (n : Text) (w : Value)
     → NamesAscendInMembers ms → get token (member_list ms) ≡ Some part
-    → origin_by d (listed_in (member_list ms)) n ≡ token
+    → origin d (member_list ms) n ≡ token
     → get n (put_all (becomes d (member_list ms) token
     (upgraded (holding_in d (member_list ms) token) d part)) []) ≡ Some w
     → get n (keywords_upgraded d (member_list ms)
@@ -122,7 +111,7 @@ keyword_found : (d : Dialect) (ms : Members) (token : Text) (part : Value) (n : 
 keyword_found d ms token part n w s got own has =
     let siblings = member_list ms in
     let held = holding_in d siblings in
-    let src = origin_by d (listed_in siblings) in
+    let src = origin d siblings in
     let parts = members_upgraded held d ms in
     let u = upgraded (held token) d part in
     gathered_get src (becomes d siblings) n parts u w (upgraded_members_ascend held d ms s)
@@ -146,10 +135,10 @@ schema_at : (d : Dialect) (ms : Members) (token : Text) (part : Value) (rest ts 
 schema_at d ms token part rest ts inner x s p is e mv below =
     let siblings = member_list ms in
     let got = named_member token ms part is in
-    stands_in (origin_by d (listed_in siblings)) siblings token d part rest ts inner
+    stands_in (origin d siblings) siblings token d part rest ts inner
     (keywords_upgraded d siblings (members_upgraded (holding_in d siblings) d ms)) x p (change_of d siblings token)
-    (fits_all d siblings token) (stays_own d siblings (listed_in siblings) token)
-    (as_listed d siblings token part got) e mv below
+    (fits_all d siblings token) (stays_itself d siblings token part got)
+    (as_listed d siblings token part got) (holds_it d siblings token) e mv below
     (λ n w own has. keyword_found d ms token part n w s got own has)
 
 abbrev pub tokens_of : Option Tokens → Tokens

@@ -7,7 +7,7 @@ use Rattle.js_doc.proofs.TokenLookup.{is_text-sound}
 use Rattle.js_upgrade.specs.Dialect.{found, first_of}
 use Rattle.js_upgrade.specs.Keyword.{applicator_change, applicators, assertion_change, assertions}
 use Rattle.js_upgrade.specs.Keyword.{change_in, core, core_change, or_stays}
-use Rattle.js_upgrade.specs.Origin.{origin_by, origins}
+use Rattle.js_upgrade.specs.Origin.{moves_contains, origin_by, origins}
 use Rattle.js_upgrade.specs.Schema.{beside_reference, change_of, hides}
 use Rattle.js_upgrade.specs.declared.dialect.Dialect.{Dialect}
 use Rattle.js_upgrade.specs.declared.dialect.Dialect.TheVariants.{Draft03, Draft04, Draft06}
@@ -18,6 +18,7 @@ use Rattle.js_upgrade.specs.declared.keyword.Change.TheVariants.{HoldsOne, Holds
 use Rattle.js_upgrade.specs.declared.keyword.Change.TheVariants.{Goes, Identifier, Definitions, Items, AdditionalItems}
 use Rattle.js_upgrade.specs.declared.keyword.Change.TheVariants.{Dependencies, Minimum, Maximum, Divisor, Types}
 use Rattle.js_upgrade.specs.declared.keyword.Change.TheVariants.{Disallowed, Extended, Properties}
+use Rattle.js_upgrade.specs.declared.keyword.Change.TheVariants.{Contains, RecursiveReference, RecursiveAnchor}
 use Rattle.js_upgrade.proofs.Agreeing.{beside_plain}
 use Rattle.js_upgrade.proofs.PlainChanges.{is_plain}
 
@@ -36,19 +37,44 @@ outputs listed Types = codes "type" ∷ codes "anyOf" ∷ []
 outputs listed Disallowed = codes "not" ∷ []
 outputs listed Extended = codes "allOf" ∷ []
 outputs listed Properties = codes "properties" ∷ codes "required" ∷ []
+outputs listed RecursiveReference = codes "$dynamicRef" ∷ []
+outputs listed RecursiveAnchor = codes "$dynamicAnchor" ∷ []
 outputs listed _ = []
 
 abbrev pub all_from : (Text → Text) → Text → List Text → Bool
 all_from f k [] = true
 all_from f k (n ∷ ns) = bytes_eq (f n) k && all_from f k ns
 
--- the change is `items`' own
+-- the change is one keyword's own
 abbrev pub is_named : Change → Text → Bool
 is_named Items k = bytes_eq k (codes "items")
+is_named Contains k = bytes_eq k (codes "contains")
 is_named _ k = true
 
+-- none of them is the name
+abbrev pub all_other : List Text → Text → Bool
+all_other [] h = true
+all_other (n ∷ ns) h = not (bytes_eq n h) && all_other ns h
+
+-- none of them holds `contains`
+abbrev pub all_apart : List Text → Bool
+all_apart ns =
+    all_other ns (codes "allOf")
+    && (all_other ns (codes "anyOf") && (all_other ns (codes "oneOf") && all_other ns (codes "contains")))
+
+-- `contains` moves in that dialect alone
+abbrev pub moves_by : Dialect → Change → Bool
+moves_by d Contains = moves_contains d
+moves_by d _ = true
+
+abbrev pub is_apart : Dialect → Bool → Change → Bool
+is_apart d listed change = cond (all_apart (outputs listed change)) true (not (moves_contains d))
+
+abbrev pub is_own : Dialect → Bool → Text → Change → Bool
+is_own d listed k change = is_named change k && (is_apart d listed change && moves_by d change)
+
 abbrev pub fits : Dialect → Bool → Text → Change → Bool
-fits d listed k change = all_from (origin_by d listed) k (outputs listed change) && is_named change k
+fits d listed k change = all_from (origin_by d listed) k (outputs listed change) && is_own d listed k change
 
 -- ---- the tables, line by line
 
@@ -211,6 +237,9 @@ beside_fits d listed k Types e = refl
 beside_fits d listed k Disallowed e = refl
 beside_fits d listed k Extended e = refl
 beside_fits d listed k Properties e = refl
+beside_fits d listed k Contains e = refl
+beside_fits d listed k RecursiveReference e = refl
+beside_fits d listed k RecursiveAnchor e = refl
 
 fits_by : (hidden : Bool) (d : Dialect) (listed : Bool) (k : Text)
     → fits d listed k (cond hidden (beside_reference (change_in d k)) (change_in d k)) ≡ true

@@ -1,10 +1,10 @@
 -- What a keyword becomes is of 2020-12, where its schemas are.
-use Rattle.std.proofs.Common.{◌≡◌, [], ◌∷◌, ◌++◌, Bool, true, false, not, None, cond, map, refl, sym, ap, ◌∙◌}
-use Rattle.std.proofs.Common.{subst, codes, option_and_then}
+use Rattle.std.proofs.Common.{◌≡◌, [], ◌∷◌, ◌++◌, Bool, true, false, not, ◌&&◌, Option, Some, None, cond, map, refl}
+use Rattle.std.proofs.Common.{sym, ap, ◌∙◌, subst, codes, option_and_then}
 use Rattle.std.specs.List.{after_first, before_first, list_any}
 use Rattle.js_doc.specs.Value.{Value, null, truth, whole, text, list, object, Items as ItemList, no_items, item, items}
 use Rattle.js_doc.specs.Value.{members, Text, Values, Named}
-use Rattle.js_doc.specs.Members.{get}
+use Rattle.js_doc.specs.Members.{get, has_name}
 use Rattle.js_doc.specs.Parts.{item_list, member_list}
 use Rattle.js_doc.proofs.FiniteMaps.{get_past}
 use Rattle.js_doc.proofs.PartLists.{items-item_list, member_list-members}
@@ -16,6 +16,7 @@ use Rattle.js_upgrade.specs.Schema.{dependent_names, dependent_schema, extends_u
 use Rattle.js_upgrade.specs.Schema.{identifier_upgraded, is_mark, is_name, some_name, some_uri}
 use Rattle.js_upgrade.specs.Schema.{is_simple_type, is_true, list_or_schema_upgraded, members_found, one, put_all}
 use Rattle.js_upgrade.specs.Schema.{required_names, some_items, some_members, types_upgraded, upgraded_by}
+use Rattle.js_upgrade.specs.Schema.{contains_upgraded, counted, is_identifier, negation, recursive_name, some_value}
 use Rattle.js_upgrade.specs.Upgrade.{becomes, dialect_in, dialect_or, holding_in, holding_of, own_dialect}
 use Rattle.js_upgrade.specs.declared.dialect.Dialect.{Dialect}
 use Rattle.js_upgrade.specs.declared.dialect.Dialect.TheVariants.{Draft2020}
@@ -25,6 +26,7 @@ use Rattle.js_upgrade.specs.declared.keyword.Change.TheVariants.{HoldsOne, Holds
 use Rattle.js_upgrade.specs.declared.keyword.Change.TheVariants.{Goes, Identifier, Definitions, Items, AdditionalItems}
 use Rattle.js_upgrade.specs.declared.keyword.Change.TheVariants.{Dependencies, Minimum, Maximum, Divisor, Types}
 use Rattle.js_upgrade.specs.declared.keyword.Change.TheVariants.{Disallowed, Extended, Properties}
+use Rattle.js_upgrade.specs.declared.keyword.Change.TheVariants.{Contains, RecursiveReference, RecursiveAnchor}
 use Rattle.js_upgrade.specs.declared.holding.Holding.{Holding}
 use Rattle.js_upgrade.specs.declared.holding.Holding.TheVariants.{One, Listed, Named as ByName, OneOrListed, Nothing}
 use Rattle.js_upgrade.proofs.Agreeing.{IsFit, may_stand, stays_fit}
@@ -249,6 +251,63 @@ properties_fit : (last : Bool) (v : Value) (vs : Values) → IsCurrent ByName v
 unfolding core_change applicator_change assertion_change
 properties_fit last v vs c = (held_fit last (codes "properties") v ByName refl refl c, required_fit last vs)
 
+-- ---- contains of 2019-09
+
+limit_fit : (last : Bool) (found : Option Value) → Each (IsFit last) (some_value (codes "maxContains") found)
+unfolding core_change applicator_change assertion_change
+limit_fit last None = tt
+limit_fit last (Some v) = (held_fit last (codes "maxContains") v Nothing refl refl (nothing_current v), tt)
+
+least_fit : (last : Bool) (found : Option Value) → Each (IsFit last) (some_value (codes "minContains") found)
+unfolding core_change applicator_change assertion_change
+least_fit last None = tt
+least_fit last (Some v) = (held_fit last (codes "minContains") v Nothing refl refl (nothing_current v), tt)
+
+own_contains : (last : Bool) (v : Value) → IsCurrent One v → Each (IsFit last) (one (codes "contains") v)
+unfolding core_change applicator_change assertion_change
+own_contains last v c = (held_fit last (codes "contains") v One refl refl c, tt)
+
+counted_current : (siblings : Named) (v : Value) → IsCurrent One v → IsCurrent One (counted siblings v)
+counted_current siblings v c =
+    let most = some_value (codes "maxContains") (get (codes "maxContains") siblings) in
+    let least = some_value (codes "minContains") (get (codes "minContains") siblings) in
+    let all = one (codes "contains") v ++ (most ++ least) in
+    schema_fit (put_all all [])
+    (each_put_all (IsFit false) all [] (each_append (IsFit false) (one (codes "contains") v) (most ++ least)
+    (own_contains false v c) (each_append (IsFit false) most least
+    (limit_fit false (get (codes "maxContains") siblings)) (least_fit false (get (codes "minContains") siblings)))) tt)
+
+negation_current : (v : Value) → IsCurrent One v → IsCurrent One (negation v)
+unfolding core_change applicator_change assertion_change
+negation_current v c = schema_fit (one (codes "not") v) (held_fit false (codes "not") v One refl refl c, tt)
+
+held_by : (last a b c : Bool) (v : Value) → IsCurrent One v → Each (IsFit last)
+    (one (cond a (cond b (cond c (codes "contains") (codes "oneOf")) (codes "anyOf")) (codes "allOf"))
+    (list (item v no_items)))
+unfolding core_change applicator_change assertion_change
+held_by last false b c v is = (held_fit last (codes "allOf") (list (item v no_items)) Listed refl refl (is, tt), tt)
+held_by last true false c v is =
+    (held_fit last (codes "anyOf") (list (item v no_items)) Listed refl refl (is, tt), tt)
+held_by last true true false v is =
+    (held_fit last (codes "oneOf") (list (item v no_items)) Listed refl refl (is, tt), tt)
+held_by last true true true v is =
+    (held_fit last (codes "contains") (list (item v no_items)) One refl refl tt, tt)
+
+contains_fit : (last : Bool) (siblings : Named) (v : Value) → IsCurrent One v
+    → Each (IsFit last) (contains_upgraded siblings v)
+contains_fit last siblings v c =
+    held_by last (has_name (codes "allOf") siblings) (has_name (codes "anyOf") siblings)
+    (has_name (codes "oneOf") siblings) (negation (negation (counted siblings v)))
+    (negation_current (negation (counted siblings v))
+    (negation_current (counted siblings v) (counted_current siblings v c)))
+
+-- ---- $recursiveAnchor of 2019-09
+
+anchor_fit : (last there : Bool) (v : Value) → Each (IsFit last) (cond there (one (codes "$dynamicAnchor") v) [])
+unfolding core_change applicator_change assertion_change
+anchor_fit last true v = (held_fit last (codes "$dynamicAnchor") v Nothing refl refl (nothing_current v), tt)
+anchor_fit last false v = tt
+
 -- ---- each change
 
 module _ (last : Bool) (siblings : Named) (name : Text) (v : Value) where
@@ -275,6 +334,11 @@ module _ (last : Bool) (siblings : Named) (name : Text) (v : Value) where
   outcome Extended plain c = extends_fit last v c
   outcome Properties plain c =
       properties_fit last v (required_names (members_found (get (codes "properties") siblings))) c
+  outcome Contains plain c = contains_fit last siblings v c
+  outcome RecursiveReference plain c =
+      (held_fit last (codes "$dynamicRef") v Nothing refl refl (nothing_current v), tt)
+  outcome RecursiveAnchor plain c =
+      anchor_fit last (is_true (Some v) && is_identifier (get (codes "$id") siblings)) recursive_name
 
 pub keyword_fit : (d : Dialect) (siblings : Named) (name : Text) (v : Value) → IsCurrent (holding_in d siblings name) v
     → Each (IsFit (not (is_before d Draft2020))) (becomes d siblings name v)

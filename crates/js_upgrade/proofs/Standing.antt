@@ -17,7 +17,7 @@ use Rattle.js_upgrade.specs.Moved.{types_under, under}
 use Rattle.js_upgrade.specs.Schema.{alternative, alternatives_upgraded, dependencies_upgraded, dependent_names}
 use Rattle.js_upgrade.specs.Schema.{dependent_schema, extends_upgraded, gathered, is_any, is_list, is_true}
 use Rattle.js_upgrade.specs.Schema.{list_or_schema_upgraded, members_found, one, put_all, required_names, some_items}
-use Rattle.js_upgrade.specs.Schema.{some_members, types_upgraded, upgraded_by}
+use Rattle.js_upgrade.specs.Schema.{counted, holder, negation, some_members, some_value, types_upgraded, upgraded_by}
 use Rattle.js_upgrade.specs.Upgrade.{holding_of, items_upgraded, members_upgraded, upgraded}
 use Rattle.js_upgrade.specs.declared.dialect.Dialect.{Dialect}
 use Rattle.js_upgrade.specs.declared.keyword.Change.{Change}
@@ -26,6 +26,7 @@ use Rattle.js_upgrade.specs.declared.keyword.Change.TheVariants.{HoldsOne, Holds
 use Rattle.js_upgrade.specs.declared.keyword.Change.TheVariants.{Goes, Identifier, Definitions, Items, AdditionalItems}
 use Rattle.js_upgrade.specs.declared.keyword.Change.TheVariants.{Dependencies, Minimum, Maximum, Divisor, Types}
 use Rattle.js_upgrade.specs.declared.keyword.Change.TheVariants.{Disallowed, Extended, Properties}
+use Rattle.js_upgrade.specs.declared.keyword.Change.TheVariants.{Contains, RecursiveReference, RecursiveAnchor}
 use Rattle.js_upgrade.specs.declared.holding.Holding.TheVariants.{One, Listed, Named as ByName, OneOrListed}
 use Rattle.js_upgrade.proofs.Each.{Each}
 use Rattle.js_upgrade.proofs.EachOrigin.{from_first, from_second}
@@ -328,6 +329,24 @@ dependencies_at d (whole z) rest ts inner ks x s e mv below has = absurd (cc)
 dependencies_at d (text t) rest ts inner ks x s e mv below has = absurd (cc)
 dependencies_at d (list vs) rest ts inner ks x s e mv below has = absurd (cc)
 
+-- ---- contains of 2019-09
+
+counted_by : (v : Value) (most least : Option Value) → get (codes "contains") (put_all (one (codes "contains") v
+    ++ (some_value (codes "maxContains") most ++ some_value (codes "minContains") least)) []) ≡ Some v
+counted_by v None None = refl
+counted_by v None (Some b) = refl
+counted_by v (Some a) None = refl
+counted_by v (Some a) (Some b) = refl
+
+counted_at : (siblings : Named) (v : Value) (inner : Tokens) (x : Value) → at inner v ≡ Some x
+    → at (codes "contains" ∷ inner) (counted siblings v) ≡ Some x
+counted_at siblings v inner x below =
+    let most = get (codes "maxContains") siblings in
+    let least = get (codes "minContains") siblings in
+    found_at (codes "contains") v inner (put_all (one (codes "contains") v
+    ++ (some_value (codes "maxContains") most ++ some_value (codes "minContains") least)) []) x
+    (counted_by v most least) below
+
 -- ---- each change
 
 behind_at : (b : Bool) (f : Text → Text) (k : Text) (u : Value) (ts inner : Tokens) (ks : Named) (x : Value)
@@ -363,37 +382,38 @@ module _ (src : Text → Text) (siblings : Named) (token : Text) (d : Dialect) (
       → all_from src token (outputs (is_list (get (codes "items") siblings)) change) ≡ true
       → (is_plain change ≡ true → src token ≡ token)
       → (change ≡ Items → is_list (get (codes "items") siblings) ≡ is_list (Some part))
+      → (change ≡ Contains → src (holder siblings) ≡ token)
       → under siblings token part rest change ≡ Some ts → moved (holding_of change) d part rest ≡ Some inner
       → at inner (upgraded (holding_of change) d part) ≡ Some x
       → ((n : Text) (w : Value) → src n ≡ token
       → get n (put_all (upgraded_by siblings token (upgraded (holding_of change) d part) change) []) ≡ Some w
       → get n ks ≡ Some w)
       → at (ts ++ inner) (object (members ks)) ≡ Some x
-  stands_in Stays from plain same e mv below has =
+  stands_in Stays from plain same held e mv below has =
       let u = upgraded (holding_of Stays) d part in
       single token u ts inner ks x e (has token u (plain refl) (get-put token u [])) below
-  stands_in Asserts from plain same e mv below has =
+  stands_in Asserts from plain same held e mv below has =
       let u = upgraded (holding_of Asserts) d part in
       single token u ts inner ks x e (has token u (plain refl) (get-put token u [])) below
-  stands_in Refers from plain same e mv below has =
+  stands_in Refers from plain same held e mv below has =
       let u = upgraded (holding_of Refers) d part in
       single token u ts inner ks x e (has token u (plain refl) (get-put token u [])) below
-  stands_in HoldsOne from plain same e mv below has =
+  stands_in HoldsOne from plain same held e mv below has =
       let u = upgraded One d part in
       single token u ts inner ks x e (has token u (plain refl) (get-put token u [])) below
-  stands_in HoldsList from plain same e mv below has =
+  stands_in HoldsList from plain same held e mv below has =
       let u = upgraded Listed d part in
       single token u ts inner ks x e (has token u (plain refl) (get-put token u [])) below
-  stands_in HoldsNamed from plain same e mv below has =
+  stands_in HoldsNamed from plain same held e mv below has =
       let u = upgraded ByName d part in
       single token u ts inner ks x e (has token u (plain refl) (get-put token u [])) below
-  stands_in Goes from plain same e mv below has = absurd (cc)
-  stands_in Identifier from plain same e mv below has = absurd (cc)
-  stands_in Definitions from plain same e mv below has =
+  stands_in Goes from plain same held e mv below has = absurd (cc)
+  stands_in Identifier from plain same held e mv below has = absurd (cc)
+  stands_in Definitions from plain same held e mv below has =
       let u = upgraded ByName d part in
       single (codes "$defs") u ts inner ks x e
       (has (codes "$defs") u (from_first src token (codes "$defs") [] from) (get-put (codes "$defs") u [])) below
-  stands_in Items from plain same e mv below has =
+  stands_in Items from plain same held e mv below has =
       let own = from_first src token
       (cond (is_list (get (codes "items") siblings)) (codes "prefixItems") (codes "items")) [] from in
       items_at d part ts inner ks x e below
@@ -401,13 +421,13 @@ module _ (src : Text → Text) (siblings : Named) (token : Text) (d : Dialect) (
       (sym (ap (λ b. src (cond b (codes "prefixItems") (codes "items"))) (same refl ∙ is)) ∙ own) h)
       (λ w is h. has (codes "items") w
       (sym (ap (λ b. src (cond b (codes "prefixItems") (codes "items"))) (same refl ∙ is)) ∙ own) h)
-  stands_in AdditionalItems from plain same e mv below has =
+  stands_in AdditionalItems from plain same held e mv below has =
       behind_at (is_list (get (codes "items") siblings)) src token (upgraded One d part) ts inner ks x e from below has
-  stands_in Dependencies from plain same e mv below has =
+  stands_in Dependencies from plain same held e mv below has =
       dependencies_at d part rest ts inner ks x s e mv below
       (λ w h. has (codes "dependentSchemas") w
       (from_second src token (codes "dependentRequired") (codes "dependentSchemas") [] from) h)
-  stands_in Minimum from plain same e mv below has =
+  stands_in Minimum from plain same held e mv below has =
       let exclusive = is_true (get (codes "exclusiveMinimum") siblings) in
       let n = cond exclusive (codes "exclusiveMinimum") (codes "minimum") in
       let u = upgraded (holding_of Minimum) d part in
@@ -415,7 +435,7 @@ module _ (src : Text → Text) (siblings : Named) (token : Text) (d : Dialect) (
       (has n u (either_own exclusive src token (codes "exclusiveMinimum") (codes "minimum")
       (from_first src token (codes "exclusiveMinimum") (codes "minimum" ∷ []) from)
       (from_second src token (codes "exclusiveMinimum") (codes "minimum") [] from)) (get-put n u [])) below
-  stands_in Maximum from plain same e mv below has =
+  stands_in Maximum from plain same held e mv below has =
       let exclusive = is_true (get (codes "exclusiveMaximum") siblings) in
       let n = cond exclusive (codes "exclusiveMaximum") (codes "maximum") in
       let u = upgraded (holding_of Maximum) d part in
@@ -423,23 +443,41 @@ module _ (src : Text → Text) (siblings : Named) (token : Text) (d : Dialect) (
       (has n u (either_own exclusive src token (codes "exclusiveMaximum") (codes "maximum")
       (from_first src token (codes "exclusiveMaximum") (codes "maximum" ∷ []) from)
       (from_second src token (codes "exclusiveMaximum") (codes "maximum") [] from)) (get-put n u [])) below
-  stands_in Divisor from plain same e mv below has =
+  stands_in Divisor from plain same held e mv below has =
       let u = upgraded (holding_of Divisor) d part in
       single (codes "multipleOf") u ts inner ks x e
       (has (codes "multipleOf") u (from_first src token (codes "multipleOf") [] from)
       (get-put (codes "multipleOf") u [])) below
-  stands_in Types from plain same e mv below has =
+  stands_in Types from plain same held e mv below has =
       types_at d part rest ts inner ks x e mv below
       (λ w h. has (codes "anyOf") w (from_second src token (codes "type") (codes "anyOf") [] from) h)
-  stands_in Disallowed from plain same e mv below has =
+  stands_in Disallowed from plain same held e mv below has =
       let w = object (members (put_all (types_upgraded (upgraded OneOrListed d part)) [])) in
       negated_at d part rest ts inner ks x (types_under part rest) refl e mv below
       (has (codes "not") w (from_first src token (codes "not") [] from) (get-put (codes "not") w []))
-  stands_in Extended from plain same e mv below has =
+  stands_in Extended from plain same held e mv below has =
       extends_at d part ts inner ks x e below
       (λ w h. has (codes "allOf") w (from_first src token (codes "allOf") [] from) h)
-  stands_in Properties from plain same e mv below has =
+  stands_in Properties from plain same held e mv below has =
       let u = upgraded ByName d part in
       single (codes "properties") u ts inner ks x e
       (has (codes "properties") u (from_first src token (codes "properties") (codes "required" ∷ []) from)
       (properties_got u (required_names (members_found (get (codes "properties") siblings))))) below
+  stands_in Contains from plain same held e mv below has =
+      let u = upgraded One d part in
+      let c = counted siblings u in
+      let w = negation (negation c) in
+      let inside = codes "not" ∷ codes "not" ∷ codes "contains" ∷ inner in
+      subst (λ t. at (t ++ inner) (object (members ks)) ≡ Some x) (ap tokens_or_none e)
+      (first (holder siblings) w (holder siblings ∷ codes "0" ∷ []) inside ks x refl
+      (has (holder siblings) (list (item w no_items)) (held refl)
+      (get-put (holder siblings) (list (item w no_items)) []))
+      (found_at (codes "not") (negation c) (codes "not" ∷ codes "contains" ∷ inner) (one (codes "not") (negation c)) x
+      refl (found_at (codes "not") c (codes "contains" ∷ inner) (one (codes "not") c) x refl
+      (counted_at siblings u inner x below))))
+  stands_in RecursiveReference from plain same held e mv below has =
+      let u = upgraded (holding_of RecursiveReference) d part in
+      single (codes "$dynamicRef") u ts inner ks x e
+      (has (codes "$dynamicRef") u (from_first src token (codes "$dynamicRef") [] from)
+      (get-put (codes "$dynamicRef") u [])) below
+  stands_in RecursiveAnchor from plain same held e mv below has = absurd (cc)

@@ -1,7 +1,7 @@
 -- Documents of 2020-12 that are upgraded together stay as they are, and so do their references.
 use Rattle.std.proofs.Common.{◌≡◌, ℕ, ◌+◌, List, [], ◌∷◌, ◌++◌, Bool, true, false, ◌&&◌, Option, Some, None, cond, map}
 use Rattle.std.proofs.Common.{decimal, find, is_some, option_and_then, refl, sym, ap, ap₂, ◌∙◌, subst}
-use Rattle.std.proofs.Common.{bytes_eq}
+use Rattle.std.proofs.Common.{bytes_eq, codes}
 use Rattle.std.specs.List.{AllByRecursion, list_all}
 use Rattle.url.specs.Parts.{Parts}
 use Rattle.js_doc.specs.Lookup.{is_text, item_named, member_named, part_named}
@@ -13,17 +13,18 @@ use Rattle.js_doc.proofs.PartLists.{items-item_list, members-member_list}
 use Rattle.js_doc.proofs.TokenLookup.{is_text-refl, is_text-sound}
 use Rattle.js_upgrade.specs.Current.{AreCurrent, IsCurrent, ItemsAreCurrent}
 use Rattle.js_upgrade.specs.Documents.{Source, all_resources, is_known, resources_by}
-use Rattle.js_upgrade.specs.Documents.{source_resources, upgraded_among, upgraded_by_dialect}
+use Rattle.js_upgrade.specs.Documents.{anchored, source_resources, upgraded_among, upgraded_by_dialect}
 use Rattle.js_upgrade.specs.Keyword.{change_in}
 use Rattle.js_upgrade.specs.Laws.{AllCurrentStay, IsCurrentSource}
 use Rattle.js_upgrade.specs.Moved.{both, just, moved, step, under}
 use Rattle.js_upgrade.specs.Reference.{argument_rewritten, as_it_is, followed, in_resource, items_relocated}
-use Rattle.js_upgrade.specs.Reference.{members_relocated, moved_in, relocated, rewritten, same_tokens, with_pointer}
-use Rattle.js_upgrade.specs.Reference.{with_target}
+use Rattle.js_upgrade.specs.Reference.{members_relocated, moved_in, recurses_at, recursion_rewritten, relocated}
+use Rattle.js_upgrade.specs.Reference.{rewritten, same_tokens, with_pointer, with_target}
 use Rattle.js_upgrade.specs.Resource.{Resource, begun, identity, item_resources, member_resources, own_base}
-use Rattle.js_upgrade.specs.Resource.{resource_named, resources}
+use Rattle.js_upgrade.specs.Resource.{recurses}
+use Rattle.js_upgrade.specs.Resource.{has_recursion, is_recursive, resource_named, resources}
 use Rattle.js_upgrade.specs.Schema.{change_of}
-use Rattle.js_upgrade.specs.Upgrade.{holding_in, own_dialect, upgraded}
+use Rattle.js_upgrade.specs.Upgrade.{holding_in, own_dialect, root_upgraded, upgraded}
 use Rattle.js_upgrade.specs.Url.{fragment_pointer, joined, printed, without_fragment}
 use Rattle.js_upgrade.specs.declared.dialect.Dialect.{Dialect}
 use Rattle.js_upgrade.specs.declared.dialect.Dialect.TheVariants.{Draft2020}
@@ -33,6 +34,7 @@ use Rattle.js_upgrade.specs.declared.keyword.Change.TheVariants.{HoldsOne, Holds
 use Rattle.js_upgrade.specs.declared.keyword.Change.TheVariants.{Goes, Identifier, Definitions, Items, AdditionalItems}
 use Rattle.js_upgrade.specs.declared.keyword.Change.TheVariants.{Dependencies, Minimum, Maximum, Divisor, Types}
 use Rattle.js_upgrade.specs.declared.keyword.Change.TheVariants.{Disallowed, Extended, Properties}
+use Rattle.js_upgrade.specs.declared.keyword.Change.TheVariants.{Contains, RecursiveReference, RecursiveAnchor}
 use Rattle.js_upgrade.specs.declared.holding.Holding.{Holding}
 use Rattle.js_upgrade.specs.declared.holding.Holding.TheVariants.{One, Listed, Named as ByName, OneOrListed, Nothing}
 use Rattle.js_upgrade.proofs.MovedParts.{both_are, tokens_of}
@@ -63,6 +65,9 @@ under_plain siblings name v rest Types e = absurd (cc)
 under_plain siblings name v rest Disallowed e = absurd (cc)
 under_plain siblings name v rest Extended e = absurd (cc)
 under_plain siblings name v rest Properties e = absurd (cc)
+under_plain siblings name v rest Contains e = absurd (cc)
+under_plain siblings name v rest RecursiveReference e = absurd (cc)
+under_plain siblings name v rest RecursiveAnchor e = absurd (cc)
 
 abbrev value_or : Value → Option Value → Value
 value_or v None = v
@@ -171,29 +176,55 @@ target_stays t old (Some new) same =
     (ap (λ ts. same_tokens old ts) (sym (same new refl)) ∙ same_tokens-refl old)
 
 -- a resource of 2020-12
-abbrev IsCurrentResource : Resource → Type 0
+abbrev pub IsCurrentResource : Resource → Type 0
 IsCurrentResource r = (r.dialect ≡ Draft2020) × IsCurrent One r.root
 
+-- no root of 2020-12 recurses
+unrecursive : (root : Value) → IsCurrent One root → has_recursion Draft2020 root ≡ false
+unrecursive (object ms) c = ap (λ d. is_recursive d (member_list ms)) c.0
+unrecursive null c = refl
+unrecursive (truth b) c = refl
+unrecursive (whole z) c = refl
+unrecursive (text t) c = refl
+unrecursive (list vs) c = refl
+
+-- a resource in which no token moves, and whose root doesn't recurse
+abbrev pub IsStill : Resource → Type 0
+IsStill r =
+    ((tokens new : Tokens) → moved_in r tokens ≡ Some new → tokens ≡ new) × (recurses r ≡ false)
+
+still_current : (r : Resource) → IsCurrentResource r → IsStill r
+still_current r c = (
+  λ tokens new is. moved_back tokens One r.root new c.1 (sym (ap (λ e. moved One e r.root tokens) c.0) ∙ is),
+  ap (λ d. has_recursion d r.root) c.0 ∙ unrecursive r.root c.1,
+)
+
+pub stills : (all : List Resource) → AllByRecursion IsCurrentResource all → AllByRecursion IsStill all
+stills [] c = tt
+stills (r ∷ all) c = (still_current r c.0, stills all c.1)
+
 reference_stays : (t : Text) (tokens : Option Tokens) (found : Option Resource)
-    → ((r : Resource) → found ≡ Some r → IsCurrentResource r) → in_resource t tokens found ≡ t
+    → ((r : Resource) → found ≡ Some r → IsStill r) → in_resource t tokens found ≡ t
 reference_stays t None found c = refl
 reference_stays t (Some tokens) None c = refl
 reference_stays t (Some tokens) (Some r) c =
-    let current = c r refl in
-    target_stays t tokens (moved_in r tokens)
-    (λ p is. moved_back tokens One r.root p current.1 (sym (ap (λ e. moved One e r.root tokens) current.0) ∙ is))
+    target_stays t tokens (moved_in r tokens) (λ p is. (c r refl).0 tokens p is)
 
-found_by : (f : Resource → Bool) (b : Bool) (r s : Resource) (all : List Resource) → IsCurrentResource r
-    → (find f all ≡ Some s → IsCurrentResource s) → cond b (Some r) (find f all) ≡ Some s → IsCurrentResource s
-found_by f true r s all c more is = subst IsCurrentResource (ap (resource_or r) is) c
+found_by : (f : Resource → Bool) (b : Bool) (r s : Resource) (all : List Resource) → IsStill r
+    → (find f all ≡ Some s → IsStill s) → cond b (Some r) (find f all) ≡ Some s → IsStill s
+found_by f true r s all c more is = subst IsStill (ap (resource_or r) is) c
 found_by f false r s all c more is = more is
 
-found_current : (f : Resource → Bool) (all : List Resource) (s : Resource) → AllByRecursion IsCurrentResource all
-    → find f all ≡ Some s → IsCurrentResource s
+found_current : (f : Resource → Bool) (all : List Resource) (s : Resource) → AllByRecursion IsStill all
+    → find f all ≡ Some s → IsStill s
 found_current f [] s c is = absurd (cc)
 found_current f (r ∷ all) s c is = found_by f (f r) r s all c.0 (found_current f all s c.1) is
 
-module _ (all : List Resource) (c : AllByRecursion IsCurrentResource all) where
+no_recursion : (found : Option Resource) → ((r : Resource) → found ≡ Some r → IsStill r) → recurses_at found ≡ false
+no_recursion None c = refl
+no_recursion (Some r) c = (c r refl).1
+
+module _ (all : List Resource) (c : AllByRecursion IsStill all) where
   followed_stays : (t : Text) (uri : Option Parts) → followed all t uri ≡ t
   followed_stays t None = refl
   followed_stays t (Some uri) =
@@ -207,6 +238,12 @@ module _ (all : List Resource) (c : AllByRecursion IsCurrentResource all) where
   rewritten_stays base (whole z) = refl
   rewritten_stays base (list vs) = refl
   rewritten_stays base (object ms) = refl
+
+  recursion_stays : (base : Parts) (v : Value) → recursion_rewritten all base v ≡ v
+  recursion_stays base v =
+      ap (λ b. cond b (text (codes "#recursiveAnchor")) v)
+      (no_recursion (resource_named all (printed base))
+      (λ r is. found_current (λ s. bytes_eq (printed base) s.uri) all r c is))
 
   argument_stays : (change : Change) (base : Parts) (v w : Value) → w ≡ v
       → argument_rewritten all change base v w ≡ v
@@ -229,6 +266,9 @@ module _ (all : List Resource) (c : AllByRecursion IsCurrentResource all) where
   argument_stays Disallowed base v w same = same
   argument_stays Extended base v w same = same
   argument_stays Properties base v w same = same
+  argument_stays Contains base v w same = same
+  argument_stays RecursiveReference base v w same = recursion_stays base v
+  argument_stays RecursiveAnchor base v w same = same
 
   -- ---- a value
 
@@ -314,9 +354,11 @@ module _ (all : List Resource) (c : AllByRecursion IsCurrentResource all) where
         (kept k v (relocated all (held k) Draft2020 base v) (relocated_stays (held k) base v c.0))
         (members_relocated_stay held argument base ms kept c.1)
 
-  source_stays : (s : Source) → IsCurrentSource s → upgraded_among all s ≡ s.root
+  pub source_stays : (s : Source) → IsCurrentSource s → upgraded_among all s ≡ s.root
   source_stays s current =
       ap (upgraded_by_dialect all s) current.1
+      ∙ ap (λ b. anchored b (root_upgraded Draft2020 (relocated all One Draft2020 s.uri s.root)))
+      (unrecursive s.root current.2)
       ∙ ap (upgraded One Draft2020) (relocated_stays One s.uri s.root current.2)
       ∙ stays One s.root current.0.0 current.2
 
@@ -410,14 +452,16 @@ mutual
       all_append (resources (held k) Draft2020 base v) (member_resources held Draft2020 base ms)
       (resources_current (held k) base v c.0) (member_resources_current held base ms c.1)
 
+pub source_current : (s : Source) → IsCurrentSource s → AllByRecursion IsCurrentResource (source_resources s)
+source_current s c =
+    subst (λ d. AllByRecursion IsCurrentResource (resources_by s d)) (sym c.1)
+    ((refl, c.2), resources_current One s.uri s.root c.2)
+
 all_current : (sources : List Source) → AllByRecursion IsCurrentSource sources
     → AllByRecursion IsCurrentResource (all_resources sources)
 all_current [] c = tt
 all_current (s ∷ sources) c =
-    all_append (source_resources s) (all_resources sources)
-    (subst (λ d. AllByRecursion IsCurrentResource (resources_by s d)) (sym c.0.1)
-    ((refl, c.0.2), resources_current One s.uri s.root c.0.2))
-    (all_current sources c.1)
+    all_append (source_resources s) (all_resources sources) (source_current s c.0) (all_current sources c.1)
 
 all_known : (sources : List Source) → AllByRecursion IsCurrentSource sources → list_all is_known sources ≡ true
 all_known [] c = refl
@@ -428,4 +472,4 @@ pub all_current_stay : AllCurrentStay
 all_current_stay sources current =
     let all = all_resources sources in
     ap (λ b. cond b (Some (map (upgraded_among all) sources)) None) (all_known sources current)
-    ∙ ap Some (sources_stay all (all_current sources current) sources current)
+    ∙ ap Some (sources_stay all (stills all (all_current sources current)) sources current)

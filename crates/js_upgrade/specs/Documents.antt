@@ -1,10 +1,14 @@
 -- Documents that are upgraded together: a reference of one may lead into another.
-use Rattle.std.specs.Prelude.{List, [], ◌∷◌, Bool, Option, Some, None, is_some, flat_map, map, if◌then◌else◌}
+use Rattle.std.specs.Prelude.{List, [], ◌∷◌, Bool, Option, Some, None, codes, is_some, flat_map, map}
+use Rattle.std.specs.Prelude.{if◌then◌else◌}
 use Rattle.std.specs.List.{list_all}
 use Rattle.url.specs.Parts.{Parts}
-use Rattle.js_doc.specs.Value.{Value, Values}
+use Rattle.js_doc.specs.Members.{put}
+use Rattle.js_doc.specs.Parts.{member_list}
+use Rattle.js_doc.specs.Value.{Value, Values, object, members}
 use Rattle.js_upgrade.specs.Reference.{relocated}
-use Rattle.js_upgrade.specs.Resource.{Resource, resource, resources}
+use Rattle.js_upgrade.specs.Resource.{Resource, has_recursion, resource, resources}
+use Rattle.js_upgrade.specs.Schema.{recursive_name}
 use Rattle.js_upgrade.specs.Upgrade.{document_dialect, root_upgraded}
 use Rattle.js_upgrade.specs.declared.dialect.Dialect.{Dialect}
 use Rattle.js_upgrade.specs.declared.holding.Holding.TheVariants.{One}
@@ -39,9 +43,18 @@ all_resources sources = flat_map source_resources sources
 
 -- ---- each with its references rewritten, and upgraded
 
+-- the root of a document may have `$recursiveAnchor` without an identifier
+abbrev pub with_anchor : Value → Value
+with_anchor (object ms) = object (members (put (codes "$dynamicAnchor") recursive_name (member_list ms)))
+with_anchor v = v
+
+abbrev pub anchored : Bool → Value → Value
+anchored recursive v = if recursive then with_anchor v else v
+
 abbrev pub upgraded_by_dialect : List Resource → Source → Option Dialect → Value
 upgraded_by_dialect all s None = s.root
-upgraded_by_dialect all s (Some d) = root_upgraded d (relocated all One d s.uri s.root)
+upgraded_by_dialect all s (Some d) =
+    anchored (has_recursion d s.root) (root_upgraded d (relocated all One d s.uri s.root))
 
 abbrev pub upgraded_among : List Resource → Source → Value
 upgraded_among all s = upgraded_by_dialect all s (source_dialect s)

@@ -2,23 +2,23 @@
 -- identifiers of all documents, then the documents' URIs, then the references of all documents. Documents come in
 -- order; a schema comes before those that it holds, and those by name or index ascending.
 use Rattle.std.specs.Prelude.{◌≡◌, ℕ, ◌+◌, List, [], ◌∷◌, Bool, true, false, Option, Some, None, codes, decimal, length}
-use Rattle.std.specs.Prelude.{is_none, nat_lt, bytes_eq, option_map, option_and_then, ◌⊎◌, if◌then◌else◌}
+use Rattle.std.specs.Prelude.{is_none, nat_lt, bytes_eq, option_map, option_and_then, ◌⊎◌, ◌&&◌, if◌then◌else◌}
 use Rattle.std.specs.List.{list_any}
 use Rattle.url.specs.Parts.{Parts}
-use Rattle.js_doc.specs.Lookup.{at}
-use Rattle.js_doc.specs.Members.{get}
+use Rattle.js_doc.specs.Members.{get, has_name}
 use Rattle.js_doc.specs.Parts.{member_list, members_of}
 use Rattle.js_doc.specs.Pointer.{Tokens}
 use Rattle.js_doc.specs.Value.{Value, text, list, object, Items, no_items, item, Members, no_members, member}
 use Rattle.js_doc.specs.Value.{Text, Named}
 use Rattle.js_upgrade.specs.Dialect.{first_of}
 use Rattle.js_upgrade.specs.Documents.{Source, Sources, all_resources, source_dialect}
-use Rattle.js_upgrade.specs.Resource.{Resource, own_base, resource_named}
-use Rattle.js_upgrade.specs.Schema.{hides}
-use Rattle.js_upgrade.specs.Upgrade.{dialect_in, holding_in, identifier, identifies, is_uri, own_dialect}
+use Rattle.js_upgrade.specs.Reference.{moved_in}
+use Rattle.js_upgrade.specs.Resource.{Resource, own_base, recurses, resource_named}
+use Rattle.js_upgrade.specs.Schema.{hides, holder, is_uri}
+use Rattle.js_upgrade.specs.Upgrade.{dialect_in, holding_in, identifier, identifies, own_dialect}
 use Rattle.js_upgrade.specs.Url.{fragment_pointer, joined, longest_uri, printed, without_fragment}
 use Rattle.js_upgrade.specs.declared.dialect.Dialect.{Dialect}
-use Rattle.js_upgrade.specs.declared.dialect.Dialect.TheVariants.{Draft2019}
+use Rattle.js_upgrade.specs.declared.dialect.Dialect.TheVariants.{Draft2019, Draft2020}
 use Rattle.js_upgrade.specs.declared.fault.UpgradeFault.{UpgradeFault}
 use Rattle.js_upgrade.specs.declared.fault.UpgradeFaultKind.{UpgradeFaultKind}
 use Rattle.js_upgrade.specs.declared.fault.UpgradeFaultKind.TheVariants.{Memory, TooManyDocuments, UnknownDialect}
@@ -61,13 +61,13 @@ identifier_kind base None = None
 identifier_kind base (Some (text t)) = if is_uri t then joined_kind base t else None
 identifier_kind base (Some _) = Some BadKeyword
 
--- what a pointer leads to in a resource; a name leads to the resource
-abbrev pub part_at : Option Tokens → Resource → Option Value
-part_at None r = Some r.root
-part_at (Some tokens) r = at tokens r.root
+-- where a pointer's target in a resource goes, if it stands in the upgraded one; a name leads to the resource
+abbrev pub part_at : Option Tokens → Resource → Option Tokens
+part_at None r = Some []
+part_at (Some tokens) r = moved_in r tokens
 
 module _ (all : List Resource) where
-  abbrev pub target : Parts → Option Value
+  abbrev pub target : Parts → Option Tokens
   target uri =
       option_and_then (part_at (fragment_pointer uri)) (resource_named all (printed (without_fragment uri)))
 
@@ -105,10 +105,40 @@ abbrev pub own_kind : Dialect → Parts → Named → Option Kind
 own_kind own base siblings =
     if hides own siblings then None else identifier_kind base (get (identifier own) siblings)
 
--- its `$recursiveRef` (2019-09 Core, 8.2.4.2), which isn't followed
+-- its `$recursiveRef` (2019-09 Core, 8.2.4.2.1), which is `#`
+abbrev pub recursion_kind : Option Value → Option Kind
+recursion_kind None = None
+recursion_kind (Some (text t)) = if bytes_eq t (codes "#") then None else Some BadReference
+recursion_kind (Some _) = Some BadKeyword
+
 abbrev pub recursive_kind : Dialect → Named → Option Kind
-recursive_kind Draft2019 siblings = option_map (λ v. BadReference) (get (codes "$recursiveRef") siblings)
+recursive_kind Draft2019 siblings = recursion_kind (get (codes "$recursiveRef") siblings)
 recursive_kind _ siblings = None
+
+-- its `contains` in 2019-09, beside each list of schemas in which it could stand
+abbrev pub contains_kind : Dialect → Named → Option Kind
+contains_kind Draft2019 siblings =
+    if has_name (codes "contains") siblings && bytes_eq (holder siblings) (codes "contains") then Some BadKeyword
+    else None
+contains_kind _ siblings = None
+
+-- a dynamic anchor with the name that `$recursiveAnchor` gets, where a resource has that
+abbrev pub has_recursive_name : Option Value → Bool
+has_recursive_name (Some (text t)) = bytes_eq t (codes "recursiveAnchor")
+has_recursive_name _ = false
+
+abbrev pub anchor_kind : List Resource → Dialect → Named → Option Kind
+anchor_kind all Draft2020 siblings =
+    if has_recursive_name (get (codes "$dynamicAnchor") siblings) && list_any recurses all then Some BadKeyword
+    else None
+anchor_kind all _ siblings = None
+
+-- what isn't `$ref`, of a schema in its own dialect
+abbrev pub other_fault : List Resource → Dialect → Named → Option Found
+other_fault all own siblings =
+    first_of (at_keyword (codes "$recursiveRef") (recursive_kind own siblings))
+    (first_of (at_keyword (codes "contains") (contains_kind own siblings))
+    (at_keyword (codes "$dynamicAnchor") (anchor_kind all own siblings)))
 
 -- `d` and `base` are those around the schema
 abbrev pub schema_fault : Pass → List Resource → Dialect → Parts → Named → Option Found
@@ -118,7 +148,7 @@ schema_fault Names all d base siblings =
 schema_fault References all d base siblings =
     first_of (at_keyword (codes "$ref")
     (reference_kind all (own_base (own_dialect d siblings) base siblings) (get (codes "$ref") siblings)))
-    (at_keyword (codes "$recursiveRef") (recursive_kind (own_dialect d siblings) siblings))
+    (other_fault all (own_dialect d siblings) siblings)
 
 -- ---- in a value that holds schemas
 
@@ -208,11 +238,11 @@ fault_among all sources = first_of (number_fault (length sources)) (names_fault 
 abbrev pub first_fault : Sources → Option UpgradeFault
 first_fault sources = fault_among (all_resources sources) sources
 
--- want of memory is recorded of no place
+-- out of memory: at no place
 abbrev pub no_memory : UpgradeFault
 no_memory = of_document 0 Memory
 
--- documents that have no fault may be refused so: want of memory may come at any time
+-- memory may run out at any time, also for documents that have no fault
 abbrev pub IsFaultOf : Option UpgradeFault → UpgradeFault → Type 0
 IsFaultOf fault e = (e ≡ no_memory) ⊎ (fault ≡ Some e)
 

@@ -12,6 +12,7 @@ use Rattle.js_upgrade.specs.declared.keyword.Change.TheVariants.{HoldsOne, Holds
 use Rattle.js_upgrade.specs.declared.keyword.Change.TheVariants.{Goes, Identifier, Definitions, Items, AdditionalItems}
 use Rattle.js_upgrade.specs.declared.keyword.Change.TheVariants.{Dependencies, Minimum, Maximum, Divisor, Types}
 use Rattle.js_upgrade.specs.declared.keyword.Change.TheVariants.{Disallowed, Extended, Properties}
+use Rattle.js_upgrade.specs.declared.keyword.Change.TheVariants.{Contains, RecursiveReference, RecursiveAnchor}
 
 module _ (d : Dialect) where
   -- one thing before a draft, and another from it on
@@ -21,6 +22,10 @@ module _ (d : Dialect) where
   -- no keyword of the dialect before a draft: it may not act
   abbrev pub since : Dialect → Change → Change
   since draft new = until draft Goes new
+
+  -- what 2019-09 alone has
+  abbrev pub in_2019 : Change → Change → Change
+  in_2019 other new = until Draft2019 other (until Draft2020 new other)
 
   -- identifiers, references, and what holds schemas for them
   abbrev pub core : List (Text × Change)
@@ -33,6 +38,8 @@ module _ (d : Dialect) where
       ∷ (codes "$dynamicAnchor", since Draft2020 Asserts)  -- -; -; -; -; -; 8.2.2
       ∷ (codes "$ref", Refers)  -- 5.28; C 7; C 8; C 8.3; 8.2.4.1; 8.2.3.1
       ∷ (codes "$dynamicRef", since Draft2020 Asserts)  -- -; -; -; -; -; 8.2.3.2
+      ∷ (codes "$recursiveRef", in_2019 Stays RecursiveReference)  -- -; -; -; -; 8.2.4.2.1; -
+      ∷ (codes "$recursiveAnchor", in_2019 Stays RecursiveAnchor)  -- -; -; -; -; 8.2.4.2.2; -
       ∷ (codes "$defs", since Draft2019 HoldsNamed)  -- -; -; -; -; 8.2.5; 8.2.4
       ∷ (codes "definitions", until Draft2019 Definitions HoldsNamed)  -- -; 5.5.7; 7.1; 9; -; -
       ∷ []
@@ -53,7 +60,7 @@ module _ (d : Dialect) where
       ∷ (codes "items", until Draft2020 Items HoldsOne)  -- 5.5; 5.3.1; 6.9; 6.4.1; 9.3.1.1; 10.3.1.2
       ∷ (codes "additionalItems", until Draft2020 AdditionalItems Stays)  -- 5.6; 5.3.1; 6.10; 6.4.2; 9.3.1.2; -
       ∷ (codes "prefixItems", since Draft2020 HoldsList)  -- -; -; -; -; -; 10.3.1.1
-      ∷ (codes "contains", since Draft06 HoldsOne)  -- -; -; 6.14; 6.4.6; 9.3.1.4; 10.3.1.3
+      ∷ (codes "contains", since Draft06 (in_2019 HoldsOne Contains))  -- -; -; 6.14; 6.4.6; 9.3.1.4; 10.3.1.3
       ∷ (codes "properties", until Draft04 Properties HoldsNamed)  -- 5.2; 5.4.4; 6.18; 6.5.4; 9.3.2.1; 10.3.2.1
       ∷ (codes "patternProperties", HoldsNamed)  -- 5.3; 5.4.4; 6.19; 6.5.5; 9.3.2.2; 10.3.2.2
       ∷ (codes "additionalProperties", HoldsOne)  -- 5.4; 5.4.4; 6.20; 6.5.6; 9.3.2.3; 10.3.2.3
@@ -81,8 +88,8 @@ module _ (d : Dialect) where
       ∷ (codes "maxItems", Asserts)  -- 5.14; 5.3.2; 6.11; 6.4.3; 6.4.1; 6.4.1
       ∷ (codes "minItems", Asserts)  -- 5.13; 5.3.3; 6.12; 6.4.4; 6.4.2; 6.4.2
       ∷ (codes "uniqueItems", Asserts)  -- 5.15; 5.3.4; 6.13; 6.4.5; 6.4.3; 6.4.3
-      ∷ (codes "maxContains", since Draft2019 Asserts)  -- -; -; -; -; 6.4.4; 6.4.4
-      ∷ (codes "minContains", since Draft2019 Asserts)  -- -; -; -; -; 6.4.5; 6.4.5
+      ∷ (codes "maxContains", since Draft2020 Asserts)  -- -; -; -; -; 6.4.4; 6.4.4
+      ∷ (codes "minContains", since Draft2020 Asserts)  -- -; -; -; -; 6.4.5; 6.4.5
       ∷ (codes "maxProperties", since Draft04 Asserts)  -- -; 5.4.1; 6.15; 6.5.1; 6.5.1; 6.5.1
       ∷ (codes "minProperties", since Draft04 Asserts)  -- -; 5.4.2; 6.16; 6.5.2; 6.5.2; 6.5.2
       ∷ (codes "required", since Draft04 Asserts)  -- 5.7; 5.4.3; 6.17; 6.5.3; 6.5.3; 6.5.3

@@ -1,11 +1,11 @@
 -- Laws of the upgrade.
-use Rattle.std.specs.Prelude.{◌≡◌, List, [], Some, map, option_and_then}
+use Rattle.std.specs.Prelude.{◌≡◌, List, [], ◌∷◌, Some, map, option_and_then}
 use Rattle.std.specs.List.{AllByRecursion}
 use Rattle.js_doc.specs.Lookup.{at}
 use Rattle.js_doc.specs.Members.{get, NamesAscend}
 use Rattle.js_doc.specs.Parts.{member_list}
 use Rattle.js_doc.specs.Pointer.{Tokens}
-use Rattle.js_doc.specs.Value.{Value, object, Members, Text}
+use Rattle.js_doc.specs.Value.{Value, object, Members, Text, Values}
 use Rattle.js_doc.specs.Lawful.{IsLawful}
 use Rattle.js_upgrade.specs.Current.{IsCurrent}
 use Rattle.js_upgrade.specs.Documents.{Source, all_upgraded, source_dialect}
@@ -57,3 +57,19 @@ IsCurrentSource s = IsLawful s.root × (source_dialect s ≡ Some Draft2020) × 
 abbrev pub AllCurrentStay : Type 0
 AllCurrentStay = (sources : List Source) → AllByRecursion IsCurrentSource sources
     → all_upgraded sources ≡ Some (map (λ s. s.root) sources)
+
+-- the document with another root
+abbrev pub with_root : Source → Value → Source
+with_root s v = record { uri = s.uri; assumed = s.assumed; root = v }
+
+abbrev pub with_roots : List Source → Values → List Source
+with_roots [] vs = []
+with_roots (s ∷ sources) [] = []
+with_roots (s ∷ sources) (v ∷ vs) = with_root s v ∷ with_roots sources vs
+
+-- documents that were upgraded together stay as they are, where the same dialects are assumed
+abbrev pub AllTwiceIsOnce : Type 0
+AllTwiceIsOnce =
+    (sources : List Source) (once : Values) → AllByRecursion (λ s. IsLawful s.root) sources
+    → AllByRecursion IsLawful once → all_upgraded sources ≡ Some once
+    → all_upgraded (with_roots sources once) ≡ Some once

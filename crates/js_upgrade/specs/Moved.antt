@@ -7,14 +7,15 @@ use Rattle.js_doc.specs.Members.{get}
 use Rattle.js_doc.specs.Parts.{item_list, member_list}
 use Rattle.js_doc.specs.Pointer.{Tokens}
 use Rattle.js_doc.specs.Value.{Value, text, list, object, Items, no_items, item, Text, Named}
-use Rattle.js_upgrade.specs.Schema.{change_of, is_any, is_list, is_true}
+use Rattle.js_upgrade.specs.Schema.{change_of, holder, is_any, is_list, is_true}
 use Rattle.js_upgrade.specs.Upgrade.{holding_of, own_dialect}
 use Rattle.js_upgrade.specs.declared.dialect.Dialect.{Dialect}
 use Rattle.js_upgrade.specs.declared.keyword.Change.{Change}
 use Rattle.js_upgrade.specs.declared.keyword.Change.TheVariants.{Goes, Identifier, Definitions, Items as ItemsChange}
 use Rattle.js_upgrade.specs.declared.keyword.Change.TheVariants.{AdditionalItems, Dependencies, Minimum}
 use Rattle.js_upgrade.specs.declared.keyword.Change.TheVariants.{Maximum, Divisor, Types, Disallowed, Extended}
-use Rattle.js_upgrade.specs.declared.keyword.Change.TheVariants.{Properties}
+use Rattle.js_upgrade.specs.declared.keyword.Change.TheVariants.{Properties, Contains, RecursiveReference}
+use Rattle.js_upgrade.specs.declared.keyword.Change.TheVariants.{RecursiveAnchor}
 use Rattle.js_upgrade.specs.declared.holding.Holding.{Holding}
 use Rattle.js_upgrade.specs.declared.holding.Holding.TheVariants.{One, Listed, Named as ByName, OneOrListed, Nothing}
 
@@ -54,6 +55,10 @@ types_under (list vs) (index ∷ rest) =
     if list_any is_any (item_list vs) then None else alternative_under (part_named index (list vs))
 types_under _ rest = None
 
+-- behind two `not`s
+abbrev pub contains_under : Named → Tokens
+contains_under siblings = holder siblings ∷ codes "0" ∷ codes "not" ∷ codes "not" ∷ codes "contains" ∷ []
+
 -- behind `not`
 abbrev pub negated : Option Tokens → Option Tokens
 negated found = option_map (λ tokens. codes "not" ∷ tokens) found
@@ -76,6 +81,9 @@ module _ (siblings : Named) (name : Text) (v : Value) (rest : Tokens) where
   under Disallowed = negated (types_under v rest)
   under Extended = listed_under (codes "allOf") (codes "allOf" ∷ first_item) v
   under Properties = just (codes "properties")
+  under Contains = Some (contains_under siblings)
+  under RecursiveReference = just (codes "$dynamicRef")
+  under RecursiveAnchor = None
   under _ = just name
 
 -- ---- one token on

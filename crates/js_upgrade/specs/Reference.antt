@@ -2,7 +2,7 @@
 -- Core, 8.3; 2019-09 Core, 8.2.4; 2020-12 Core, 8.2.3). The URI of a reference stays; of its fragment, a pointer, each
 -- token becomes what stands in its place. A fragment that is a name stays.
 use Rattle.std.specs.Prelude.{List, [], ◌∷◌, ◌++◌, Bool, true, false, Option, Some, None, option_and_then}
-use Rattle.std.specs.Prelude.{bytes_eq, if◌then◌else◌}
+use Rattle.std.specs.Prelude.{bytes_eq, codes, if◌then◌else◌}
 use Rattle.std.specs.Cmp.Lexicographic.{pointwise}
 use Rattle.std.specs.List.{before_first}
 use Rattle.url.specs.Parts.{Parts}
@@ -12,13 +12,13 @@ use Rattle.js_doc.specs.Pointer.{Tokens}
 use Rattle.js_doc.specs.Value.{Value, text, list, object, Items, no_items, item, Members, no_members, member}
 use Rattle.js_doc.specs.Value.{Text, Values, Named, items, members}
 use Rattle.js_upgrade.specs.Moved.{moved}
-use Rattle.js_upgrade.specs.Resource.{Resource, own_base, resource_named}
+use Rattle.js_upgrade.specs.Resource.{Resource, own_base, recurses, resource_named}
 use Rattle.js_upgrade.specs.Schema.{change_of, is_mark}
 use Rattle.js_upgrade.specs.Upgrade.{holding_in, own_dialect}
 use Rattle.js_upgrade.specs.Url.{fragment_pointer, joined, printed, without_fragment}
 use Rattle.js_upgrade.specs.declared.dialect.Dialect.{Dialect}
 use Rattle.js_upgrade.specs.declared.keyword.Change.{Change}
-use Rattle.js_upgrade.specs.declared.keyword.Change.TheVariants.{Refers}
+use Rattle.js_upgrade.specs.declared.keyword.Change.TheVariants.{Refers, RecursiveReference}
 use Rattle.js_upgrade.specs.declared.holding.Holding.{Holding}
 use Rattle.js_upgrade.specs.declared.holding.Holding.TheVariants.{One, Listed, Named as ByName, OneOrListed}
 
@@ -43,6 +43,14 @@ abbrev pub in_resource : Text → Option Tokens → Option Resource → Text
 in_resource t (Some tokens) (Some r) = with_target t tokens (moved_in r tokens)
 in_resource t _ _ = t
 
+-- ---- `$recursiveRef` of 2019-09 (Core, 8.2.4.2.1)
+
+abbrev pub recurses_at : Option Resource → Bool
+recurses_at None = false
+recurses_at (Some r) = recurses r
+
+-- ---- in schemas
+
 -- a schema under a name that is no keyword's
 abbrev pub as_it_is : Text → Value → Value → Value
 as_it_is name v w = w
@@ -58,9 +66,15 @@ module _ (all : List Resource) where
   rewritten base (text t) = text (followed t (joined base t))
   rewritten base v = v
 
+  -- `#`: the root of its resource, or a dynamic anchor where the root has one
+  abbrev pub recursion_rewritten : Parts → Value → Value
+  recursion_rewritten base v =
+      if recurses_at (resource_named all (printed base)) then text (codes "#recursiveAnchor") else v
+
   -- the argument of a keyword, whose schemas have their references rewritten
   abbrev pub argument_rewritten : Change → Parts → Value → Value → Value
   argument_rewritten Refers base v w = rewritten base v
+  argument_rewritten RecursiveReference base v w = recursion_rewritten base v
   argument_rewritten _ base v w = w
 
   -- ---- in a value that holds schemas

@@ -1,16 +1,19 @@
 -- The resources of documents: what a URI without a fragment names. A document is one under its URI; a schema with an
 -- identifier of its dialect is one under what the identifier gives, joined with the base above it (draft-03, 5.27;
 -- draft-04 Core, 7.2; draft-06 Core, 9.2; draft-07 Core, 8.2; 2019-09 Core, 8.2.2; 2020-12 Core, 8.2.1).
-use Rattle.std.specs.Prelude.{List, [], ◌∷◌, ◌++◌, Option, Some, None, option_and_then, option_map, option_to_list}
-use Rattle.std.specs.Prelude.{unwrap_or, if◌then◌else◌, find, bytes_eq}
+use Rattle.std.specs.Prelude.{List, [], ◌∷◌, ◌++◌, Bool, false, Option, Some, None, option_and_then, option_map}
+use Rattle.std.specs.Prelude.{option_to_list}
+use Rattle.std.specs.Prelude.{unwrap_or, if◌then◌else◌, find, bytes_eq, codes}
 use Rattle.url.specs.Parts.{Parts}
 use Rattle.js_doc.specs.Members.{get}
-use Rattle.js_doc.specs.Parts.{member_list}
+use Rattle.js_doc.specs.Parts.{member_list, members_of}
 use Rattle.js_doc.specs.Value.{Value, text, list, object, Items, no_items, item, Members, no_members, member}
 use Rattle.js_doc.specs.Value.{Text, Named, members}
+use Rattle.js_upgrade.specs.Schema.{is_true}
 use Rattle.js_upgrade.specs.Upgrade.{holding_in, identifier, identifies, own_dialect}
 use Rattle.js_upgrade.specs.Url.{joined, printed, without_fragment}
 use Rattle.js_upgrade.specs.declared.dialect.Dialect.{Dialect}
+use Rattle.js_upgrade.specs.declared.dialect.Dialect.TheVariants.{Draft2019}
 use Rattle.js_upgrade.specs.declared.holding.Holding.{Holding}
 use Rattle.js_upgrade.specs.declared.holding.Holding.TheVariants.{One, Listed, Named as ByName, OneOrListed}
 
@@ -79,3 +82,16 @@ schema_resources d base siblings root =
 -- the first with the URI
 abbrev pub resource_named : List Resource → Text → Option Resource
 resource_named all uri = find (λ r. bytes_eq uri r.uri) all
+
+-- ---- resources of 2019-09 whose root has `$recursiveAnchor` (Core, 8.2.4.2.2)
+
+abbrev pub is_recursive : Dialect → Named → Bool
+is_recursive Draft2019 siblings = is_true (get (codes "$recursiveAnchor") siblings)
+is_recursive _ siblings = false
+
+-- by its root, and the dialect around it
+abbrev pub has_recursion : Dialect → Value → Bool
+has_recursion d root = is_recursive (own_dialect d (members_of root)) (members_of root)
+
+abbrev pub recurses : Resource → Bool
+recurses r = has_recursion r.dialect r.root

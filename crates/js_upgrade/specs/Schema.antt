@@ -18,6 +18,7 @@ use Rattle.js_upgrade.specs.declared.keyword.Change.TheVariants.{Goes, Identifie
 use Rattle.js_upgrade.specs.declared.keyword.Change.TheVariants.{AdditionalItems, Dependencies, Minimum}
 use Rattle.js_upgrade.specs.declared.keyword.Change.TheVariants.{Maximum, Divisor}
 use Rattle.js_upgrade.specs.declared.keyword.Change.TheVariants.{Types, Disallowed, Extended, Properties}
+use Rattle.js_upgrade.specs.declared.keyword.Change.TheVariants.{Contains, RecursiveReference, RecursiveAnchor}
 
 -- ---- beside a reference
 
@@ -69,6 +70,15 @@ is_true _ = false
 abbrev pub is_list : Option Value → Bool
 is_list (Some (list vs)) = true
 is_list _ = false
+
+-- more than a fragment
+abbrev pub is_uri : Text → Bool
+is_uri [] = false
+is_uri (b ∷ bs) = not (b == 35)
+
+abbrev pub is_identifier : Option Value → Bool
+is_identifier (Some (text uri)) = is_uri uri
+is_identifier _ = false
 
 -- ---- each text once, where it comes first
 
@@ -188,6 +198,44 @@ abbrev pub members_found : Option Value → Named
 members_found None = []
 members_found (Some v) = members_of v
 
+-- ---- contains of 2019-09 evaluates no items for `unevaluatedItems` (Core, 9.3.1.3 and 9.3.1.4); in 2020-12 it does
+-- (Core, 10.3.1.3 and 11.2), but not behind `not`, which drops annotations (Core, 7.7.1.1)
+
+abbrev pub some_value : Text → Option Value → Named
+some_value name None = []
+some_value name (Some v) = one name v
+
+-- with the limits beside it
+abbrev pub counted : Named → Value → Value
+counted siblings v =
+    object (members (put_all (one (codes "contains") v
+    ++ (some_value (codes "maxContains") (get (codes "maxContains") siblings)
+    ++ some_value (codes "minContains") (get (codes "minContains") siblings))) []))
+
+abbrev pub negation : Value → Value
+negation v = object (members (one (codes "not") v))
+
+-- the first of the lists of schemas that isn't there; beside all of them, `contains` has no place
+abbrev pub holder : Named → Text
+holder siblings =
+    if has_name (codes "allOf") siblings
+    then (if has_name (codes "anyOf") siblings
+    then (if has_name (codes "oneOf") siblings then codes "contains" else codes "oneOf") else codes "anyOf")
+    else codes "allOf"
+
+abbrev pub contains_upgraded : Named → Value → Named
+contains_upgraded siblings v = one (holder siblings) (list (item (negation (negation (counted siblings v))) no_items))
+
+-- ---- $recursiveAnchor of 2019-09 (Core, 8.2.4.2.2), at the root of a resource
+
+abbrev pub recursive_name : Value
+recursive_name = text (codes "recursiveAnchor")
+
+abbrev pub recursive_anchor : Named → Value → Named
+recursive_anchor siblings v =
+    if is_true (Some v) && is_identifier (get (codes "$id") siblings) then one (codes "$dynamicAnchor") recursive_name
+    else []
+
 -- ---- the table
 
 module _ (siblings : Named) (name : Text) (v : Value) where
@@ -209,4 +257,7 @@ module _ (siblings : Named) (name : Text) (v : Value) where
   upgraded_by Properties =
       one (codes "properties") v
       ++ some_items (codes "required") (required_names (members_found (get (codes "properties") siblings)))
+  upgraded_by Contains = contains_upgraded siblings v
+  upgraded_by RecursiveReference = one (codes "$dynamicRef") v
+  upgraded_by RecursiveAnchor = recursive_anchor siblings v
   upgraded_by _ = one name v

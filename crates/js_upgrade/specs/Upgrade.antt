@@ -7,13 +7,13 @@ use Rattle.js_doc.specs.Value.{Text, Values, Named, items, members}
 use Rattle.js_doc.specs.Members.{get, put}
 use Rattle.js_doc.specs.Parts.{member_list}
 use Rattle.js_upgrade.specs.Dialect.{dialect_named, is_before}
-use Rattle.js_upgrade.specs.Schema.{change_of, gathered, hides, upgraded_by}
+use Rattle.js_upgrade.specs.Schema.{change_of, gathered, hides, is_identifier, upgraded_by}
 use Rattle.js_upgrade.specs.declared.dialect.Dialect.{Dialect}
 use Rattle.js_upgrade.specs.declared.dialect.Dialect.TheVariants.{Draft06, Draft2020}
 use Rattle.js_upgrade.specs.declared.keyword.Change.{Change}
 use Rattle.js_upgrade.specs.declared.keyword.Change.TheVariants.{HoldsOne, HoldsList, HoldsNamed, Definitions}
 use Rattle.js_upgrade.specs.declared.keyword.Change.TheVariants.{Items as ItemsChange, AdditionalItems, Dependencies}
-use Rattle.js_upgrade.specs.declared.keyword.Change.TheVariants.{Types, Disallowed, Extended, Properties}
+use Rattle.js_upgrade.specs.declared.keyword.Change.TheVariants.{Types, Disallowed, Extended, Properties, Contains}
 use Rattle.js_upgrade.specs.declared.holding.Holding.{Holding}
 use Rattle.js_upgrade.specs.declared.holding.Holding.TheVariants.{One, Listed, Named as ByName, OneOrListed, Nothing}
 
@@ -22,6 +22,7 @@ use Rattle.js_upgrade.specs.declared.holding.Holding.TheVariants.{One, Listed, N
 abbrev pub holding_of : Change → Holding
 holding_of HoldsOne = One
 holding_of AdditionalItems = One
+holding_of Contains = One
 holding_of HoldsList = Listed
 holding_of HoldsNamed = ByName
 holding_of Definitions = ByName
@@ -45,15 +46,6 @@ declared siblings = option_and_then dialect_in (get (codes "$schema") siblings)
 
 abbrev pub identifier : Dialect → Text
 identifier d = if is_before d Draft06 then codes "id" else codes "$id"
-
--- more than a fragment
-abbrev pub is_uri : Text → Bool
-is_uri [] = false
-is_uri (b ∷ bs) = not (b == 35)
-
-abbrev pub is_identifier : Option Value → Bool
-is_identifier (Some (text uri)) = is_uri uri
-is_identifier _ = false
 
 abbrev pub identifies : Dialect → Named → Bool
 identifies d siblings = is_identifier (get (identifier d) siblings) && not (hides d siblings)

@@ -4,12 +4,14 @@ ghost use Rattle.js_doc.specs.Seen.{value_of};
 ghost use Rattle.js_doc.specs.Value as spec;
 ghost use Rattle.js_upgrade.specs.Schema.{one, put_all, types_upgraded, upgraded_by};
 
+use crate::containing::put_contains;
 use crate::gathering::put_one;
 use crate::identifier::put_identifier;
 use crate::keyword::Change;
 use crate::pieces::{
     put_behind_list, put_dependencies, put_extended, put_limit, put_list_or_schema,
 };
+use crate::recursion::put_recursive_anchor;
 use crate::required::put_properties;
 use crate::types::put_types;
 use js_doc::{Doc, Members, Memory};
@@ -43,6 +45,9 @@ pub(crate) fn put_upgraded(
         Change::Disallowed => put_disallowed(alloc, among, &value),
         Change::Extended => put_extended(alloc, among, value),
         Change::Properties => put_properties(alloc, among, siblings, value),
+        Change::Contains => put_contains(alloc, among, siblings, value),
+        Change::RecursiveReference => put_one(alloc, among, "$dynamicRef", value),
+        Change::RecursiveAnchor => put_recursive_anchor(alloc, among, siblings, &value),
         _ => put_one(alloc, among, name, value),
     }
 }

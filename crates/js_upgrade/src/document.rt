@@ -16,7 +16,7 @@ use js_doc::{Doc, Memory, Pointer, Text};
 use std::alloc::Global;
 
 /// The document as one of 2020-12. Where it names no dialect, the one given is assumed. Its references stay as they
-/// are.
+/// are; a `$recursiveRef` leads to the root of its resource, whatever the dynamic scope.
 ///
 /// # Errors
 /// `UnknownDialect` or `BadKeyword`, at the root's `$schema`; else `Memory`. The fault's document is 0.

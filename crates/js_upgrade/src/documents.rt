@@ -11,6 +11,7 @@ use crate::dialect::Dialect;
 use crate::document::{document_dialect, root_upgraded};
 use crate::fault::{Stop, UpgradeFault, fault_of};
 use crate::holding::Holding;
+use crate::recursion::{anchored, has_recursion};
 use crate::reference::relocated;
 use crate::resources::{Resource, push_resource, push_resources};
 use js_doc::{Doc, Memory};
@@ -30,8 +31,9 @@ pub struct Source {
 /// # Errors
 /// The first fault: `TooManyDocuments`, of the document 1,000; of each document `UnknownDialect` and `BadKeyword`
 /// (`$schema`), `BadKeyword`, `UriTooLong` and `BadId` (identifiers); `DuplicateUri` of a document; of each document
-/// `BadKeyword`, `UriTooLong`, `BadReference` and `Unresolved` (references). A schema comes before those that it holds,
-/// and those by name or index ascending. `Memory` may come at any point; its document is 0, and its place the empty
+/// `BadKeyword`, `UriTooLong`, `BadReference` and `Unresolved` (`$ref`), `BadKeyword` and `BadReference`
+/// (`$recursiveRef`), and `BadKeyword` (`contains`, `$dynamicAnchor`). A schema comes before those that it holds, and
+/// those by name or index ascending. `Memory` may come at any point; its document is 0, and its place the empty
 /// pointer.
 pub fn upgrade_all(alloc: Global, sources: &[Source]) -> Result<Vec<Doc>, UpgradeFault>
     ensures ok { IfOk result (λ v. all_upgraded (map source_of sources.now) ≡ Some (map value_of v.items)) }
@@ -103,7 +105,8 @@ fn upgraded_among(alloc: Global, resources: &[Resource], source: &Source) -> Res
                 &source.uri,
                 &source.root,
             )?;
-            root_upgraded(alloc, dialect, &root)
+            let upgraded = root_upgraded(alloc, dialect, &root)?;
+            anchored(alloc, has_recursion(dialect, &source.root), upgraded)
         }
         None => source.root.copy(alloc),
     }

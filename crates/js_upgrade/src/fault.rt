@@ -24,7 +24,8 @@ pub enum UpgradeFaultKind {
     TooManyDocuments,
     /// A `$schema` names none of the dialects.
     UnknownDialect,
-    /// A `$schema`, an identifier or a reference isn't a text.
+    /// A `$schema`, an identifier or a reference isn't a text. Or `contains` of 2019-09 has no place, or a
+    /// `$dynamicAnchor` has the name that `$recursiveAnchor` gets.
     BadKeyword,
     /// An identifier or a reference has more than 65,536 bytes.
     UriTooLong,
@@ -32,9 +33,9 @@ pub enum UpgradeFaultKind {
     BadId,
     /// Two documents have one URI.
     DuplicateUri,
-    /// A reference can't be joined with its base.
+    /// A reference can't be joined with its base, or a `$recursiveRef` isn't `#`.
     BadReference,
-    /// A reference leads nowhere.
+    /// A reference leads nowhere, or to what goes.
     Unresolved,
 }
 
@@ -64,7 +65,7 @@ impl From<Memory> for Stop {
     }
 }
 
-/// The fault that is answered. Want of memory is recorded of no place.
+/// The fault of a stop. Out of memory has no place.
 pub(crate) fn fault_of(alloc: Global, stop: Stop) -> UpgradeFault
     ensures { result ≡ fault_by_stop stop }
 {

@@ -2,7 +2,8 @@
 ghost use Rattle.std.specs.Prelude.{◌≡◌, IfOk, decimal, map, option_map};
 ghost use Rattle.js_doc.specs.Seen.{value_of};
 ghost use Rattle.js_doc.specs.Value.{items, members, object};
-ghost use Rattle.js_upgrade.specs.Fault.{at_keyword, deeper, fault_in, item_fault, member_fault, schema_fault};
+ghost use Rattle.js_upgrade.specs.Fault.{at_keyword, deeper, fault_in, item_fault, member_fault, other_fault};
+ghost use Rattle.js_upgrade.specs.Fault.{schema_fault};
 ghost use Rattle.js_upgrade.specs.Resource.{own_base};
 ghost use Rattle.js_upgrade.specs.Seen.{found_of, resource_of};
 ghost use Rattle.js_upgrade.specs.Upgrade.{holding_in, own_dialect};
@@ -11,7 +12,9 @@ ghost use Rattle.js_upgrade.specs.declared.holding.Holding.TheVariants.{One};
 use crate::dialect::Dialect;
 use crate::fault::{Pass, UpgradeFaultKind};
 use crate::holding::{Holding, holding_of};
-use crate::kinds::{declared_kind, own_kind, recursive_kind, reference_kind};
+use crate::kinds::{
+    anchor_kind, contains_kind, declared_kind, own_kind, recursive_kind, reference_kind,
+};
 use crate::resources::{Resource, identity};
 use crate::schema::{change_of, identifier, own_dialect};
 use js_doc::{Doc, Items, Members, Memory, Pointer};
@@ -104,9 +107,34 @@ fn schema_fault(
             if found.is_some() {
                 return Ok(found);
             }
-            at_keyword(alloc, "$recursiveRef", recursive_kind(own, siblings))
+            other_fault(alloc, resources, own, siblings)
         }
     }
+}
+
+// Of what isn't `$ref`, in a schema of this dialect.
+fn other_fault(
+    alloc: Global,
+    resources: &[Resource],
+    own: Dialect,
+    siblings: &Members,
+) -> Result<Option<Found>, Memory>
+    ensures { IfOk result (λ f. option_map found_of f
+        ≡ other_fault (map resource_of resources.now) own siblings.now) }
+{
+    let recursive = at_keyword(alloc, "$recursiveRef", recursive_kind(own, siblings))?;
+    if recursive.is_some() {
+        return Ok(recursive);
+    }
+    let contains = at_keyword(alloc, "contains", contains_kind(own, siblings))?;
+    if contains.is_some() {
+        return Ok(contains);
+    }
+    at_keyword(
+        alloc,
+        "$dynamicAnchor",
+        anchor_kind(resources, own, siblings),
+    )
 }
 
 /// The first fault in a value that holds schemas.

@@ -24,7 +24,7 @@ pub(crate) fn holding_of(change: Change) -> Holding
     ensures { result ≡ holding_of change }
 {
     match change {
-        Change::HoldsOne | Change::AdditionalItems => Holding::One,
+        Change::HoldsOne | Change::AdditionalItems | Change::Contains => Holding::One,
         Change::HoldsList => Holding::Listed,
         Change::HoldsNamed | Change::Definitions | Change::Dependencies | Change::Properties =>
             Holding::Named,

@@ -1,6 +1,7 @@
 //! What becomes of a keyword in 2020-12.
 ghost use Rattle.std.specs.Prelude.{◌≡◌};
-ghost use Rattle.js_upgrade.specs.Keyword.{applicator_change, assertion_change, change_in, core_change, since, until};
+ghost use Rattle.js_upgrade.specs.Keyword.{applicator_change, assertion_change, change_in, core_change, in_2019};
+ghost use Rattle.js_upgrade.specs.Keyword.{since, until};
 
 use crate::dialect::Dialect;
 
@@ -45,6 +46,12 @@ pub enum Change {
     Extended,
     /// `properties` of draft-03 says which members are required.
     Properties,
+    /// `contains` of 2019-09 evaluates nothing: it goes behind two `not`s.
+    Contains,
+    /// `$recursiveRef` becomes `$dynamicRef`.
+    RecursiveReference,
+    /// `$recursiveAnchor` becomes `$dynamicAnchor` at the root of a resource.
+    RecursiveAnchor,
 }
 
 /// What becomes of the keyword with this name in the dialect.
@@ -85,6 +92,8 @@ fn core_change(dialect: Dialect, name: &str) -> Option<Change>
         "id" => Some(until(dialect, Dialect::Draft06, Change::Identifier, Change::Stays)),
         "$anchor" => Some(since(dialect, Dialect::Draft2019, Change::Asserts)),
         "$ref" => Some(Change::Refers),
+        "$recursiveRef" => { Some(in_2019(dialect, Change::Stays, Change::RecursiveReference)) }
+        "$recursiveAnchor" => Some(in_2019(dialect, Change::Stays, Change::RecursiveAnchor)),
         "$defs" => Some(since(dialect, Dialect::Draft2019, Change::HoldsNamed)),
         "definitions" => Some(until(
             dialect,
@@ -120,7 +129,12 @@ fn applicator_change(dialect: Dialect, name: &str) -> Option<Change>
             Change::Stays,
         )),
         "prefixItems" => Some(since(dialect, Dialect::Draft2020, Change::HoldsList)),
-        "contains" | "propertyNames" => Some(since(dialect, Dialect::Draft06, Change::HoldsOne)),
+        "contains" => Some(since(
+            dialect,
+            Dialect::Draft06,
+            in_2019(dialect, Change::HoldsOne, Change::Contains),
+        )),
+        "propertyNames" => Some(since(dialect, Dialect::Draft06, Change::HoldsOne)),
         "properties" => Some(until(
             dialect,
             Dialect::Draft04,
@@ -154,9 +168,10 @@ fn assertion_change(dialect: Dialect, name: &str) -> Option<Change>
         "divisibleBy" => Some(until(dialect, Dialect::Draft04, Change::Divisor, Change::Stays)),
         "maximum" => Some(until(dialect, Dialect::Draft06, Change::Maximum, Change::Asserts)),
         "minimum" => Some(until(dialect, Dialect::Draft06, Change::Minimum, Change::Asserts)),
-        "maxContains" | "minContains" | "dependentRequired" => {
-            Some(since(dialect, Dialect::Draft2019, Change::Asserts))
+        "maxContains" | "minContains" => {
+            Some(since(dialect, Dialect::Draft2020, Change::Asserts))
         }
+        "dependentRequired" => Some(since(dialect, Dialect::Draft2019, Change::Asserts)),
         _ => None,
     }
 }
@@ -173,4 +188,16 @@ fn since(dialect: Dialect, draft: Dialect, new: Change) -> Change
     ensures { result ≡ since dialect draft new }
 {
     until(dialect, draft, Change::Goes, new)
+}
+
+// What 2019-09 alone has.
+fn in_2019(dialect: Dialect, other: Change, new: Change) -> Change
+    ensures { result ≡ in_2019 dialect other new }
+{
+    until(
+        dialect,
+        Dialect::Draft2019,
+        other,
+        until(dialect, Dialect::Draft2020, new, other),
+    )
 }

@@ -1,15 +1,20 @@
 //! What is wrong with a keyword of a schema.
 ghost use Rattle.std.specs.Prelude.{◌≡◌, IfOk, is_none, map, option_map, option_and_then};
 ghost use Rattle.js_doc.specs.Seen.{value_of};
-ghost use Rattle.js_upgrade.specs.Fault.{declared_kind, dialect_kind, identifier_kind, joined_kind, no_dialect};
-ghost use Rattle.js_upgrade.specs.Fault.{own_kind, part_at, recursive_kind, reference_kind, target, target_kind};
-ghost use Rattle.js_upgrade.specs.Fault.{unnamed};
+ghost use Rattle.std.specs.List.{list_any};
+ghost use Rattle.js_upgrade.specs.Fault.{anchor_kind, contains_kind, declared_kind, dialect_kind, has_recursive_name};
+ghost use Rattle.js_upgrade.specs.Fault.{identifier_kind, joined_kind, no_dialect, own_kind, part_at, recursion_kind};
+ghost use Rattle.js_upgrade.specs.Fault.{recursive_kind, reference_kind, target, target_kind, unnamed};
+ghost use Rattle.js_upgrade.specs.Resource.{recurses};
 ghost use Rattle.js_upgrade.specs.Seen.{resource_of};
 
+use crate::containing::holder;
 use crate::dialect::Dialect;
 use crate::fault::UpgradeFaultKind;
+use crate::recursion::recurses;
 use crate::resources::{Resource, resource_named};
 use crate::schema::{dialect_in, hides, identifier, identifies, is_uri};
+use crate::target::moved_in;
 use crate::uri::{LONGEST, fragment_pointer, joined, printed, without_fragment};
 use js_doc::{Doc, Members, Memory, Pointer};
 use std::alloc::Global;
@@ -48,17 +53,87 @@ pub(crate) fn no_dialect(uri: &Doc) -> UpgradeFaultKind
     }
 }
 
-/// Of the schema's `$recursiveRef`, which isn't followed.
+/// Of the schema's `$recursiveRef`, which is `#`.
 pub(crate) fn recursive_kind(own: Dialect, siblings: &Members) -> Option<UpgradeFaultKind>
     ensures { result ≡ recursive_kind own siblings.now }
 {
     match own {
-        Dialect::Draft2019 => match siblings.get("$recursiveRef") {
-            Some(_) => Some(UpgradeFaultKind::BadReference),
-            None => None,
-        },
+        Dialect::Draft2019 => recursion_kind(siblings.get("$recursiveRef")),
         _ => None,
     }
+}
+
+fn recursion_kind(found: Option<&Doc>) -> Option<UpgradeFaultKind>
+    ensures { result ≡ recursion_kind (option_map (λ d. value_of d.now) found.entry) }
+{
+    match found {
+        None => None,
+        Some(Doc::Text(text)) => {
+            if text.as_str() == "#" {
+                None
+            } else {
+                Some(UpgradeFaultKind::BadReference)
+            }
+        }
+        Some(_) => Some(UpgradeFaultKind::BadKeyword),
+    }
+}
+
+/// Of the schema's `contains` in 2019-09, which has to stand in a list of schemas that isn't there yet.
+pub(crate) fn contains_kind(own: Dialect, siblings: &Members) -> Option<UpgradeFaultKind>
+    ensures { result ≡ contains_kind own siblings.now }
+{
+    match own {
+        Dialect::Draft2019 => {
+            if siblings.get("contains").is_some() && holder(siblings) == "contains" {
+                Some(UpgradeFaultKind::BadKeyword)
+            } else {
+                None
+            }
+        }
+        _ => None,
+    }
+}
+
+/// Of the schema's `$dynamicAnchor`, which may not have the name that `$recursiveAnchor` gets.
+pub(crate) fn anchor_kind(
+    resources: &[Resource],
+    own: Dialect,
+    siblings: &Members,
+) -> Option<UpgradeFaultKind>
+    ensures { result ≡ anchor_kind (map resource_of resources.now) own siblings.now }
+{
+    match own {
+        Dialect::Draft2020 => {
+            if has_recursive_name(siblings.get("$dynamicAnchor")) && has_recursive(resources) {
+                Some(UpgradeFaultKind::BadKeyword)
+            } else {
+                None
+            }
+        }
+        _ => None,
+    }
+}
+
+fn has_recursive_name(found: Option<&Doc>) -> bool
+    ensures { result ≡ has_recursive_name (option_map (λ d. value_of d.now) found.entry) }
+{
+    match found {
+        Some(Doc::Text(text)) => text.as_str() == "recursiveAnchor",
+        _ => false,
+    }
+}
+
+fn has_recursive(resources: &[Resource]) -> bool
+    ensures { result ≡ list_any recurses (map resource_of resources.now) }
+{
+    any_recurses(resources)
+}
+
+fn any_recurses(resources: &[Resource]) -> bool
+    ensures { result ≡ list_any (λ r. recurses (resource_of r)) resources.now }
+{
+    resources.iter().any(|resource| recurses(resource))
 }
 
 /// Of the schema's identifier, unless a reference hides it.
@@ -160,18 +235,22 @@ fn leads_nowhere(alloc: Global, resources: &[Resource], uri: Url) -> Result<bool
 {
     let pointer = fragment_pointer(alloc, &uri)?;
     let bare = without_fragment(uri)?;
-    Ok(has_no_part(&pointer, resource_named(resources, printed(&bare))))
+    has_no_part(alloc, &pointer, resource_named(resources, printed(&bare)))
 }
 
-fn has_no_part(pointer: &Option<Pointer>, resource: Option<&Resource>) -> bool
-    ensures { result ≡ is_none (option_and_then (part_at pointer.now)
-        (option_map (λ r. resource_of r.now) resource.entry)) }
+fn has_no_part(
+    alloc: Global,
+    pointer: &Option<Pointer>,
+    resource: Option<&Resource>,
+) -> Result<bool, Memory>
+    ensures { IfOk result (λ b. b ≡ is_none (option_and_then (part_at pointer.now)
+        (option_map (λ r. resource_of r.now) resource.entry))) }
 {
     match resource {
         Some(resource) => match pointer {
-            Some(pointer) => resource.root.at(pointer).is_none(),
-            None => false,
+            Some(pointer) => Ok(moved_in(alloc, resource, pointer)?.is_none()),
+            None => Ok(false),
         },
-        None => true,
+        None => Ok(true),
     }
 }

@@ -1,6 +1,6 @@
 //! Laws of the definitions that this crate's contracts speak of. Calling one does nothing.
 ghost use Rattle.js_upgrade.specs.Laws.{AllCurrentStay, CurrentStays, KeywordsHaveOrigins, StandsWhereMoved};
-ghost use Rattle.js_upgrade.specs.Laws.{TwiceIsOnce};
+ghost use Rattle.js_upgrade.specs.Laws.{AllTwiceIsOnce, TwiceIsOnce};
 
 /// A document of 2020-12 in which no schema declares an older draft stays as it is.
 pub fn a_document_of_2020_12_stays()
@@ -25,4 +25,9 @@ pub fn keywords_have_origins()
 /// Documents of 2020-12 that are upgraded together stay as they are, where no schema in one declares an older draft.
 pub fn documents_of_2020_12_stay()
     ensures { AllCurrentStay }
+{}
+
+/// Documents that were upgraded together stay as they are, where the same dialects are assumed.
+pub fn upgraded_together_twice_is_once()
+    ensures { AllTwiceIsOnce }
 {}

@@ -3,6 +3,7 @@
 
 mod becoming;
 mod checking;
+mod containing;
 mod dialect;
 mod document;
 mod documents;
@@ -17,6 +18,7 @@ pub mod laws;
 mod moving;
 mod once;
 mod pieces;
+mod recursion;
 mod reference;
 mod required;
 mod resources;

@@ -1,6 +1,6 @@
 //! What a keyword becomes, put among the keywords of its schema. Its argument comes with the schemas that it holds
 //! upgraded already.
-ghost use Rattle.std.specs.Prelude.{◌≡◌, OnOk, IfOk, [], codes, if◌then◌else◌};
+ghost use Rattle.std.specs.Prelude.{◌≡◌, OnOk, IfOk, Some, [], codes, if◌then◌else◌};
 ghost use Rattle.js_doc.specs.Members.{get};
 ghost use Rattle.js_doc.specs.Seen.{value_of};
 ghost use Rattle.js_doc.specs.Value as spec;
@@ -71,6 +71,15 @@ pub(crate) fn has_true(siblings: &Members, name: &str) -> bool
 {
     match siblings.get(name) {
         Some(Doc::Truth(b)) => *b,
+        _ => false,
+    }
+}
+
+pub(crate) fn is_truth(value: &Doc) -> bool
+    ensures { result ≡ is_true (Some (value_of value.now)) }
+{
+    match value {
+        Doc::Truth(b) => *b,
         _ => false,
     }
 }

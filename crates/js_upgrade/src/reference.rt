@@ -13,6 +13,7 @@ use crate::dialect::Dialect;
 use crate::gathering::put_one;
 use crate::holding::{Holding, holding_of};
 use crate::keyword::Change;
+use crate::recursion::recursion_rewritten;
 use crate::resources::{Resource, identity};
 use crate::schema::{change_of, own_dialect};
 use crate::target::rewritten;
@@ -122,6 +123,7 @@ fn argument_relocated(
 {
     match change {
         Change::Refers => rewritten(alloc, resources, base, argument),
+        Change::RecursiveReference => recursion_rewritten(alloc, resources, base, argument),
         _ => relocated(
             alloc,
             resources,

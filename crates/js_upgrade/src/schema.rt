@@ -1,9 +1,8 @@
 //! The keywords of a schema, beside one another.
 ghost use Rattle.std.specs.Prelude.{◌≡◌, option_map};
 ghost use Rattle.js_doc.specs.Seen.{value_of};
-ghost use Rattle.js_upgrade.specs.Schema.{beside_reference, change_of, hides};
-ghost use Rattle.js_upgrade.specs.Upgrade.{declared, dialect_in, identifier, identifies};
-ghost use Rattle.js_upgrade.specs.Upgrade.{is_identifier, is_uri, own_dialect};
+ghost use Rattle.js_upgrade.specs.Schema.{beside_reference, change_of, hides, is_identifier, is_uri};
+ghost use Rattle.js_upgrade.specs.Upgrade.{declared, dialect_in, identifier, identifies, own_dialect};
 
 use crate::dialect::Dialect;
 use crate::keyword::{Change, change_in};
@@ -89,7 +88,7 @@ pub(crate) fn identifier(dialect: Dialect) -> &'static str
     }
 }
 
-fn is_identifier(found: Option<&Doc>) -> bool
+pub(crate) fn is_identifier(found: Option<&Doc>) -> bool
     ensures { result ≡ is_identifier (option_map (λ d. value_of d.now) found.entry) }
 {
     match found {

@@ -1,7 +1,7 @@
 //! The text of a reference, with the place to which its target has gone.
 ghost use Rattle.std.specs.Prelude.{◌≡◌, IfOk, map, option_map, string_bytes};
 ghost use Rattle.js_doc.specs.Seen.{value_of};
-ghost use Rattle.js_upgrade.specs.Reference.{followed, in_resource, rewritten, with_pointer, with_target};
+ghost use Rattle.js_upgrade.specs.Reference.{followed, in_resource, moved_in, rewritten, with_pointer, with_target};
 ghost use Rattle.js_upgrade.specs.Seen.{resource_of};
 
 use crate::holding::Holding;
@@ -78,19 +78,33 @@ fn in_resource(
     match pointer {
         Some(old) => match resource {
             Some(resource) => {
-                let new = moved(
-                    alloc,
-                    Holding::One,
-                    resource.dialect,
-                    &resource.root,
-                    old.tokens(),
-                )?;
+                let new = moved_in(alloc, resource, &old)?;
                 with_target(alloc, reference, &old, new)
             }
             None => copied(alloc, reference),
         },
         None => copied(alloc, reference),
     }
+}
+
+/// Where the target of a pointer in a resource goes.
+///
+/// # Errors
+/// `Memory`.
+pub(crate) fn moved_in(
+    alloc: Global,
+    resource: &Resource,
+    pointer: &Pointer,
+) -> Result<Option<Pointer>, Memory>
+    ensures { IfOk result (λ p. p ≡ moved_in (resource_of resource.now) pointer.now) }
+{
+    moved(
+        alloc,
+        Holding::One,
+        resource.dialect,
+        &resource.root,
+        pointer.tokens(),
+    )
 }
 
 fn with_target(

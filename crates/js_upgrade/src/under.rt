@@ -3,10 +3,12 @@ ghost use Rattle.std.specs.Prelude.{[], ◌∷◌, codes, IfOk, Some, option_map
 ghost use Rattle.js_doc.specs.Seen.{value_of};
 ghost use Rattle.js_doc.specs.Members.{get};
 ghost use Rattle.js_upgrade.specs.Schema.{is_true};
-ghost use Rattle.js_upgrade.specs.Moved.{alternative_under, dependencies_under, dependent_under, first_item, just};
+ghost use Rattle.js_upgrade.specs.Moved.{alternative_under, contains_under, dependencies_under, dependent_under};
+ghost use Rattle.js_upgrade.specs.Moved.{first_item, just};
 ghost use Rattle.js_upgrade.specs.Moved.{listed_under, negated, types_under, under};
 ghost use Rattle.js_upgrade.specs.code.Pushed.{IsPushed};
 
+use crate::containing::holder;
 use crate::keyword::Change;
 use crate::moving::part_named;
 use crate::pieces::{has_list, has_true};
@@ -31,7 +33,7 @@ pub(crate) fn push_under(
         (under siblings.now name.now (value_of value.now) rest.now change)) }
 {
     match change {
-        Change::Goes | Change::Identifier => Ok(false),
+        Change::Goes | Change::Identifier | Change::RecursiveAnchor => Ok(false),
         Change::Definitions => push_just(out, "$defs"),
         Change::Items => push_items(out, value),
         Change::AdditionalItems => {
@@ -49,6 +51,8 @@ pub(crate) fn push_under(
         Change::Disallowed => push_disallowed(alloc, out, value, rest),
         Change::Extended => push_extended(out, value),
         Change::Properties => push_just(out, "properties"),
+        Change::Contains => push_contains(out, siblings),
+        Change::RecursiveReference => push_just(out, "$dynamicRef"),
         _ => push_just(out, name),
     }
 }
@@ -176,4 +180,15 @@ fn push_disallowed(
 {
     out.push("not")?;
     push_types(alloc, out, value, rest)
+}
+
+fn push_contains(out: &mut Pointer, siblings: &Members) -> Result<bool, Memory>
+    ensures { IfOk result (IsPushed out.old out.new (Some (contains_under siblings.now))) }
+{
+    out.push(holder(siblings))?;
+    out.push("0")?;
+    out.push("not")?;
+    out.push("not")?;
+    out.push("contains")?;
+    Ok(true)
 }

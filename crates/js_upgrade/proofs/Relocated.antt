@@ -1,0 +1,200 @@
+-- What stays of a value when its references are rewritten: the order of its names, and its `$schema`.
+use Rattle.std.proofs.Common.{◌≡◌, List, [], ◌∷◌, Bool, true, false, Option, Some, None, cond, Ordering, Less, Equal}
+use Rattle.std.proofs.Common.{Greater, codes, refl, sym, ap, ◌∙◌}
+use Rattle.std.specs.Ordering.{match_ordering}
+use Rattle.url.specs.Parts.{Parts}
+use Rattle.js_doc.specs.Members.{get, name_cmp, IsBelowFirst, NamesAscend, NamesAscendInItems, NamesAscendInMembers}
+use Rattle.js_doc.specs.Parts.{member_list}
+use Rattle.js_doc.specs.Value.{Value, null, truth, whole, text, list, object, Items as ItemList, no_items, item, items}
+use Rattle.js_doc.specs.Value.{Members, no_members, member, members, Text, Named}
+use Rattle.js_doc.proofs.FiniteMaps.{name_equal}
+use Rattle.js_upgrade.specs.Keyword.{applicator_change, assertion_change, change_in, core_change}
+use Rattle.js_upgrade.specs.Reference.{argument_rewritten, as_it_is, items_relocated, members_relocated, recurses_at}
+use Rattle.js_upgrade.specs.Reference.{relocated, rewritten}
+use Rattle.js_upgrade.specs.Resource.{Resource, own_base, resource_named}
+use Rattle.js_upgrade.specs.Schema.{beside_reference, change_of, hides}
+use Rattle.js_upgrade.specs.Upgrade.{holding_in, holding_of, own_dialect}
+use Rattle.js_upgrade.specs.Url.{printed}
+use Rattle.js_upgrade.specs.declared.dialect.Dialect.{Dialect}
+use Rattle.js_upgrade.specs.declared.dialect.Dialect.TheVariants.{Draft03, Draft04, Draft06}
+use Rattle.js_upgrade.specs.declared.dialect.Dialect.TheVariants.{Draft07, Draft2019, Draft2020}
+use Rattle.js_upgrade.specs.declared.keyword.Change.{Change}
+use Rattle.js_upgrade.specs.declared.keyword.Change.TheVariants.{Stays, Asserts, Refers}
+use Rattle.js_upgrade.specs.declared.keyword.Change.TheVariants.{HoldsOne, HoldsList, HoldsNamed}
+use Rattle.js_upgrade.specs.declared.keyword.Change.TheVariants.{Goes, Identifier, Definitions, Items, AdditionalItems}
+use Rattle.js_upgrade.specs.declared.keyword.Change.TheVariants.{Dependencies, Minimum, Maximum, Divisor, Types}
+use Rattle.js_upgrade.specs.declared.keyword.Change.TheVariants.{Disallowed, Extended, Properties}
+use Rattle.js_upgrade.specs.declared.keyword.Change.TheVariants.{Contains, RecursiveReference, RecursiveAnchor}
+use Rattle.js_upgrade.specs.declared.holding.Holding.{Holding}
+use Rattle.js_upgrade.specs.declared.holding.Holding.TheVariants.{One, Listed, Named as ByName, OneOrListed, Nothing}
+
+-- ---- names ascend
+
+either_ascends : (b : Bool) (t : Text) (v : Value) → NamesAscend v → NamesAscend (cond b (text t) v)
+either_ascends true t v s = tt
+either_ascends false t v s = s
+
+module _ (all : List Resource) where
+  rewritten_ascends : (base : Parts) (v : Value) → NamesAscend v → NamesAscend (rewritten all base v)
+  rewritten_ascends base (text t) s = tt
+  rewritten_ascends base null s = tt
+  rewritten_ascends base (truth b) s = tt
+  rewritten_ascends base (whole z) s = tt
+  rewritten_ascends base (list vs) s = s
+  rewritten_ascends base (object ms) s = s
+
+  argument_ascends : (change : Change) (base : Parts) (v w : Value) → NamesAscend v → NamesAscend w
+      → NamesAscend (argument_rewritten all change base v w)
+  argument_ascends Refers base v w s t = rewritten_ascends base v s
+  argument_ascends RecursiveReference base v w s t =
+      either_ascends (recurses_at (resource_named all (printed base))) (codes "#recursiveAnchor") v s
+  argument_ascends Stays base v w s t = t
+  argument_ascends Asserts base v w s t = t
+  argument_ascends HoldsOne base v w s t = t
+  argument_ascends HoldsList base v w s t = t
+  argument_ascends HoldsNamed base v w s t = t
+  argument_ascends Goes base v w s t = t
+  argument_ascends Identifier base v w s t = t
+  argument_ascends Definitions base v w s t = t
+  argument_ascends Items base v w s t = t
+  argument_ascends AdditionalItems base v w s t = t
+  argument_ascends Dependencies base v w s t = t
+  argument_ascends Minimum base v w s t = t
+  argument_ascends Maximum base v w s t = t
+  argument_ascends Divisor base v w s t = t
+  argument_ascends Types base v w s t = t
+  argument_ascends Disallowed base v w s t = t
+  argument_ascends Extended base v w s t = t
+  argument_ascends Properties base v w s t = t
+  argument_ascends Contains base v w s t = t
+  argument_ascends RecursiveAnchor base v w s t = t
+
+  below_relocated : (held : Text → Holding) (argument : Text → Value → Value → Value) (d : Dialect) (base : Parts)
+      (k : Text) (ms : Members) → IsBelowFirst k ms
+      → IsBelowFirst k (members (members_relocated all held argument d base ms))
+  below_relocated held argument d base k no_members s = tt
+  below_relocated held argument d base k (member name v ms) s = s
+
+  mutual
+    pub relocated_ascends : (h : Holding) (d : Dialect) (base : Parts) (v : Value) → NamesAscend v
+        → NamesAscend (relocated all h d base v)
+    relocated_ascends One d base (object ms) s =
+        let own = own_dialect d (member_list ms) in
+        let below = own_base own base (member_list ms) in
+        members_relocated_ascend (holding_in own (member_list ms))
+        (λ name. argument_rewritten all (change_of own (member_list ms) name) below) own below ms
+        (λ k v w s t. argument_ascends (change_of own (member_list ms) k) below v w s t) s
+    relocated_ascends OneOrListed d base (object ms) s =
+        let own = own_dialect d (member_list ms) in
+        let below = own_base own base (member_list ms) in
+        members_relocated_ascend (holding_in own (member_list ms))
+        (λ name. argument_rewritten all (change_of own (member_list ms) name) below) own below ms
+        (λ k v w s t. argument_ascends (change_of own (member_list ms) k) below v w s t) s
+    relocated_ascends ByName d base (object ms) s =
+        members_relocated_ascend (λ _. One) as_it_is d base ms (λ k v w s t. t) s
+    relocated_ascends Listed d base (object ms) s = s
+    relocated_ascends Nothing d base (object ms) s = s
+    relocated_ascends Listed d base (list vs) s = items_relocated_ascend d base vs s
+    relocated_ascends OneOrListed d base (list vs) s = items_relocated_ascend d base vs s
+    relocated_ascends One d base (list vs) s = s
+    relocated_ascends ByName d base (list vs) s = s
+    relocated_ascends Nothing d base (list vs) s = s
+    relocated_ascends One d base null s = tt
+    relocated_ascends Listed d base null s = tt
+    relocated_ascends ByName d base null s = tt
+    relocated_ascends OneOrListed d base null s = tt
+    relocated_ascends Nothing d base null s = tt
+    relocated_ascends One d base (truth b) s = tt
+    relocated_ascends Listed d base (truth b) s = tt
+    relocated_ascends ByName d base (truth b) s = tt
+    relocated_ascends OneOrListed d base (truth b) s = tt
+    relocated_ascends Nothing d base (truth b) s = tt
+    relocated_ascends One d base (whole z) s = tt
+    relocated_ascends Listed d base (whole z) s = tt
+    relocated_ascends ByName d base (whole z) s = tt
+    relocated_ascends OneOrListed d base (whole z) s = tt
+    relocated_ascends Nothing d base (whole z) s = tt
+    relocated_ascends One d base (text t) s = tt
+    relocated_ascends Listed d base (text t) s = tt
+    relocated_ascends ByName d base (text t) s = tt
+    relocated_ascends OneOrListed d base (text t) s = tt
+    relocated_ascends Nothing d base (text t) s = tt
+
+    items_relocated_ascend : (d : Dialect) (base : Parts) (vs : ItemList) → NamesAscendInItems vs
+        → NamesAscendInItems (items (items_relocated all d base vs))
+    items_relocated_ascend d base no_items s = tt
+    items_relocated_ascend d base (item v vs) s =
+        (relocated_ascends One d base v s.0, items_relocated_ascend d base vs s.1)
+
+    members_relocated_ascend : (held : Text → Holding) (argument : Text → Value → Value → Value) (d : Dialect)
+        (base : Parts) (ms : Members)
+        → ((k : Text) (v w : Value) → NamesAscend v → NamesAscend w → NamesAscend (argument k v w))
+        → NamesAscendInMembers ms → NamesAscendInMembers (members (members_relocated all held argument d base ms))
+    members_relocated_ascend held argument d base no_members kept s = tt
+    members_relocated_ascend held argument d base (member k v ms) kept s = (
+      below_relocated held argument d base k ms s.0,
+      kept k v (relocated all (held k) d base v) s.1 (relocated_ascends (held k) d base v s.1),
+      members_relocated_ascend held argument d base ms kept s.2,
+    )
+
+  -- ---- `$schema` stays
+
+  nothing_relocated : (d : Dialect) (base : Parts) (v : Value) → relocated all Nothing d base v ≡ v
+  nothing_relocated d base null = refl
+  nothing_relocated d base (truth b) = refl
+  nothing_relocated d base (whole z) = refl
+  nothing_relocated d base (text t) = refl
+  nothing_relocated d base (list vs) = refl
+  nothing_relocated d base (object ms) = refl
+
+  abbrev ArgumentStays : Dialect → Parts → Value → Change → Type 0
+  ArgumentStays d base v change =
+      argument_rewritten all change base v (relocated all (holding_of change) d base v) ≡ v
+
+  schema_stays : (d : Dialect) (hidden : Bool) (base : Parts) (v : Value) → ArgumentStays d base v
+      (cond hidden (beside_reference (change_in d (codes "$schema"))) (change_in d (codes "$schema")))
+  unfolding core_change applicator_change assertion_change
+  schema_stays Draft03 true base v = nothing_relocated Draft03 base v
+  schema_stays Draft04 true base v = nothing_relocated Draft04 base v
+  schema_stays Draft06 true base v = nothing_relocated Draft06 base v
+  schema_stays Draft07 true base v = nothing_relocated Draft07 base v
+  schema_stays Draft2019 true base v = nothing_relocated Draft2019 base v
+  schema_stays Draft2020 true base v = nothing_relocated Draft2020 base v
+  schema_stays Draft03 false base v = nothing_relocated Draft03 base v
+  schema_stays Draft04 false base v = nothing_relocated Draft04 base v
+  schema_stays Draft06 false base v = nothing_relocated Draft06 base v
+  schema_stays Draft07 false base v = nothing_relocated Draft07 base v
+  schema_stays Draft2019 false base v = nothing_relocated Draft2019 base v
+  schema_stays Draft2020 false base v = nothing_relocated Draft2020 base v
+
+  got_by : (k name : Text) (f : Text → Value → Value) (v : Value) (new old : Option Value) (o : Ordering)
+      → name_cmp k name ≡ o → f k v ≡ v → new ≡ old
+      → match_ordering o new (Some (f name v)) new ≡ match_ordering o old (Some v) old
+  got_by k name f v new old Less is stays same = same
+  got_by k name f v new old Equal is stays same = ap (λ n. Some (f n v)) (sym (name_equal k name is)) ∙ ap Some stays
+  got_by k name f v new old Greater is stays same = same
+
+  got : (held : Text → Holding) (argument : Text → Value → Value → Value) (d : Dialect) (base : Parts) (k : Text)
+      → ((v : Value) → argument k v (relocated all (held k) d base v) ≡ v) → (ms : Members)
+      → get k (members_relocated all held argument d base ms) ≡ get k (member_list ms)
+  got held argument d base k stays no_members = refl
+  got held argument d base k stays (member name v ms) =
+      got_by k name (λ n w. argument n w (relocated all (held n) d base w)) v
+      (get k (members_relocated all held argument d base ms)) (get k (member_list ms)) (name_cmp k name) refl (stays v)
+      (got held argument d base k stays ms)
+
+  abbrev pub schema_members : Dialect → Parts → Members → Named
+  schema_members d base ms =
+      let own = own_dialect d (member_list ms) in
+      let below = own_base own base (member_list ms) in
+      members_relocated all (holding_in own (member_list ms))
+      (λ name. argument_rewritten all (change_of own (member_list ms) name) below) own below ms
+
+  pub schema_got : (d : Dialect) (base : Parts) (ms : Members)
+      → get (codes "$schema") (schema_members d base ms) ≡ get (codes "$schema") (member_list ms)
+  schema_got d base ms =
+      let own = own_dialect d (member_list ms) in
+      let below = own_base own base (member_list ms) in
+      got (holding_in own (member_list ms))
+      (λ name. argument_rewritten all (change_of own (member_list ms) name) below) own below (codes "$schema")
+      (λ v. schema_stays own (hides own (member_list ms)) below v) ms
