@@ -109,9 +109,7 @@ pub(crate) fn open_keyword<W: World, H: PointerText + Drop, R: Reporter<W, H>>(
     )
 }
 
-/// The applications that a keyword asks for, given what has been evaluated since the schema's node opened. It isn't
-/// inlined, to keep its locals out of the recursive function's stack frame.
-#[inline(never)]
+/// The applications that a keyword asks for, given what has been evaluated since the schema's node opened.
 pub(crate) fn begin_asking<W: World, H: PointerText + Drop>(
     alloc: Global,
     world: &W,
@@ -152,9 +150,7 @@ pub(crate) fn begin_asking<W: World, H: PointerText + Drop>(
     )
 }
 
-/// Closes the node of a keyword, and returns whether it passes. If it fails, drops what it has evaluated. It isn't
-/// inlined, to keep its locals out of the recursive function's stack frame.
-#[inline(never)]
+/// Closes the node of a keyword, and returns whether it passes. If it fails, drops what it has evaluated.
 pub(crate) fn close_keyword<W: World, H: PointerText + Drop, R: Reporter<W, H>>(
     alloc: Global,
     world: &W,
