@@ -194,10 +194,10 @@ uint32_t jschema_refusal(jschema *handle, uint32_t *kind, uint32_t *subject, siz
                          size_t place_room, size_t *place_length);
 
 /* Where a value stands in a JSON text, and the name of the member that it is the value of: the offset of the first
-   byte, from 0; its line, and its column in characters, both from 1. Where there is no such value, or no name, each of
-   the three is JSCHEMA_NOWHERE. */
+   byte, from 0; its line, and its column in characters, both from 1. `end` is the offset of the byte after the value's
+   last. Where there is no such value, or no name, each of its numbers is JSCHEMA_NOWHERE. */
 typedef struct {
-    size_t offset, line, column;
+    size_t offset, line, column, end;
     size_t name_offset, name_line, name_column;
 } jschema_position;
 

@@ -11,7 +11,8 @@ static void expect_that(const char *what, int holds) {
 }
 
 #define NOWHERE JSCHEMA_NOWHERE
-#define NOTHING {NOWHERE, NOWHERE, NOWHERE, NOWHERE, NOWHERE, NOWHERE}
+#define NO_NAME NOWHERE, NOWHERE, NOWHERE
+#define NOTHING {NOWHERE, NOWHERE, NOWHERE, NOWHERE, NO_NAME}
 #define MOST_POINTERS 16
 
 /* Counts a call that answers `status` and gives these positions; unless that is JSCHEMA_DONE, they have to stay. */
@@ -30,8 +31,9 @@ static void expect_positions(const char *what, const uint8_t *text, size_t lengt
     for (size_t i = 0; i < count; i++)
         if (memcmp(&found[i], status == JSCHEMA_DONE ? &wanted[i] : &before[i], sizeof found[i]) != 0) {
             failed++;
-            printf("FAILED %s: '%s' at %zu %zu %zu, name at %zu %zu %zu\n", what, pointers[i], found[i].offset,
-                   found[i].line, found[i].column, found[i].name_offset, found[i].name_line, found[i].name_column);
+            printf("FAILED %s: '%s' at %zu %zu %zu up to %zu, name at %zu %zu %zu\n", what, pointers[i],
+                   found[i].offset, found[i].line, found[i].column, found[i].end, found[i].name_offset,
+                   found[i].name_line, found[i].name_column);
         } else {
             passed++;
         }
@@ -41,19 +43,22 @@ static void test_positions(void) {
     static const char *const pointers[] = {"", "/a", "/b~1c", "/b~1c/0", "/b~1c/1/1", "/b~1c/2", "/b~1c/2/~0",
                                            "/b~1c/-", "/b~1c/3", "/b~1c/01", "/c", "/a/0", "/b~1c/1", "/a"};
     static const jschema_position wanted[] = {
-        {0, 1, 1, NOWHERE, NOWHERE, NOWHERE}, {62, 3, 7, 57, 3, 2}, {17, 2, 9, 10, 2, 2},
-        {18, 2, 10, NOWHERE, NOWHERE, NOWHERE}, {35, 2, 27, NOWHERE, NOWHERE, NOWHERE},
-        {42, 2, 33, NOWHERE, NOWHERE, NOWHERE}, {48, 2, 39, 43, 2, 34},
-        NOTHING, NOTHING, NOTHING, NOTHING, NOTHING, {24, 2, 16, NOWHERE, NOWHERE, NOWHERE},
-        {62, 3, 7, 57, 3, 2}};
+        {0, 1, 1, 64, NO_NAME}, {62, 3, 7, 63, 57, 3, 2}, {17, 2, 9, 54, 10, 2, 2}, {18, 2, 10, 22, NO_NAME},
+        {35, 2, 27, 39, NO_NAME}, {42, 2, 33, 53, NO_NAME}, {48, 2, 39, 52, 43, 2, 34},
+        NOTHING, NOTHING, NOTHING, NOTHING, NOTHING, {24, 2, 16, 40, NO_NAME}, {62, 3, 7, 63, 57, 3, 2}};
     expect_positions("positions", TEXT("{\"a\": 1,\n \"b/c\": [true, [\"\\u00e9\", \"\xc3\xa9\"], {\"~\": null}],\n"
                                        " \"a\": 2}"), pointers, 14, JSCHEMA_DONE, wanted);
     static const char *const escaped[] = {"/a\n", "/\xc3\xa9\"/0"};
-    static const jschema_position there[] = {{13, 1, 14, 1, 1, 2}, {29, 1, 30, NOWHERE, NOWHERE, NOWHERE}};
+    static const jschema_position there[] = {{13, 1, 14, 14, 1, 1, 2}, {29, 1, 30, 34, NO_NAME}};
     expect_positions("escapes in names", TEXT("{\"\\u0061\\n\": 0, \"\\u00e9\\\"\": [1e999]}"), escaped, 2,
                      JSCHEMA_DONE, there);
+    static const char *const words[] = {"", "/0", "/1", "/2", "/3"};
+    static const jschema_position spaced[] = {{1, 1, 2, 24, NO_NAME}, {2, 1, 3, 4, NO_NAME}, {7, 1, 8, 12, NO_NAME},
+                                              {13, 1, 14, 17, NO_NAME}, {20, 2, 3, 22, NO_NAME}};
+    expect_positions("what stands behind values", TEXT(" [-1 , \"a, \",null\n, [] ] \t"), words, 5, JSCHEMA_DONE,
+                     spaced);
     static const char *const deep[] = {"/0/0/0"};
-    static const jschema_position within[] = {{4, 2, 2, NOWHERE, NOWHERE, NOWHERE}};
+    static const jschema_position within[] = {{4, 2, 2, 6, NO_NAME}};
     expect_positions("arrays", TEXT("[[\n[[]]]]"), deep, 1, JSCHEMA_DONE, within);
 }
 

@@ -29,12 +29,13 @@ abbrev pub spot_told : Option (ℕ × (ℕ × ℕ)) → ℕ × (ℕ × ℕ)
 spot_told None = (nowhere, (nowhere, nowhere))
 spot_told (Some s) = s
 
-abbrev pub spots_told : Option ((ℕ × (ℕ × ℕ)) × Option (ℕ × (ℕ × ℕ))) → (ℕ × (ℕ × ℕ)) × (ℕ × (ℕ × ℕ))
-spots_told None = (spot_told None, spot_told None)
-spots_told (Some s) = (s.0, spot_told s.1)
+abbrev pub spots_told :
+    Option ((ℕ × (ℕ × ℕ)) × (ℕ × Option (ℕ × (ℕ × ℕ)))) → (ℕ × (ℕ × ℕ)) × (ℕ × (ℕ × (ℕ × ℕ)))
+spots_told None = (spot_told None, (nowhere, spot_told None))
+spots_told (Some s) = (s.0, (s.1.0, spot_told s.1.1))
 
-abbrev pub position_seen : Position → (ℕ × (ℕ × ℕ)) × (ℕ × (ℕ × ℕ))
-position_seen p = ((p.offset, (p.line, p.column)), (p.name_offset, (p.name_line, p.name_column)))
+abbrev pub position_seen : Position → (ℕ × (ℕ × ℕ)) × (ℕ × (ℕ × (ℕ × ℕ)))
+position_seen p = ((p.offset, (p.line, p.column)), (p.end, (p.name_offset, (p.name_line, p.name_column))))
 
 abbrev pub Locates : List ℕ → List ℕ → List ℕ → List Position → List Position → Status → Type 0
 Locates text pointers ends before after status.Done =

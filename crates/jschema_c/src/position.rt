@@ -10,14 +10,16 @@ use js_doc::{Memory, Pointer, PointerFault, Spot, Spots, positions_of};
 use simdutf8::compat::from_utf8;
 use std::alloc::Global;
 
-/// Where a value and its member's name begin: bytes from 0, lines and columns from 1. Of what isn't there, each number
-/// is the greatest.
+/// Where a value begins and ends, and where its member's name begins: bytes from 0, lines and columns from 1. Of what
+/// isn't there, each number is the greatest.
 #[repr(C)]
 #[derive(Clone, Copy, Drop)]
 pub struct Position {
     pub offset: usize,
     pub line: usize,
     pub column: usize,
+    /// The byte after the value's last.
+    pub end: usize,
     pub name_offset: usize,
     pub name_line: usize,
     pub name_column: usize,
@@ -107,9 +109,9 @@ fn put_all(found: &[Option<Spots>], positions: &mut [Position])
 fn position_of(found: Option<Spots>) -> Position
     ensures { position_seen result ≡ spots_told (spots_seen found) }
 {
-    let (value, name) = match found {
-        Some(spots) => (Some(spots.value), spots.name),
-        None => (None, None),
+    let (value, end, name) = match found {
+        Some(spots) => (Some(spots.value), spots.end, spots.name),
+        None => (None, NOWHERE, None),
     };
     let value = spot_or_nowhere(value);
     let name = spot_or_nowhere(name);
@@ -117,6 +119,7 @@ fn position_of(found: Option<Spots>) -> Position
         offset: value.offset,
         line: value.line,
         column: value.column,
+        end,
         name_offset: name.offset,
         name_line: name.line,
         name_column: name.column,
