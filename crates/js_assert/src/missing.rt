@@ -75,17 +75,17 @@ fn absent_of_all<'a>(
 // Puts those of the names that are no member's into the set.
 fn put_absent<'a>(
     absent: &mut BTreeSet<&'a str>,
-    names: &'a [Text],
+    needs: &'a [Text],
     value: &Doc,
 ) -> Result<(), Memory>
     ensures { OnOk result (names_seen absent.new.keys
-        ≡ sorted_with (names_seen absent.old.keys) (without (members_of (value_of value.now)) names.now)) }
+        ≡ sorted_with (names_seen absent.old.keys) (without (members_of (value_of value.now)) needs.now)) }
 {
-    for name in names {
-        if is_member(value, name) {
+    for need in needs {
+        if is_member(value, need) {
             continue;
         }
-        absent.insert(name.as_str())?;
+        absent.insert(need.as_str())?;
     }
     Ok(())
 }
