@@ -91,6 +91,10 @@ export class Schemas {
   outputText(entry: string, instance: Instance, format?: Format): string;
   /** The verdict and the output, by one check. */
   check(entry: string, instance: Instance, format?: Format): Answer;
+  /** An absolute location of an output in the documents that were passed in, which may be of older drafts. */
+  originalLocation(absoluteKeywordLocation: string): string;
+  /** Where the values of an instance stand in its text. */
+  positions(instance: Instance): Text;
   /** Frees what the schemas hold. Afterwards only `close` may be called. */
   close(): void;
   [Symbol.dispose](): void;
@@ -104,8 +108,10 @@ export class ValidationError implements Position {
   readonly instanceLocation: string;
   /** JSON Pointer through the schemas, with references followed. */
   readonly keywordLocation: string;
-  /** URI of the keyword, with a JSON Pointer as its fragment. */
+  /** URI of the keyword, with a JSON Pointer as its fragment: in the document that was passed in. */
   readonly absoluteKeywordLocation: string;
+  /** The same in the document that was validated with: of an older draft, the upgraded one. */
+  readonly upgradedLocation: string;
   /** The keyword that isn't met; `false` for a schema `false` in a list or an object of schemas. */
   readonly keyword: string;
   /** Whether a member's name is wrong, and not its value: the error is of `propertyNames`. */
@@ -134,7 +140,7 @@ export class Refused extends Error {
   readonly document: string | undefined;
   /** What the kind means, for people. */
   readonly meaning: string;
-  /** Whether the place is one in the upgraded document, which its text doesn't have. */
+  /** Whether the place is one in the upgraded document, and nothing in its text is it. */
   readonly isUpgraded: boolean;
   /** Where in the text; undefined for an entry, and for a place in an upgraded document. */
   readonly position: Position | undefined;
@@ -152,9 +158,9 @@ export class Stopped extends Error {
   private constructor();
 }
 
-/** Positions in a JSON text. */
+/** A JSON text, and where its values stand. Throws `RangeError` for a JSON Pointer to nothing. */
 export class Text {
-  constructor(text: string | Uint8Array);
+  private constructor();
   readonly string: string;
   /** Where the value at a JSON Pointer begins. */
   value(pointer: string): Position;
@@ -162,6 +168,8 @@ export class Text {
   name(pointer: string): Position;
   /** Where the value at a JSON Pointer begins and ends, as indices into the string. */
   range(pointer: string): { readonly offset: number; readonly end: number };
+  /** The same of the member's name; of an item, or the root, of the value. */
+  nameRange(pointer: string): { readonly offset: number; readonly end: number };
   /** A JSON Pointer as names of members and indices. */
   path(pointer: string): (string | number)[];
   /** The line and column of an index into the string. */

@@ -1,4 +1,6 @@
-import type { Documents, Format, Instance, Limits, Module, Output, Upgrading, ValidationError } from "./index.js";
+import type {
+  Answer, Documents, Format, Instance, Limits, Module, Output, Text, Upgrading, ValidationError,
+} from "./index.js";
 
 /** Schemas in a worker. Each call waits for those before it; at its time limit it is answered with `Stopped`. */
 export class WorkerSchemas {
@@ -13,6 +15,9 @@ export class WorkerSchemas {
   errors(entry: string, instance: Instance): Promise<ValidationError[]>;
   output(entry: string, instance: Instance, format?: Format): Promise<Output>;
   outputText(entry: string, instance: Instance, format?: Format): Promise<string>;
+  check(entry: string, instance: Instance, format?: Format): Promise<Answer>;
+  positions(instance: Instance): Promise<Text>;
+  originalLocation(absoluteKeywordLocation: string): Promise<string>;
   /** Ends the worker. */
   close(): void;
 }

@@ -1,4 +1,5 @@
 /** What the worker does: checks an instance, and says where each error stands in the texts. */
+import { Engine } from "../../bindings/javascript/src/engine.js";
 import { Refused, Schemas } from "../../bindings/javascript/src/index.js";
 import { Values, SchemaTexts, isOfName } from "./places.js";
 
@@ -10,7 +11,7 @@ export const MOST_NODES = 20_000;
 
 /** The documents of the last request, read and checked, and read once more for results that are shown as trees. */
 export class Checks {
-  #module;
+  #engine;
   #documents;
   #schemas;
   #forTrees;
@@ -18,7 +19,7 @@ export class Checks {
 
   /** @param {WebAssembly.Module} module */
   constructor(module) {
-    this.#module = module;
+    this.#engine = new Engine(module);
   }
 
   /**
@@ -42,10 +43,10 @@ export class Checks {
     this.#schemas?.close();
     this.#forTrees?.close();
     this.#documents = this.#schemas = this.#forTrees = undefined;
-    this.#texts = new SchemaTexts(documents);
+    this.#texts = new SchemaTexts(documents, this.#engine);
     const pairs = documents.map(({ uri, text }) => [uri, text]);
-    this.#schemas = await Schemas.create(pairs, { module: this.#module });
-    this.#forTrees = await Schemas.create(pairs, { module: this.#module, nodes: MOST_NODES });
+    this.#schemas = await Schemas.create(pairs, { module: this.#engine });
+    this.#forTrees = await Schemas.create(pairs, { module: this.#engine, nodes: MOST_NODES });
     this.#documents = documents;
   }
 
@@ -54,18 +55,21 @@ export class Checks {
     const valid = this.#schemas.isValid(entry, instance);
     const milliseconds = performance.now() - begin;
     if (valid) return { verdict: "valid", milliseconds, errors: [], count: 0 };
-    const found = this.#schemas.errors(entry, instance);
-    const values = new Values(instance);
-    const errors = found.slice(0, MOST_ERRORS).map((it) => this.#placed(it, values));
+    const found = this.#schemas.errors(entry, instance), shown = found.slice(0, MOST_ERRORS);
+    const values = new Values(instance, this.#engine);
+    values.expect(shown.map((it) => it.instanceLocation));
+    this.#texts.expect(shown.map((it) => it.upgradedLocation));
+    const errors = shown.map((it) => this.#placed(it, values));
     return { verdict: "invalid", milliseconds, errors, count: found.length };
   }
 
   /** An error with its places in the texts. */
-  #placed({ message, keyword, instanceLocation, keywordLocation, absoluteKeywordLocation }, values) {
+  #placed(error, values) {
+    const { message, keyword, instanceLocation, keywordLocation, absoluteKeywordLocation } = error;
     return {
       message, keyword, instanceLocation, keywordLocation, absoluteKeywordLocation,
       inInstance: values.ofValue(instanceLocation, isOfName(keywordLocation)),
-      inSchema: this.#texts.find(absoluteKeywordLocation),
+      inSchema: this.#texts.find(error.upgradedLocation),
     };
   }
 
@@ -89,19 +93,19 @@ export class Checks {
     const fault = { name, message, meaning, subject, kind };
     if (!(error instanceof Refused)) return fault;
     if (index !== undefined) fault.inSchema = this.#refusedIn(index, error, place);
-    if (subject === "instance") fault.inInstance = refusedAt(new Values(instance), place, instance);
+    if (subject === "instance") fault.inInstance = this.#refusedAt(error, instance);
     return fault;
   }
 
   #refusedIn(document, error, place) {
-    return this.#texts.inDocument(document, place ?? "")
-      ?? { document, begin: error.position?.offset ?? 0, end: (error.position?.offset ?? 0) + 1 };
+    const begin = error.position?.offset ?? 0;
+    return this.#texts.inDocument(document, place ?? "") ?? { document, begin, end: begin + 1 };
   }
-}
 
-/** What to underline of a refused instance: the value, or the character from which on the text is no JSON. */
-function refusedAt(values, place, text) {
-  if (values.faultAt === undefined) return values.ofValue(place ?? "");
-  const begin = Math.min(values.faultAt, Math.max(text.length - 1, 0));
-  return { begin, end: begin + 1 };
+  /** What to underline of a refused instance: the value, or the character from which on the text is no JSON. */
+  #refusedAt({ kind, place, position }, instance) {
+    if (kind !== "NotJson") return new Values(instance, this.#engine).ofValue(place ?? "");
+    const begin = Math.min(position.offset, Math.max(instance.length - 1, 0));
+    return { begin, end: begin + 1 };
+  }
 }

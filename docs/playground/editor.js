@@ -6,7 +6,6 @@
  */
 import { element } from "./elements.js";
 import { indented } from "./indenting.js";
-import { Values } from "./places.js";
 
 // As in style.css.
 const LINE_HEIGHT = 20;
@@ -115,7 +114,7 @@ export class Editor {
   /** Indents a text that is JSON, in a way that can be undone. */
   #indent() {
     const text = `${indented(this.#area.value)}\n`;
-    if (new Values(this.#area.value).faultAt !== undefined || text === this.#area.value) return;
+    if (!isJson(this.#area.value) || text === this.#area.value) return;
     this.#area.focus();
     this.#area.select();
     document.execCommand("insertText", false, text);
@@ -246,4 +245,13 @@ function widthOfColumn(area) {
   const { fontSize, fontFamily } = getComputedStyle(area);
   context.font = `${fontSize} ${fontFamily}`;
   return context.measureText("0").width;
+}
+
+function isJson(text) {
+  try {
+    JSON.parse(text);
+    return true;
+  } catch {
+    return false;
+  }
 }

@@ -1,4 +1,5 @@
 /** The playground: what was typed goes to the worker, and its answers to the panels. */
+import { Engine } from "../../bindings/javascript/src/engine.js";
 import { Checker } from "./checker.js";
 import { CondensingPanel } from "./condensing_panel.js";
 import { DocumentTabs } from "./document_tabs.js";
@@ -28,6 +29,8 @@ const at = (id) => document.getElementById(id);
 
 class Playground {
   #checker;
+  // Finds the places of the nodes that are chosen.
+  #engine;
   #answer = { verdict: "none" };
   #panel = "errors";
   #format = "detailed";
@@ -62,6 +65,7 @@ class Playground {
 
   /** Begins to check, by this module. */
   connect(module) {
+    this.#engine = new Engine(module);
     this.#checker = new Checker({ start: startWorker, module, tell: (answer) => this.#answered(answer) });
     this.#check();
   }
@@ -171,8 +175,9 @@ class Playground {
 
   /** Shows the places of a node of the result. */
   #revealNode({ instance, keyword, absolute }) {
-    const inInstance = new Values(this.instance.text).ofValue(instance, isOfName(keyword));
-    this.#reveal({ inInstance, inSchema: new SchemaTexts(this.documents.documents).find(absolute) }, "both");
+    const inInstance = new Values(this.instance.text, this.#engine).ofValue(instance, isOfName(keyword));
+    const inSchema = new SchemaTexts(this.documents.documents, this.#engine).find(absolute);
+    this.#reveal({ inInstance, inSchema }, "both");
   }
 
   /** Emphasizes the errors at the caret. */

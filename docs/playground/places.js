@@ -1,80 +1,61 @@
 /** Where the values and the keywords that an output names stand in the texts. */
-import { LISTS, OBJECTS, pointer as written, schemaSteps, steps } from "../../bindings/javascript/src/locations.js";
-import { NotJson, scan } from "../../bindings/javascript/src/scanner.js";
-
-// The keywords whose value is a schema.
-const SINGLE = new Set(["additionalProperties", "contains", "contentSchema", "else", "if", "items", "not",
-  "propertyNames", "then", "unevaluatedItems", "unevaluatedProperties"]);
-
-const INDEX = /^(?:0|[1-9][0-9]*)$/;
+import { pointer, schemaSteps } from "../../bindings/javascript/src/locations.js";
+import { Text } from "../../bindings/javascript/src/positions.js";
+import { Document, originalAt } from "../../bindings/javascript/src/resources.js";
+import { NotJson } from "../../bindings/javascript/src/scanner.js";
 
 /** A stretch of a text: the indices of its first character and of the one after it. */
 /** @typedef {{ begin: number, end: number }} Stretch */
 
 /** The values of a JSON text. Of one that isn't JSON there are none. */
 export class Values {
+  #string;
   #text;
-  #root;
 
-  constructor(text) {
-    this.#text = text;
-    try {
-      this.#root = scan(text);
-    } catch (error) {
-      if (!(error instanceof NotJson)) throw error;
-      this.faultAt = error.offset;
-    }
+  /** @param {string} text @param {import("../../bindings/javascript/src/engine.js").Engine} engine */
+  constructor(text, engine) {
+    this.#string = text;
+    this.#text = new Text(text, engine);
   }
 
-  /** The scanned value at a pointer, or undefined. */
-  at(pointer) {
-    let node = this.#root;
-    for (const token of steps(pointer)) node = childOf(node, token);
-    return node;
-  }
-
-  /** The string at a member of a scanned object, or undefined. */
-  stringAt(node, name) {
-    const value = node.children instanceof Map ? node.children.get(name) : undefined;
-    return value !== undefined && this.#text[value.offset] === '"' ? this.#read(value) : undefined;
-  }
-
-  #read(value) {
-    return JSON.parse(this.#text.slice(value.offset, value.end));
+  /** Says which values will be asked for. They are then found together. */
+  expect(pointers) {
+    this.#text.expect(pointers);
   }
 
   /** What to underline for an error of the value at a pointer: the value, or its first line. */
   ofValue(pointer, isName = false) {
-    const node = this.at(pointer);
-    if (node === undefined) return undefined;
-    return isName && node.name !== undefined ? this.#name(node) : this.#firstLine(node.offset, node.end);
+    const found = this.#found(pointer);
+    return isName && found?.name !== undefined ? found.name : found && this.#firstLine(found.value);
   }
 
   /** What to underline for a keyword, or a schema: its name with its value, if that is on the same line. */
   ofKeyword(pointer) {
-    const node = this.at(pointer);
-    if (node === undefined) return undefined;
-    if (node.name === undefined) return this.#firstLine(node.offset, node.end);
-    const whole = { begin: node.name, end: node.end };
-    return this.#text.slice(whole.begin, whole.end).includes("\n") ? this.#name(node) : whole;
+    const found = this.#found(pointer);
+    if (found?.name === undefined) return found && this.#firstLine(found.value);
+    const whole = { begin: found.name.begin, end: found.value.end };
+    return this.#string.slice(whole.begin, whole.end).includes("\n") ? found.name : whole;
   }
 
-  #name(node) {
-    const name = /"(?:[^"\\]|\\.)*"/y;
-    name.lastIndex = node.name;
-    name.test(this.#text);
-    return { begin: node.name, end: name.lastIndex };
+  /** The stretches of a value, and of the name of the member that it is; undefined where there is none. */
+  #found(pointer) {
+    try {
+      const { name } = this.#text.located(pointer);
+      return { value: stretch(this.#text.range(pointer)), name: name && stretch(this.#text.nameRange(pointer)) };
+    } catch (error) {
+      if (error instanceof RangeError || error instanceof NotJson) return undefined;
+      throw error;
+    }
   }
 
-  #firstLine(begin, end) {
-    const line = this.#text.indexOf("\n", begin);
+  #firstLine({ begin, end }) {
+    const line = this.#string.indexOf("\n", begin);
     return { begin, end: line >= 0 && line < end ? line : end };
   }
 }
 
-function childOf(node, token) {
-  if (!Array.isArray(node?.children)) return node?.children?.get(token);
-  return INDEX.test(token) ? node.children[Number(token)] : undefined;
+function stretch({ offset, end }) {
+  return { begin: offset, end };
 }
 
 /** Whether an error is one of a member's name: `propertyNames` applies its schema to that. */
@@ -85,60 +66,49 @@ export function isOfName(keywordLocation) {
 /** The schema documents: which of them has the keyword at an absolute location, and where. */
 export class SchemaTexts {
   #values;
-  // By the URI of each resource: the number of the document, and a pointer to the resource in it.
-  #resources = new Map();
+  // What was read of those that are JSON.
+  #documents;
 
   /** @param {readonly { uri: string, text: string }[]} documents */
-  constructor(documents) {
-    this.#values = documents.map(({ text }) => new Values(text));
-    documents.forEach(({ uri }, document) => this.#visit({ document, pointer: "", base: resolved(uri) }));
+  constructor(documents, engine) {
+    this.#values = documents.map(({ text }) => new Values(text, engine));
+    this.#documents = documents.map(({ uri, text }) => read(uri, text));
+  }
+
+  /** Says which keywords will be looked for. */
+  expect(absoluteLocations) {
+    for (const location of absoluteLocations) {
+      const found = this.#original(location);
+      if (found !== undefined) this.#values[found.document].expect([found.pointer]);
+    }
   }
 
   /** The document's number, and what to underline in it; undefined if there is no such place. */
   find(absoluteLocation) {
-    const at = absoluteLocation.indexOf("#");
-    const resource = this.#resources.get(absoluteLocation.slice(0, at));
-    if (resource === undefined) return undefined;
-    const pointer = resource.pointer + decodeURIComponent(absoluteLocation.slice(at + 1));
-    return this.inDocument(resource.document, pointer);
+    const found = this.#original(absoluteLocation);
+    return found && this.inDocument(found.document, found.pointer);
   }
 
   /** The same for a pointer into a document. */
   inDocument(document, pointer) {
-    const stretch = this.#values[document]?.ofKeyword(pointer);
-    return stretch === undefined ? undefined : { document, ...stretch };
+    const found = this.#values[document]?.ofKeyword(pointer);
+    return found && { document, ...found };
   }
 
-  /** Notes the resources of a schema and of those below it. */
-  #visit({ document, pointer, base }) {
-    const values = this.#values[document];
-    const schema = values.at(pointer);
-    if (schema === undefined) return;
-    if (pointer === "") this.#resources.set(base, { document, pointer });
-    if (!(schema.children instanceof Map)) return;
-    const id = values.stringAt(schema, "$id");
-    const own = id === undefined ? base : resolved(id, base);
-    if (id !== undefined) this.#resources.set(own, { document, pointer });
-    for (const below of schemasBelow(schema)) this.#visit({ document, pointer: pointer + below, base: own });
+  /** The document and the pointer that what stands at a location of the upgraded schemas comes from. */
+  #original(absoluteLocation) {
+    const found = originalAt(absoluteLocation, this.#documents.filter((it) => it !== undefined));
+    return found && { document: this.#documents.indexOf(found.document),
+      pointer: pointer([...found.root, ...found.tokens]) };
   }
 }
 
-/** A URI as the validator writes that of a resource: joined with its base, without a fragment. */
-function resolved(uri, base = undefined) {
+/** A document; undefined for a text that isn't JSON. */
+function read(uri, text) {
   try {
-    const url = new URL(uri, base);
-    url.hash = "";
-    return url.href;
-  } catch {
-    return uri;
-  }
-}
-
-/** The pointers from a schema to those that stand in its keywords. */
-function* schemasBelow(schema) {
-  for (const [name, { children }] of schema.children) {
-    const holdsSchemas = Array.isArray(children) ? LISTS.has(name) : children instanceof Map && OBJECTS.has(name);
-    if (SINGLE.has(name)) yield written([name]);
-    else if (holdsSchemas) for (const key of children.keys()) yield written([name, String(key)]);
+    return new Document(uri, JSON.parse(text));
+  } catch (error) {
+    if (error instanceof SyntaxError) return undefined;
+    throw error;
   }
 }

@@ -1,16 +1,17 @@
 /** The WebAssembly module: what is compiled once, and its instances with their memory. */
-import { OutOfMemory, Stopped, refusalOf } from "./errors.js";
+import { OutOfMemory, Refused, Stopped } from "./errors.js";
+import { DONE, FAILED, FORMATS, INVALID, KINDS, REFUSED, SUBJECTS } from "./interface.js";
 
-// interface: tables
-/** The formats of the standard, and `merged`: `detailed` with each error once. */
-export const FORMATS = Object.freeze(["flag", "basic", "detailed", "verbose", "merged"]);
-
-// What a call answers (jschema.h).
-const DONE = 0, INVALID = 1, REFUSED = 3, FAILED = 4;
-// interface: end
+export { FORMATS };
 
 // A handle, and behind it the number that jschema_entry writes.
 const HANDLE = 16, NUMBER = 8;
+// What jschema_refusal writes: the kind and the subject in 4 bytes each, the document and the length of the place in 8.
+const REFUSAL = 24;
+// What jschema_positions reads and writes: the end of a pointer, and a position with seven fields of 8 bytes.
+const END = 8, POSITION = 56;
+// The lower half of JSCHEMA_NOWHERE: no offset in the memory is so large.
+const NOWHERE = 0xffffffff;
 
 // How much of an output is copied without asking for its length first, and how much is kept between calls.
 const ROOM = 4096, KEPT_ROOM = 1 << 20;
@@ -43,7 +44,17 @@ export class Engine {
     if (this.#instance === undefined || this.#instance.hasStopped) this.#instance = new Instance(this.#module);
     return this.#instance;
   }
+
+  /** As `Instance.positions`. */
+  positions(text, pointers) {
+    return this.instance.positions(text, pointers);
+  }
 }
+
+/** A place in bytes: from 0 the `offset` of one; from 1 its `line`, and its `column` in characters. */
+/** @typedef {{ offset: number, line: number, column: number }} BytePosition */
+/** A value of a JSON text: where it begins, the byte after it, and where the name of the member that it is begins. */
+/** @typedef {{ value: BytePosition, end: number, name: BytePosition | undefined }} Located */
 
 /** An instance of the module. After a trap, or at the end of its stack, it has stopped: data may be half written. */
 export class Instance {
@@ -140,6 +151,32 @@ export class Instance {
     return { valid, output: this.#text(handle) };
   }
 
+  /**
+   * Where the values at JSON Pointers stand in a text, which is read once for all of them; undefined for one that isn't
+   * there, and in place of the list if the text isn't JSON.
+   *
+   * @param {Uint8Array} text @param {readonly string[]} pointers @returns {(Located | undefined)[] | undefined}
+   */
+  positions(text, pointers) {
+    const count = pointers.length, names = pointers.map(encoded);
+    const length = names.reduce((sum, it) => sum + it.length, 0);
+    const at = this.#reserved(count * (POSITION + END) + length + text.length);
+    const ends = at + count * POSITION, joined = ends + count * END, begin = joined + length;
+    const words = new DataView(this.#calls.memory.buffer);
+    let end = 0;
+    for (const [index, name] of names.entries()) {
+      this.#bytes(joined + end, name.length).set(name);
+      end += name.length;
+      words.setBigUint64(ends + index * END, BigInt(end), true);
+    }
+    this.#bytes(begin, text.length).set(text);
+    const status = this.#call("jschema_positions", begin, text.length, joined, length, ends, count, at, count);
+    if (status === REFUSED) return undefined;
+    this.#expectDone(undefined, status);
+    const found = new DataView(this.#calls.memory.buffer);
+    return pointers.map((_, index) => locatedAt(found, at + index * POSITION));
+  }
+
   /** A call of the module. Whatever it throws, the instance has stopped then. */
   #call(name, ...words) {
     if (this.hasStopped) throw new Stopped("the instance of the module has stopped");
@@ -200,9 +237,36 @@ export class Instance {
   #expectDone(handle, status) {
     if (status === DONE) return;
     if (status === FAILED) throw new OutOfMemory();
-    if (status === REFUSED) throw refusalOf(this.#text(handle));
+    if (status === REFUSED) throw this.#refusal(handle);
     throw new TypeError("the call has no meaning here");
   }
+
+  /** What the last call refused. */
+  #refusal(handle) {
+    for (let needed = ROOM - REFUSAL; ;) {
+      const at = this.#reserved(REFUSAL + needed), room = this.#room - REFUSAL;
+      const status = this.#call("jschema_refusal", handle, at, at + 4, at + 8, at + REFUSAL, room, at + 16);
+      if (status !== DONE) throw new Error(`the module doesn't say what it refused: status ${status}`);
+      const numbers = new DataView(this.#calls.memory.buffer, at, REFUSAL);
+      const [kind, subject, index, length] = [0, 4, 8, 16].map((it) => numbers.getUint32(it, true));
+      if (length > room) {
+        needed = length;
+        continue;
+      }
+      const { name, isPlaced } = SUBJECTS[subject];
+      const place = isPlaced ? decoder.decode(this.#bytes(at + REFUSAL, length)) : undefined;
+      return new Refused(name, KINDS[kind], place, name === "document" ? index : undefined);
+    }
+  }
+}
+
+/** A position that the module wrote; undefined where there is none. */
+function locatedAt(words, at) {
+  const [offset, line, column, end, ...name] = [0, 1, 2, 3, 4, 5, 6].map((it) => words.getUint32(at + it * 8, true));
+  if (offset === NOWHERE) return undefined;
+  const [nameOffset, nameLine, nameColumn] = name;
+  return { value: { offset, line, column }, end,
+    name: nameOffset === NOWHERE ? undefined : { offset: nameOffset, line: nameLine, column: nameColumn } };
 }
 
 /** @type {Promise<Engine> | undefined} */
@@ -217,9 +281,10 @@ export function sharedEngine() {
   return shared;
 }
 
-/** An engine of a module: its bytes, a response or a module that is compiled already; by default the package's. */
+/** An engine of a module: its bytes, a response, or what is compiled or loaded already; by default the package's. */
 export async function load(source = undefined) {
   const given = await (source ?? packaged());
+  if (given instanceof Engine) return given;
   if (given instanceof WebAssembly.Module) return new Engine(given);
   const bytes = typeof Response !== "undefined" && given instanceof Response ? await given.arrayBuffer() : given;
   return new Engine(await WebAssembly.compile(bytes));

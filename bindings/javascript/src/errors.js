@@ -1,4 +1,5 @@
 /** What is thrown, and the errors of an instance. */
+import { MEANINGS } from "./interface.js";
 import { schemaSteps } from "./locations.js";
 import { Text } from "./positions.js";
 
@@ -6,15 +7,17 @@ import { Text } from "./positions.js";
 export class ValidationError {
   #text;
 
-  constructor(unit, text) {
+  constructor(unit, text, original = unit.absoluteKeywordLocation) {
     /** What is wrong. */
     this.message = unit.error;
     /** JSON Pointer to the value that was validated. */
     this.instanceLocation = unit.instanceLocation;
-    /** JSON Pointer through the schemas, with references followed. */
+    /** JSON Pointer through the schemas, with references followed; through upgraded ones of older drafts. */
     this.keywordLocation = unit.keywordLocation;
-    /** URI of the keyword, with a JSON Pointer as its fragment. */
-    this.absoluteKeywordLocation = unit.absoluteKeywordLocation;
+    /** URI of the keyword, with a JSON Pointer as its fragment: in the document that was passed in. */
+    this.absoluteKeywordLocation = original;
+    /** The same in the document that was validated with: of an older draft, the upgraded one. */
+    this.upgradedLocation = unit.absoluteKeywordLocation;
     this.#text = text;
   }
 
@@ -55,29 +58,6 @@ export class ValidationError {
     return `${this.message} (at ${this.instanceLocation || "the root"}; ${this.absoluteKeywordLocation})`;
   }
 }
-
-/** What each kind of refusal means. */
-export const MEANINGS = Object.freeze({
-  BadAnchor: "an anchor is an ASCII letter or _, then letters, digits, -, _ and .",
-  BadId: "$id can't be joined with the base URI, or has a fragment",
-  BadKeyword: "the keyword's value has the wrong form",
-  BadPattern: "not a regular expression of the Rust crate regex",
-  BadReference: "the reference isn't a URI, or its fragment isn't a JSON Pointer",
-  BadUri: "not an absolute URI, or its fragment can't be used here",
-  DuplicateAnchor: "another schema of this resource has the same anchor",
-  DuplicateUri: "another schema has the same URI",
-  InputTooLarge: "more than 16,777,216 bytes",
-  NotASchema: "a schema is an object or a boolean",
-  NotJson: "not a JSON text, or nested deeper than 127",
-  NotWhole: "a number with a fraction, an exponent or a minus before zero, or beyond 64 bits",
-  PatternTooLarge: "the regular expression takes too much memory",
-  TooLarge: "more than 512 nested schema applications, or more than 1,000,000 nodes of the result",
-  TooManyDocuments: "more than 1,000 schema documents",
-  TooManyPlaces: "more than 100,000 schemas",
-  UnknownDialect: "$schema isn't https://json-schema.org/draft/2020-12/schema",
-  Unresolved: "no schema has this URI; give its document too",
-  UriTooLong: "a URI of more than 65,536 bytes",
-});
 
 const START = Object.freeze({ offset: 0, line: 1, column: 1 });
 
@@ -125,7 +105,7 @@ export class Refused extends Error {
    */
   get position() {
     if (this.isUpgraded) return undefined;
-    return this.place === undefined ? this.#text && START : this.#text?.refused(this.place);
+    return this.place === undefined ? this.#text && START : this.#text?.refused(this.kind, this.place);
   }
 
   get line() {
@@ -136,9 +116,9 @@ export class Refused extends Error {
     return this.position?.column;
   }
 
-  /** Says which text is refused, and for a document its URI. */
-  of(text, document = undefined) {
-    this.#text = new Text(text);
+  /** Says which text is refused, and for a document its URI; and the engine that finds places in the text. */
+  of(text, document = undefined, engine = undefined) {
+    this.#text = new Text(text, engine);
     this.#document = document;
     return this;
   }
@@ -160,14 +140,4 @@ export class Stopped extends Error {
   get name() {
     return "Stopped";
   }
-}
-
-const REFUSAL = /^refused: (?:(\w+)(?: (\d+))?(?: at (".*"))?: )?(\w+)\n?$/s;
-
-/** What a line of the module says. */
-export function refusalOf(line) {
-  const said = REFUSAL.exec(line);
-  if (said === null) return new Error(`the module answered ${JSON.stringify(line)}`);
-  const [, subject, index, place, kind] = said;
-  return new Refused(subject, kind, place && JSON.parse(place), index === undefined ? undefined : Number(index));
 }

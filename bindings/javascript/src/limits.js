@@ -3,6 +3,9 @@
 /** The most bytes that a text may have: a schema document, or an instance. */
 export const LARGEST_TEXT = 16_777_216;
 
+/** The most arrays and objects of a text in one another. */
+export const DEEPEST = 127;
+
 /** The most nested schema applications, the entry's included, and the most nodes of a result. */
 export const STANDARD_LIMITS = Object.freeze({ applications: 512, nodes: 1_000_000 });
 

@@ -22,7 +22,7 @@ export function explain(refused, text, uri, limits = undefined) {
     const wanted = refused.place === undefined ? uri : referenceAt(text, refused.place, uri);
     if (wanted !== undefined) refused.meaning = `no schema has the URI ${wanted}; give its document too`;
   } else if (refused.kind === "BadReference" && refused.place?.endsWith("/$recursiveRef")) {
-    refused.meaning = "$recursiveRef of 2019-09 isn't followed";
+    refused.meaning = "a $recursiveRef of 2019-09 is `#`";
   }
   return refused;
 }

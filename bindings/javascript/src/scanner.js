@@ -1,11 +1,12 @@
 /**
- * Where each value of a JSON text stands, by one pass over it.
+ * The values of a JSON text with the characters that they are written in, by one pass over it: for what the module
+ * doesn't say. That is where a text ceases to be JSON, and how a value of an output is written: its integers may be
+ * beyond 2^53, which `JSON.parse` would round.
  *
  * Accepts what the validator reads as JSON: RFC 8259, no byte order mark, no lone surrogate, no number beyond a
  * double's range, at most 127 arrays and objects in one another. Numbers needn't be whole here.
  */
-
-export const DEEPEST = 127;
+import { DEEPEST } from "./limits.js";
 
 const NUMBER = /-?(?:0|[1-9][0-9]*)(?:\.[0-9]+)?(?:[eE][+-]?[0-9]+)?/y;
 const WORD = /true|false|null/y;

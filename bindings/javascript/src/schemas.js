@@ -5,7 +5,7 @@ import { LARGEST_TEXT, STANDARD_LIMITS, limitsOf } from "./limits.js";
 import { explain } from "./meanings.js";
 import { parse } from "./outputs.js";
 import { Text } from "./positions.js";
-import { mayBeOlder, upgradeOf } from "./upgrading.js";
+import { Originals, explainUpgraded, upgradeOf, uriOf } from "./upgrading.js";
 import { isWellFormed, textOf } from "./values.js";
 
 /** Frees the handles of schemas that were forgotten. */
@@ -28,6 +28,7 @@ export class Schemas {
   #documents;
   #limits;
   #assumed;
+  #originals;
   #instance;
   #handle;
   #entries;
@@ -38,6 +39,7 @@ export class Schemas {
     this.#documents = documents;
     this.#limits = limits;
     this.#assumed = assumed;
+    this.#originals = new Originals(documents, assumed);
     this.#begin();
   }
 
@@ -74,9 +76,20 @@ export class Schemas {
   errors(entry, instance) {
     const text = textOf(instance);
     const { valid, output } = this.check(entry, text, "basic");
-    if (valid) return [];
-    const shared = new Text(text);
-    return parse(output).errors.map((unit) => new ValidationError(unit, shared));
+    return valid ? [] : errorsOf(output, this.positions(text), this.#originals);
+  }
+
+  /**
+   * An absolute location of an output in the documents that were passed in. It is another one where documents of older
+   * drafts were upgraded; where nothing in them becomes the keyword, it stays.
+   */
+  originalLocation(absoluteKeywordLocation) {
+    return this.#originals.location(absoluteKeywordLocation);
+  }
+
+  /** Where the values of an instance stand in its text. */
+  positions(instance) {
+    return new Text(textOf(instance), this.#engine);
   }
 
   /** The output in a format, parsed. An integer beyond 2^53 in it is a bigint. */
@@ -119,7 +132,7 @@ export class Schemas {
       instance.limit(handle, this.#limits);
       for (const { uri, bytes } of this.#documents) instance.add(handle, uri, bytes);
       if (this.#assumed !== undefined) {
-        instance.upgrade(handle, this.#assumed);
+        instance.upgrade(handle, uriOf(this.#assumed));
         isUpgraded = true;
       }
       instance.finish(handle);
@@ -127,8 +140,8 @@ export class Schemas {
       this.#release();
       if (!(error instanceof Refused) || error.index === undefined) throw error;
       const { uri, bytes } = this.#documents[error.index];
-      error.isUpgraded = isUpgraded && mayBeOlder(bytes, this.#assumed);
-      throw explain(error.of(bytes, uri), bytes, uri);
+      if (isUpgraded) explainUpgraded(error, bytes, this.#assumed);
+      throw explain(error.of(bytes, uri, this.#engine), bytes, uri);
     }
   }
 
@@ -149,7 +162,8 @@ export class Schemas {
       return ask(handle);
     } catch (error) {
       if (!(error instanceof Refused)) throw error;
-      throw explain(error.subject === "entry" ? error : error.of(text), text, entry, this.#limits);
+      const about = error.subject === "entry" ? error : error.of(text, undefined, this.#engine);
+      throw explain(about, text, entry, this.#limits);
     }
   }
 
@@ -167,6 +181,17 @@ export class Schemas {
 // (Node has it from 18.18 on; not yet every browser.)
 if (Symbol.dispose !== undefined) {
   Object.defineProperty(Schemas.prototype, Symbol.dispose, { value: Schemas.prototype.close });
+}
+
+/**
+ * The errors in a `basic` output of an invalid instance. `text` says where its values stand, and `originals` where the
+ * keywords do.
+ */
+export function errorsOf(output, text, originals) {
+  const units = parse(output).errors;
+  text.expect(units.map((unit) => unit.instanceLocation));
+  return units.map((unit) =>
+    new ValidationError(unit, text, originals.location(unit.absoluteKeywordLocation)));
 }
 
 /** Each document with its URI and its bytes. What is refused here is refused before the module is asked. */

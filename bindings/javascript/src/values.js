@@ -1,7 +1,7 @@
 /** Instances: JSON texts as they are, and values as JSON texts. */
 import { Refused } from "./errors.js";
+import { DEEPEST } from "./limits.js";
 import { pointer } from "./locations.js";
-import { DEEPEST } from "./scanner.js";
 
 const LEAST = -(2n ** 63n), GREATEST = 2n ** 64n - 1n;
 

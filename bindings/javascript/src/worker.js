@@ -1,12 +1,12 @@
 /** Checks off the main thread, with a time limit. */
 import { sharedEngine, load } from "./engine.js";
-import { OutOfMemory, Refused, Stopped, ValidationError } from "./errors.js";
+import { OutOfMemory, Refused, Stopped } from "./errors.js";
 import { limitsOf } from "./limits.js";
 import { explain } from "./meanings.js";
 import { parse } from "./outputs.js";
 import { Text } from "./positions.js";
-import { pairsOf } from "./schemas.js";
-import { upgradeOf } from "./upgrading.js";
+import { errorsOf, pairsOf } from "./schemas.js";
+import { Originals, upgradeOf } from "./upgrading.js";
 import { textOf } from "./values.js";
 
 const SECONDS = 10;
@@ -14,19 +14,22 @@ const SECONDS = 10;
 /** Schemas in a worker. Each call waits for those before it; at its time limit the worker is ended and begun anew. */
 export class WorkerSchemas {
   #pairs;
-  #module;
+  // Compiles nothing anew, and finds positions here, where they are asked for.
+  #engine;
   #limits;
   #assumed;
+  #originals;
   #milliseconds;
   #worker;
   #last = Promise.resolve();
 
   /** Use `WorkerSchemas.create`. */
-  constructor(pairs, module, limits, assumed, seconds) {
+  constructor(pairs, engine, limits, assumed, seconds) {
     this.#pairs = pairs;
-    this.#module = module;
+    this.#engine = engine;
     this.#limits = limits;
     this.#assumed = assumed;
+    this.#originals = new Originals(pairs, assumed);
     this.#milliseconds = seconds * 1000;
   }
 
@@ -35,7 +38,7 @@ export class WorkerSchemas {
     const limits = limitsOf(options);
     const engine = await (module === undefined ? sharedEngine() : load(module));
     const pairs = pairsOf(documents);
-    const made = new WorkerSchemas(pairs, engine.module, limits, upgradeOf(options, pairs), seconds);
+    const made = new WorkerSchemas(pairs, engine, limits, upgradeOf(options, pairs), seconds);
     await made.#inTurn(() => made.#begin());
     return made;
   }
@@ -52,8 +55,7 @@ export class WorkerSchemas {
   async errors(entry, instance) {
     const text = textOf(instance);
     const { valid, output } = await this.#check(entry, text, "basic");
-    const shared = new Text(text);
-    return valid ? [] : parse(output).errors.map((unit) => new ValidationError(unit, shared));
+    return valid ? [] : errorsOf(output, new Text(text, this.#engine), this.#originals);
   }
 
   async output(entry, instance, format = "basic") {
@@ -62,6 +64,18 @@ export class WorkerSchemas {
 
   async outputText(entry, instance, format = "basic") {
     return (await this.#check(entry, textOf(instance), format)).output;
+  }
+
+  async check(entry, instance, format = "basic") {
+    return this.#check(entry, textOf(instance), format);
+  }
+
+  async positions(instance) {
+    return new Text(textOf(instance), this.#engine);
+  }
+
+  async originalLocation(absoluteKeywordLocation) {
+    return this.#originals.location(absoluteKeywordLocation);
   }
 
   /** Ends the worker. What is waiting is answered with `Stopped`. */
@@ -76,7 +90,8 @@ export class WorkerSchemas {
       return await this.#ask({ call: "check", entry, text, format });
     } catch (error) {
       if (!(error instanceof Refused)) throw error;
-      throw explain(error.subject === "entry" ? error : error.of(text), text, entry, this.#limits);
+      const about = error.subject === "entry" ? error : error.of(text, undefined, this.#engine);
+      throw explain(about, text, entry, this.#limits);
     }
   }
 
@@ -99,14 +114,14 @@ export class WorkerSchemas {
   async #begin() {
     const worker = this.#worker = await Conversation.begin();
     try {
-      const [module, pairs, limits, assumed] = [this.#module, this.#pairs, this.#limits, this.#assumed];
+      const [{ module }, pairs, limits, assumed] = [this.#engine, this.#pairs, this.#limits, this.#assumed];
       await worker.ask({ call: "create", module, pairs, limits, assumed });
     } catch (error) {
       worker.end();
       this.#worker = undefined;
       if (!(error instanceof Refused) || error.index === undefined) throw error;
       const { uri, bytes } = this.#pairs[error.index];
-      throw explain(error.of(bytes, uri), bytes, uri);
+      throw explain(error.of(bytes, uri, this.#engine), bytes, uri);
     }
   }
 
@@ -169,9 +184,10 @@ class Conversation {
   }
 }
 
+const THROWN = { OutOfMemory, RangeError, Stopped, TypeError };
+
 /** The error that a worker describes. */
 function thrown({ name, message, subject, kind, place, index, isUpgraded }) {
   if (name === "Refused") return new Refused(subject, kind, place, index, isUpgraded);
-  if (name === "OutOfMemory") return new OutOfMemory();
-  return name === "Stopped" ? new Stopped(message) : new Error(message);
+  return new (THROWN[name] ?? Error)(message);
 }

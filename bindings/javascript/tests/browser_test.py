@@ -213,6 +213,16 @@ class Page(unittest.TestCase):
         self.find(".twistie").click()
         self.assertEqual(len(self.all("[role=treeitem]")), 1)
 
+    def test_nodes_lead_to_their_places(self):
+        self.choose_example("A person")
+        self.expect_verdict("✗ Invalid: 1 error")
+        self.open_panel("tree")
+        self.until(lambda: self.all("[role=treeitem]"))
+        next(it for it in self.all(".row") if "minimum" in it.text).click()
+        self.assertEqual(self.texts("#instance-editor .selected"), ["-1"])
+        self.assertEqual("".join(self.texts("#schema-editor .selected")), '"minimum": 0')
+        self.assertEqual(self.faults(), [])
+
     def test_condensing(self):
         self.choose_example("One of two: anyOf, condensed")
         self.until(lambda: self.all(".history"))

@@ -2,12 +2,14 @@
 import re
 import unittest
 from pathlib import Path
+from unittest import mock
 
 from this_command import NODE, SCRIPT, OnThisCommand, evaluated
 
 import test_command as expectations  # isort: skip
 import test_lookup as lookup  # isort: skip
 import test_reports as reports  # isort: skip
+import test_upgrade as upgrade  # isort: skip
 
 PACKAGE = Path(__file__).resolve().parents[1] / "package.json"
 # What the Python package's command has, and this one hasn't.
@@ -16,6 +18,10 @@ ELSEWHERE = (
     (["check"], "no command 'check': the only one is validate\n"),
     (["lint", "schema.json"], "lint is a command of the Python package: this one is validate\n"),
     ([*expectations.SOME, "--formats", "two.json"], "--formats is an option of the Python package's command\n"),
+    ([*expectations.SOME, "--patterns", "ecma", "two.json"], "--patterns ecma is of the Python package's command: "),
+    ([*expectations.SOME, "--patterns", "pcre", "two.json"], "argument --patterns: invalid choice: 'pcre' "),
+    ([*expectations.SOME, "--numbers", "exact", "two.json"], "--numbers exact is of the Python package's command: "),
+    ([*expectations.SOME, "--numbers=texts", "two.json"], "--numbers texts is of the Python package's command: "),
     ([*expectations.SOME, "--format", "html", "two.json"], "the format html is one of the Python package's command\n"),
 )
 
@@ -92,19 +98,37 @@ class Snippets(reports.Snippets):
 
 class Uris(lookup.Uris):
     def joined(self, base, references):
-        return evaluated("uris.js", "given.references.map((reference) => it.joined(given.base, reference))",
+        return evaluated("../uris.js", "given.references.map((reference) => it.joined(given.base, reference))",
                          {"base": base, "references": references})
 
     def written(self, uris):
-        return evaluated("uris.js", "given.map(it.documentOf)", uris)
+        return evaluated("../uris.js", "given.map(it.documentOf)", uris)
 
 
 class References(OnThisCommand, lookup.Commands):
     pass
 
 
+class Upgraded(OnThisCommand, upgrade.Command):
+    def setUp(self):
+        # (It isn't the library that upgrades here.)
+        with mock.patch.object(upgrade, "find_library", return_value="the module"):
+            super().setUp()
+
+
 class Elsewhere(OnThisCommand, expectations.Case):
-    """YAML and TOML, which the Python package's command reads."""
+    """What the Python package's command reads: YAML and TOML, patterns of ECMA-262, numbers with fractions."""
+
+    def test_patterns_and_numbers(self):
+        """They are the validator's own, as those of that command with these options."""
+        self.write("ecma.json", '{"pattern": "^(?!a)"}')
+        self.write("fraction.json", '{"minimum": 0.5}')
+        refused = "not a regular expression of the Rust crate regex (/pattern; BadPattern)"
+        self.judge(["two.json"], "", f"ecma.json:1:13: refused: {refused}\n", 3, schema="ecma.json")
+        for words in ([], ["--patterns", "regex", "--numbers=whole"]):
+            out, said, status = self.run_command("validate", *words, "fraction.json", "two.json")
+            self.assertEqual((out, status), ("", 3))
+            self.assertIn("refused[NotWhole]", said)
 
     def test_other_kinds(self):
         said = "isn't read here: the command of the Python package reads it (--input json takes the JSON files of a " \

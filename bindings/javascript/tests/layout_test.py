@@ -6,55 +6,20 @@ from pathlib import Path
 sys.path.insert(0, str(Path(__file__).resolve().parents[1] / "wasm"))
 from layout import MOST_ZEROS, joined, laid_out  # noqa: E402
 
-GIVEN = """(module
- (type $0 (func (param i32)))
- (memory $0 1)
- (func $0 (param $0 i64)
-  (nop)
-  (nop)
- )
- (elem (i32.const 1) $1 $2)
- (func $1 (param $0 i32)
-  (nop)
-  (call $2)
- )
- (func $2
-  (nop)
- )
- (export "f" (func $1))
- (func $3 (param $9 i32)
-  (nop)
- )
-)
-"""
-# By hand: no parameter; i32, the shorter one first; i64. What stands between functions comes behind them.
-MADE = """(module
- (type $0 (func (param i32)))
- (memory $0 1)
- (func $2
-  (nop)
- )
- (func $3 (param $9 i32)
-  (nop)
- )
- (func $1 (param $0 i32)
-  (nop)
-  (call $2)
- )
- (func $0 (param $0 i64)
-  (nop)
-  (nop)
- )
- (elem (i32.const 1) $1 $2)
- (export "f" (func $1))
-)
-"""
+ALIKE = "  (a)\n  (b)\n  (c)\n  (d)\n  (e)\n"
+FIRST = f" (func $0 (param $0 i64)\n{ALIKE}  (f)\n  (g)\n )\n"
+OTHER = " (func $1\n  (call $2)\n  (h)\n  (i)\n  (j)\n )\n"
+LAST = f" (func $2 (param $9 i32)\n  (k)\n{ALIKE} )\n"
+BEFORE = "(module\n (type $0 (func (param i32)))\n (memory $0 1)\n"
+GIVEN = f'{BEFORE}{OTHER} (elem (i32.const 1) $1 $2)\n{FIRST}{LAST} (export "f" (func $1))\n)\n'
+# By hand: first the longest function, then the one that has five lines of it. What stands between functions comes
+# behind them.
+MADE = f'{BEFORE}{FIRST}{LAST}{OTHER} (elem (i32.const 1) $1 $2)\n (export "f" (func $1))\n)\n'
 
 
 class Layout(unittest.TestCase):
     def test_order(self):
         self.assertEqual(laid_out(GIVEN), MADE)
-        self.assertEqual(laid_out(MADE), MADE)
 
     def test_data(self):
         """Parts that are near are joined by zeros; each escape is a byte."""

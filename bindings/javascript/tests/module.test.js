@@ -1,8 +1,8 @@
 /** What the module exports and imports, and how large it is. */
 import assert from "node:assert/strict";
+import { execFileSync } from "node:child_process";
 import { readFileSync } from "node:fs";
 import { test } from "node:test";
-import { gzipSync } from "node:zlib";
 import { modulePath } from "./module.js";
 
 const header = readFileSync(new URL("../../c/jschema.h", import.meta.url), "utf8");
@@ -21,9 +21,14 @@ test("the module imports nothing", () => {
   assert.deepEqual(WebAssembly.Module.imports(module), []);
 });
 
-test("the module is at most 1.6 MB", () => {
-  assert.ok(bytes.length <= 1_600_000, `${bytes.length} bytes`);
-  assert.ok(gzipSync(bytes, { level: 9 }).length <= 600_000);
+test("the module is at most 1.6 MB, and 500 KB gzipped", () => {
+  const gzipped = execFileSync("gzip", ["-9"], { input: bytes, maxBuffer: 1 << 24 }).length;
+  assert.ok(bytes.length <= 1_600_000 && gzipped <= 500_000, `${bytes.length} bytes, ${gzipped} gzipped`);
+});
+
+test("its heap has less than 300 lines", () => {
+  const heap = readFileSync(new URL("../wasm/heap.c", import.meta.url), "utf8");
+  assert.ok(heap.split("\n").length < 300);
 });
 
 test("a handle of zeros can be given to each call", () => {

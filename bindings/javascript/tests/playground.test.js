@@ -3,6 +3,7 @@ import assert from "node:assert/strict";
 import { readFileSync } from "node:fs";
 import { test } from "node:test";
 import { Refused, Schemas } from "jschema";
+import { Engine } from "../src/engine.js";
 import { Checker } from "../../../docs/playground/checker.js";
 import { Checks, MOST_NODES } from "../../../docs/playground/checking.js";
 import { DROP, MERGE, REPLACE, after, normalForm, possibleSteps } from "../../../docs/playground/condensing.js";
@@ -146,6 +147,17 @@ test("errors are underlined at the value and at the keyword", async () => {
   assert.ok(places.includes("https://example.com/d/e#/items"));
 });
 
+test("of an older draft what its author wrote is underlined", async () => {
+  const text = '{"$schema": "http://json-schema.org/draft-07/schema#",\n' +
+    '"definitions": {"a": {"items": [{"type": "null"}]}},\n"$ref": "#/definitions/a"}';
+  const request = { documents: [{ uri: "urn:x", text }], entry: "urn:x", instance: "[1]", wanted: [] };
+  const { errors: [{ inSchema: { begin, end } }] } = await new Checks(module).answer(request);
+  assert.equal(text.slice(begin, end), '"type": "null"');
+  const refused = { ...request, documents: [{ uri: "urn:x", text: text.replace('"null"', "1") }] };
+  const { fault: { inSchema } } = await new Checks(module).answer(refused);
+  assert.equal(refused.documents[0].text.slice(inSchema.begin, inSchema.end), '"type": 1');
+});
+
 test("what is refused is underlined", async () => {
   const uri = "urn:x";
   const refused = async (text, instance) => {
@@ -237,10 +249,12 @@ test("an output is indented without a change of its tokens", () => {
 });
 
 test("places of what isn't there, and of documents that aren't JSON", () => {
-  const texts = new SchemaTexts([{ uri: "urn:x", text: "{" }, { uri: "no URI", text: '{"type": "null"}' }]);
+  const engine = new Engine(module);
+  const texts = new SchemaTexts([{ uri: "urn:x", text: "{" }, { uri: "no URI", text: '{"type": "null"}' }], engine);
   assert.equal(texts.find("urn:x#/type"), undefined);
   assert.deepEqual(texts.find("no URI#/type"), { document: 1, begin: 1, end: 15 });
   assert.equal(texts.find("urn:y#"), undefined);
-  assert.equal(new Values("[1]").ofValue("/1"), undefined);
-  assert.deepEqual(new Values("[1]").ofValue("/0"), { begin: 1, end: 2 });
+  assert.equal(new Values("[1]", engine).ofValue("/1"), undefined);
+  assert.equal(new Values("[1", engine).ofValue("/0"), undefined);
+  assert.deepEqual(new Values("[1]", engine).ofValue("/0"), { begin: 1, end: 2 });
 });

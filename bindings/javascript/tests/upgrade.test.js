@@ -3,6 +3,9 @@ import assert from "node:assert/strict";
 import { test } from "node:test";
 import { Refused, Schemas, compile } from "jschema";
 import { WorkerSchemas } from "jschema/worker";
+import { DRAFTS } from "../src/dialects.js";
+import { originalOf } from "../src/originals.js";
+import { explainUpgraded } from "../src/upgrading.js";
 
 const URI = "https://example.com/s", OTHER = "https://example.com/t";
 const SEVEN = "http://json-schema.org/draft-07/schema#";
@@ -85,19 +88,92 @@ test("without an upgrade an older draft is refused", async () => {
   }
 });
 
-test("what is refused before the upgrade has a place in the text, and afterwards none", async () => {
+test("what is refused has the place in the text, also where the keyword has moved", async () => {
   const older = `{"$schema": "${SEVEN}",\n"definitions": {"a": {"items": [{"pattern": "("}]}}}`;
   const unresolved = `{"$schema": "${SEVEN}",\n"not": {"$ref": "#/definitions/a"}}`;
   const latest = '{"not":\n {"type": 1}}';
   for (const create of [Schemas.create, WorkerSchemas.create]) {
     const about = async (document) => {
-      const { kind, place, index, line, isUpgraded, message } = await refusal(create([[OTHER, older.replace("(", "a")],
+      const { kind, place, index, line, isUpgraded } = await refusal(create([[OTHER, older.replace("(", "a")],
         [URI, document]]));
-      return [kind, place, index, line, isUpgraded, message.includes(" in the upgraded document: ")];
+      return [kind, place, index, line, isUpgraded];
     };
-    assert.deepEqual(await about(unresolved), ["Unresolved", "/not/$ref", 1, 2, false, false]);
-    assert.deepEqual(await about(older), ["BadPattern", "/$defs/a/prefixItems/0/pattern", 1, undefined, true, true]);
-    assert.deepEqual(await about(latest), ["BadKeyword", "/not/type", 1, 2, false, false]);
+    assert.deepEqual(await about(unresolved), ["Unresolved", "/not/$ref", 1, 2, false]);
+    assert.deepEqual(await about(older), ["BadPattern", "/definitions/a/items/0/pattern", 1, 2, false]);
+    assert.deepEqual(await about(latest), ["BadKeyword", "/not/type", 1, 2, false]);
+    assert.deepEqual(await about(`{"$schema": "${SEVEN}",\n"dependencies": {"b": {"not": {"type": 1}}}}`),
+      ["BadKeyword", "/dependencies/b/not/type", 1, 2, false]);
+  }
+});
+
+test("errors name the keyword as its author wrote it, and the upgraded one beside it", async () => {
+  const document = { $schema: SEVEN, definitions: { "a b": { items: [{ type: "null" }] } }, $ref: "#/definitions/a b" };
+  const schemas = await Schemas.create({ [URI]: JSON.stringify(document) });
+  const worker = await WorkerSchemas.create({ [URI]: JSON.stringify(document) });
+  const ours = `${URI}#/definitions/a%20b/items/0/type`, upgraded = `${URI}#/$defs/a%20b/prefixItems/0/type`;
+  for (const [error] of [schemas.errors(URI, [1]), await worker.errors(URI, [1])]) {
+    assert.deepEqual([error.absoluteKeywordLocation, error.upgradedLocation], [ours, upgraded]);
+  }
+  worker.close();
+  assert.equal(schemas.output(URI, [1], "basic").errors[0].absoluteKeywordLocation, upgraded);
+  assert.deepEqual([upgraded, `${URI}#/made`, "urn:other#"].map((it) => schemas.originalLocation(it)),
+    [ours, `${URI}#/made`, "urn:other#"]);
+});
+
+test("a place that the text doesn't have is one in the upgraded document", () => {
+  const refused = new Refused("document", "BadKeyword", "/anyOf/1/made", 0);
+  const text = `{"$schema": "${SEVEN}"}`;
+  explainUpgraded(refused, new TextEncoder().encode(text), DRAFTS.indexOf("2020-12"));
+  refused.of(text, URI);
+  assert.deepEqual([refused.isUpgraded, refused.position], [true, undefined]);
+  assert.ok(refused.message.startsWith(`document ${URI} at /anyOf/1/made in the upgraded document: BadKeyword`));
+});
+
+// Of a schema of a draft, places in the upgraded one, and what they come from.
+const ORIGINALS = [
+  ["draft-07", {
+    definitions: { a: { $id: "#b", items: [{ definitions: { items: {} } }], additionalItems: {} } },
+    properties: { definitions: { $ref: "#/definitions/a" } }, const: { definitions: 1 },
+    dependencies: { c: ["d"], e: { items: { type: "null" } } },
+  }, {
+    "": "", "/$defs/a": "/definitions/a", "/$defs/a/$anchor": "/definitions/a/$id",
+    "/$defs/a/prefixItems/0/$defs/items": "/definitions/a/items/0/definitions/items",
+    "/$defs/a/items": "/definitions/a/additionalItems", "/$defs/a/prefixItems/1": undefined,
+    "/properties/definitions/$ref": "/properties/definitions/$ref", "/const/definitions": "/const/definitions",
+    "/dependentRequired": "/dependencies", "/dependentRequired/c/0": "/dependencies/c",
+    "/dependentSchemas/e/items/type": "/dependencies/e/items/type", "/$schema": undefined, "/required": undefined,
+  }],
+  ["draft-03", {
+    type: ["string", { divisibleBy: 2 }], extends: { disallow: { type: "null" } },
+    properties: { a: { required: true, disallow: "string" } }, maximum: 3, exclusiveMaximum: true,
+  }, {
+    "/anyOf": "/type", "/anyOf/0/type": "/type/0", "/anyOf/1/multipleOf": "/type/1/divisibleBy",
+    "/allOf/0/not": "/extends/disallow", "/allOf/0/not/anyOf/0/type": "/extends/disallow/type",
+    "/required": "/properties", "/properties/a/not/type": "/properties/a/disallow", "/exclusiveMaximum": "/maximum",
+  }],
+  // `contains` stands with its limits behind two `not`s (2019-09 Core 9.3.1.4), recursive references are dynamic ones.
+  ["2019-09", {
+    $recursiveAnchor: true, contains: { type: "null" }, minContains: 2,
+    items: { allOf: [{ $recursiveRef: "#" }], contains: { allOf: [true] } },
+  }, {
+    "/allOf": "/contains", "/allOf/0/not": "/contains", "/allOf/0/not/not/contains/type": "/contains/type",
+    "/allOf/0/not/not/minContains": "/minContains", "/allOf/0/not/not/maxContains": undefined,
+    "/anyOf/0": undefined, "/$dynamicAnchor": "/$recursiveAnchor",
+    "/items/allOf/0/$dynamicRef": "/items/allOf/0/$recursiveRef", "/items/anyOf/0/not": "/items/contains",
+    "/items/anyOf/0/not/not/contains/allOf/0": "/items/contains/allOf/0",
+  }],
+  // Below the root `$schema` counts beside an identifier of its dialect (2019-09 Core 8.1.1).
+  ["2020-12", {
+    items: { $id: "https://example.com/a", items: [{}], $schema: SEVEN }, not: { items: [{}], $schema: SEVEN },
+  }, { "/items/prefixItems/0": "/items/items/0", "/not/prefixItems/0": undefined, "/items": "/items" }],
+];
+
+test("what a keyword of an upgraded schema comes from", () => {
+  for (const [draft, schema, places] of ORIGINALS) {
+    for (const [upgraded, place] of Object.entries(places)) {
+      const found = originalOf(schema, upgraded.split("/").slice(1), DRAFTS.indexOf(draft));
+      assert.equal(found && found.map((it) => `/${it}`).join(""), place, `${draft}: ${upgraded}`);
+    }
   }
 });
 

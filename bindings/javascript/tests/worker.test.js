@@ -14,6 +14,10 @@ test("a worker answers as the schemas do", async () => {
   const [error] = await schemas.errors(URI, "[1,\n -1]");
   assert.deepEqual([error.line, error.column, error.message], [2, 2, "less than 0"]);
   assert.deepEqual(await schemas.output(URI, [1], "flag"), { valid: true });
+  assert.deepEqual(await schemas.check(URI, [1], "flag"), { valid: true, output: '{"valid":true}\n' });
+  await assert.rejects(schemas.check(URI, [1], "xml"), RangeError);
+  assert.deepEqual((await schemas.positions("[1,\n -1]")).value("/1"), { offset: 5, line: 2, column: 2 });
+  assert.equal(await schemas.originalLocation(`${URI}#/items`), `${URI}#/items`);
   await assert.rejects(schemas.isValid(URI, "[0.5]"), (it) => it instanceof Refused && it.column === 2);
   await assert.rejects(schemas.isValid(URI, [undefined]), TypeError);
   schemas.close();

@@ -1,7 +1,7 @@
 /* What the module exports: the calls of jschema.h over those of the compiled library (proved_...), with pointers
    and lengths of 32 bits, as the memory has them. The handle, the number that jschema_entry writes, the document and
    the length that jschema_refusal writes, and what jschema_positions reads and writes have 64 bits in each field: 16
-   bytes; 8; 8 for an end and 48 for a position. */
+   bytes; 8; 8 for an end and 56 for a position. */
 typedef unsigned long long usize;
 typedef unsigned int u32;
 

@@ -3,18 +3,21 @@
 
     layout.py GIVEN MADE
 
-Functions are put in order, by their types and then by their lengths: those that are alike then stand near one another.
-Parts of the data with few zeros between them are joined. Nothing else is changed: in Binaryen's text functions are
-named, and not counted; and memory begins as zeros. A text that isn't laid out as Binaryen does it is refused.
+Functions are put in an order in which those that are alike stand near one another. Parts of the data with few zeros
+between them are joined. Nothing else is changed: in Binaryen's text functions are named, and not counted; and memory
+begins as zeros. A text that isn't laid out as Binaryen does it is refused.
 """
 import re
 import sys
 from pathlib import Path
 
+from similarity import chained
+
 BEGIN, END = " (func ", " )"
 #: So many zeros between two parts of the data take less than another part does.
 MOST_ZEROS = 256
-_NAME = re.compile(r"\$[^\s()]+")
+#: So many lines that two functions share are a trait of both, and so many functions before one are looked at.
+LINES, RECENT = 5, 2
 _DATA = re.compile(r' \(data \(i32\.const ([0-9]+)\) "((?:\\[0-9a-f]{2}|\\[tnr"\'\\]|[ -!#-\[\]-~])*)"\)')
 _BYTE = re.compile(r"\\[0-9a-f]{2}|\\.|.")
 
@@ -41,9 +44,13 @@ def ordered(given):
             (after if functions else before).append(line)
     if is_open or not functions:
         raise ValueError("a function without its end" if is_open else "no function")
-    # (Names say nothing of a type.)
-    functions.sort(key=lambda lines: (_NAME.sub("", lines[0]), len(lines)))
-    return [*before, *(line for lines in functions for line in lines), *after]
+    order = chained(map(_traits, functions), RECENT)
+    return [*before, *(line for number in order for line in functions[number]), *after]
+
+
+def _traits(function):
+    lines = [line.strip() for line in function]
+    return ["\n".join(lines[at:at + LINES]) for at in range(len(lines) - LINES + 1)]
 
 
 def joined(given):

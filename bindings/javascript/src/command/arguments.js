@@ -1,15 +1,16 @@
 /** The arguments of the command. */
+import { DRAFTS, dialectCalled } from "../dialects.js";
 import { Misuse } from "./files.js";
 import { CHOICES } from "./reports.js";
 import { SUFFIXES } from "./sources.js";
 
 const NAME = "npx jschema validate";
 const USAGE = `${NAME} [--ref [URI=]FILE|FOLDER]... [--format FORMAT] [--input KIND] [--lines] [--jobs N] ` +
-  "(SCHEMA | --schema SCHEMA) INSTANCE...";
+  "[--default-dialect DIALECT | --no-upgrade] (SCHEMA | --schema SCHEMA) INSTANCE...";
 const EXAMPLE = `${NAME} person.schema.json ada.json`;
 const DESCRIPTION = `usage: ${USAGE}
 
-Validates JSON files against a JSON Schema, draft 2020-12.
+Validates JSON files against a JSON Schema, of draft 2020-12 or an older one.
 
   INSTANCE            a file; a folder, for the files in it, at any depth, whose suffix is of a kind (with --lines
                       .jsonl and .ndjson); or -, standard input
@@ -25,16 +26,21 @@ Validates JSON files against a JSON Schema, draft 2020-12.
                       instance
   --input KIND        what the files are: json, or jsonc, JSON with comments (default: what the suffix says, else json)
   --lines             each line of a file is an instance; empty lines don't count
+  --default-dialect DIALECT
+                      the dialect of each schema document that names none: ${DRAFTS.slice(0, -1).join(", ")}
+                      or ${DRAFTS.at(-1)} (the default), or the URI of one
+  --no-upgrade        refuse schemas of older drafts, from ${DRAFTS[0]} to ${DRAFTS.at(-2)}, which are upgraded to
+                      ${DRAFTS.at(-1)} otherwise
   --jobs N            taken as by the command of the Python package; the checks run one after another
   --verbose           list the documents that were found for references
   --version           show the versions of the package and of the module that checks
 
-The command of the Python package has more: lint, --formats, YAML and TOML, the format html.
+The command of the Python package has more: lint, --formats, YAML and TOML, the format html, patterns of ECMA-262 and
+numbers with fractions (--patterns regex and --numbers whole are taken, since they are so here).
 
 exit status, the highest that applies: 0 all are valid, 1 some are invalid, 2 the arguments are wrong,
 3 an input is refused, 4 out of memory, or a read or write failed
 `;
-
 
 /** What is asked for: `help`, a text to write; `version`; or a validation of files. */
 class Arguments {
@@ -48,6 +54,9 @@ class Arguments {
   verbose = false;
   lines = false;
   jobs = 1;
+  /** The dialect of each schema document that names none; and whether those of older drafts are upgraded. */
+  defaultDialect = undefined;
+  upgrade = true;
   files = [];
   /** How often `--schema` was given. */
   schemas = 0;
@@ -59,6 +68,7 @@ const FLAGS = {
   "--no-ref-siblings": { siblings: false },
   "--verbose": { verbose: true },
   "--lines": { lines: true },
+  "--no-upgrade": { upgrade: false },
 };
 
 /** The options with a value: how each takes it. */
@@ -77,6 +87,20 @@ const WITH_VALUE = {
   },
   "--jobs": (given, value) => {
     given.jobs = jobsOf(value);
+  },
+  // (Given as here alone, they change nothing.)
+  "--patterns": (_given, value) => {
+    if (value === "ecma") throw wrong("--patterns ecma is of the Python package's command: here they are of regex");
+    chosen("--patterns", value, ["regex"]);
+  },
+  "--numbers": (_given, value) => {
+    if (["exact", "texts"].includes(value)) {
+      throw wrong(`--numbers ${value} is of the Python package's command: here they are whole`);
+    }
+    chosen("--numbers", value, ["whole"]);
+  },
+  "--default-dialect": (given, value) => {
+    given.defaultDialect = dialectAt("--default-dialect", value);
   },
 };
 
@@ -124,6 +148,9 @@ function checked(given) {
   if (lines && input !== undefined && input !== "json") {
     throw wrong(`--lines is for JSON: no line of ${input} is a document`);
   }
+  if (given.defaultDialect !== undefined && !given.upgrade) {
+    throw wrong("--default-dialect says what to upgrade from, and --no-upgrade upgrades nothing");
+  }
   return given;
 }
 
@@ -145,6 +172,15 @@ function chosen(name, value, choices) {
   if (choices.includes(value)) return value;
   const listed = choices.map((it) => `'${it}'`).join(", ");
   throw wrong(`argument ${name}: invalid choice: '${value}' (choose from ${listed})`);
+}
+
+function dialectAt(name, value) {
+  try {
+    dialectCalled(value);
+  } catch (error) {
+    throw wrong(`argument ${name}: ${error.message}`);
+  }
+  return value;
 }
 
 function jobsOf(value) {

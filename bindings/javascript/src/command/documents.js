@@ -1,16 +1,18 @@
 /** The schema documents that the arguments name, and those that they refer to. */
 import { existsSync } from "node:fs";
+import { LATEST, dialectCalled } from "../dialects.js";
 import { Misuse, isFile, isFolder } from "./files.js";
 import { Lookup, schemaFile } from "./lookup.js";
 import { suffixKind } from "./sources.js";
 import { writeError } from "./writing.js";
 
 /** The schema and the documents of `--ref`, and those that are found in its folders and beside the files. */
-export function documentsOf({ schema, refs, siblings, input, verbose }) {
+export function documentsOf({ schema, refs, siblings, input, verbose, defaultDialect }) {
+  const assumed = defaultDialect === undefined ? LATEST : dialectCalled(defaultDialect);
   const folders = refs.filter(isFolder);
-  const named = refs.filter((it) => !folders.includes(it)).map((it) => document(it, "--ref", input));
-  const files = [document(schema, "--schema", input), ...named];
-  const taken = new Lookup(folders, siblings).taken(files);
+  const named = refs.filter((it) => !folders.includes(it)).map((it) => document(it, "--ref", input, assumed));
+  const files = [document(schema, "--schema", input, assumed), ...named];
+  const taken = new Lookup(folders, siblings, assumed).taken(files);
   for (const { file, referring } of verbose ? taken : []) {
     writeError(`jschema: ${file.path} is taken for ${file.uri}, which ${referring} refers to\n`);
   }
@@ -18,13 +20,13 @@ export function documentsOf({ schema, refs, siblings, input, verbose }) {
 }
 
 /** The document that the argument `[URI=]FILE` of an option names. */
-function document(argument, option, input) {
+function document(argument, option, input, assumed) {
   const mark = argument.lastIndexOf("=");
   const before = argument.slice(0, Math.max(mark, 0));
   // (A URI that is absolute has a colon.)
   const [uri, path] = !before.includes(":") || isFile(argument) ? ["", argument] : [before, argument.slice(mark + 1)];
   checkName(path, option);
-  return schemaFile(path, uri, suffixKind(path) ?? input);
+  return schemaFile(path, { uri, kind: suffixKind(path) ?? input, assumed });
 }
 
 function checkName(path, option) {

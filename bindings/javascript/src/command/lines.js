@@ -41,25 +41,3 @@ export class Lines {
     return count;
   }
 }
-
-/** A function that answers how many bytes of UTF-8 a string has before an index. */
-export function bytesBefore(text) {
-  const blocks = [0];
-  for (let at = 0; at < text.length; at += BLOCK) blocks.push(blocks.at(-1) + bytes(text, at, at + BLOCK));
-  return (index) => {
-    const block = Math.floor(index / BLOCK);
-    return blocks[block] + bytes(text, block * BLOCK, index);
-  };
-}
-
-/** How many bytes of UTF-8 a part of a string has: of a surrogate pair, two each. */
-function bytes(text, begin, end) {
-  let count = 0;
-  for (let at = begin; at < Math.min(end, text.length); at++) {
-    const code = text.charCodeAt(at);
-    if (code < 0x80) count += 1;
-    else if (code < 0x800 || code >= 0xd800 && code <= 0xdfff) count += 2;
-    else count += 3;
-  }
-  return count;
-}

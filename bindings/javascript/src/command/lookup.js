@@ -6,13 +6,13 @@
 import { readdirSync, realpathSync } from "node:fs";
 import { dirname, join, posix, resolve, sep } from "node:path";
 import { pathToFileURL } from "node:url";
+import { LATEST } from "../dialects.js";
 import { LARGEST_TEXT } from "../limits.js";
-import { NotJson } from "../scanner.js";
+import { Document } from "../resources.js";
+import { documentOf, haveOneHost, isRelative, joined, pathOf, unquoted } from "../uris.js";
 import { compareParts, isFile } from "./files.js";
 import { readWhole } from "./reader.js";
-import { Document } from "./resources.js";
 import { NotRead, sourceOf, suffixKind } from "./sources.js";
-import { documentOf, haveOneHost, isRelative, joined, pathOf, unquoted } from "./uris.js";
 
 // (A zero byte or a lone surrogate is left to the validator.)
 const ABSOLUTE = /^[A-Za-z][A-Za-z0-9+.-]*:[^#\0\ud800-\udfff]*#?$/u;
@@ -24,9 +24,11 @@ export class SchemaFile {
   #document;
   #isWalked = false;
 
-  constructor(path, uri, source) {
+  /** @param {number} assumed the dialect that is assumed if it names none */
+  constructor(path, uri, source, assumed) {
     this.path = path;
     this.source = source;
+    this.assumed = assumed;
     this.uri = uri || fileUrl(path);
     const own = uri ? undefined : this.document?.id;
     if (own === undefined || !ABSOLUTE.test(own)) return;
@@ -38,18 +40,19 @@ export class SchemaFile {
   get document() {
     if (!this.#isWalked) {
       this.#isWalked = true;
-      this.#document = walked(this.uri, this.source);
+      this.#document = walked(this);
     }
     return this.#document;
   }
 }
 
-function walked(uri, source) {
+function walked({ uri, source, assumed }) {
   if (source.json.length > LARGEST_TEXT) return undefined;
   try {
-    return new Document(uri, source);
+    return new Document(uri, source.value, assumed);
   } catch (error) {
-    if (error instanceof NotJson) return undefined;
+    // (The last is for schemas that nest too deep: the stack is exceeded.)
+    if ([SyntaxError, TypeError, RangeError].some((it) => error instanceof it)) return undefined;
     throw error;
   }
 }
@@ -59,21 +62,26 @@ export function fileUrl(path) {
   return pathToFileURL(resolve(path)).href.replace(ESCAPED, decodeURIComponent);
 }
 
-/** The document of a file. Without a URI its `$id` counts, else the file's URL. Throws what reading does, `NotRead`. */
-export function schemaFile(path, uri = undefined, kind = suffixKind(path) ?? "json") {
-  return new SchemaFile(path, uri, sourceOf(readWhole(path), kind));
+/**
+ * The document of a file, and the dialect that is assumed if it names none. Without a URI its identifier counts, else
+ * the file's URL. Throws what reading does, and `NotRead`.
+ */
+export function schemaFile(path, { uri, kind = suffixKind(path) ?? "json", assumed = LATEST }) {
+  return new SchemaFile(path, uri, sourceOf(readWhole(path), kind), assumed);
 }
 
 /** Where documents are looked for: in folders, and beside those that refer to them. */
 export class Lookup {
   #folders;
   #isBeside;
+  #assumed;
   #byUri;
 
-  /** @param {readonly string[]} folders @param {boolean} isBeside */
-  constructor(folders, isBeside) {
+  /** @param {readonly string[]} folders @param {boolean} isBeside @param {number} assumed */
+  constructor(folders, isBeside, assumed) {
     this.#folders = folders;
     this.#isBeside = isBeside;
+    this.#assumed = assumed;
   }
 
   /** The files that these refer to, and those in turn, as far as they are found: each with what refers to it. */
@@ -99,11 +107,11 @@ export class Lookup {
   }
 
   #find(file, base, reference, wanted) {
-    this.#byUri ??= filesByUri(this.#folders);
+    this.#byUri ??= filesByUri(this.#folders, this.#assumed);
     const inFolder = this.#byUri.get(wanted);
     if (inFolder !== undefined || !this.#isBeside || !isRelative(reference)) return inFolder;
     const path = pathsBeside(file, base, reference).find(isFile);
-    return path === undefined ? undefined : schemaFile(path, wanted);
+    return path === undefined ? undefined : schemaFile(path, { uri: wanted, assumed: this.#assumed });
   }
 }
 
@@ -114,19 +122,19 @@ function referencesOf(document) {
 }
 
 /** The files of folders by the URIs of the resources in them. What can't be read isn't one that is meant. */
-function filesByUri(folders) {
+function filesByUri(folders, assumed) {
   const found = new Map();
   for (const path of folders.flatMap(schemasIn)) {
-    for (const [uri, file] of resourcesOf(path)) {
+    for (const [uri, file] of resourcesOf(path, assumed)) {
       if (!found.has(uri)) found.set(uri, file);
     }
   }
   return found;
 }
 
-function resourcesOf(path) {
+function resourcesOf(path, assumed) {
   try {
-    const file = schemaFile(path);
+    const file = schemaFile(path, { assumed });
     return [...file.document?.targets.keys() ?? []].filter((it) => !it.includes("#")).map((uri) => [uri, file]);
   } catch (error) {
     if (error instanceof NotRead || error.syscall !== undefined) return [];

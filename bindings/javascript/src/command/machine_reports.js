@@ -58,8 +58,13 @@ function asJson({ input, status, problems }) {
 
 function errorAsJson({ message, range: { begin, end }, pointer, keywordUri, keywordPlace, error }) {
   return { ...placeOf(begin), endLine: end.line, endColumn: end.column, error: message, instanceLocation: pointer,
-    keywordLocation: error.keywordLocation, absoluteKeywordLocation: keywordUri,
+    keywordLocation: error.keywordLocation, absoluteKeywordLocation: keywordUri, ...upgraded(error),
     ...keywordPlace && { schema: { file: keywordPlace.file, ...placeOf(keywordPlace.position) } } };
+}
+
+/** Where the keyword of an error stands in an upgraded schema, if that is another place. */
+export function upgraded({ absoluteKeywordLocation, upgradedLocation }) {
+  return upgradedLocation === absoluteKeywordLocation ? {} : { upgradedLocation };
 }
 
 function placeOf({ line, column }) {

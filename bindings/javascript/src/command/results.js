@@ -1,8 +1,6 @@
 /** The result of each instance: its status, and the problems that are reported. */
-import { OutOfMemory, Refused, Stopped, ValidationError } from "../errors.js";
+import { OutOfMemory, Refused, Stopped } from "../errors.js";
 import { steps } from "../locations.js";
-import { parse } from "../outputs.js";
-import { Text } from "../positions.js";
 import { NotRegular } from "./files.js";
 import { NotRead, START, WHOLE } from "./sources.js";
 import { reason } from "./writing.js";
@@ -23,17 +21,22 @@ export const ERROR = "error", REFUSED = "refused", FAILED = "failed";
  *     error?: ValidationError, refused?: Refused }} Problem
  */
 
-/** Checks instances against the schema that `entry` names. `places` says where keywords stand. */
+/** Checks instances against the schema that `entry` names. */
 export class Checker {
   #schemas;
   #entry;
+  #engine;
   #places;
   #output;
 
-  /** @param {string} [output] the format of the validator's output, where the report writes that */
-  constructor(schemas, entry, places, output = undefined) {
+  /**
+   * `engine` says where values stand in instances, and `places` where keywords do in schemas; `output` is the format of
+   * the validator's output, where the report writes that.
+   */
+  constructor({ schemas, entry, engine, places, output }) {
     this.#schemas = schemas;
     this.#entry = entry;
+    this.#engine = engine;
     this.#places = places;
     this.#output = output;
   }
@@ -44,7 +47,7 @@ export class Checker {
     try {
       return this.#judged(input);
     } catch (error) {
-      if (error instanceof Refused) return refusal(input, error);
+      if (error instanceof Refused) return refusal(input, error, this.#engine);
       if (error instanceof OutOfMemory || error instanceof Stopped) return failure(input, messageOf(error));
       throw error;
     }
@@ -64,10 +67,10 @@ export class Checker {
 
   /** The errors of an invalid instance, those deepest in it first: they say most precisely what to change. */
   #errors(input) {
-    const { output } = this.#schemas.check(this.#entry, input.source.json, "basic");
-    const text = new Text(input.source.json);
-    return parse(output).errors
-      .map((unit) => new ValidationError(unit, text))
+    const errors = this.#schemas.errors(this.#entry, input.source.json);
+    input.source.positions(this.#engine).expect(errors.map((it) => it.instanceLocation));
+    this.#places.expect(errors.map((it) => it.upgradedLocation));
+    return errors
       .map((error) => ({ error, depth: steps(error.instanceLocation).length }))
       .sort((a, b) => b.depth - a.depth)
       .map(({ error }) => this.#problem(input, error));
@@ -75,16 +78,18 @@ export class Checker {
 
   #problem(input, error) {
     const { message, instanceLocation: pointer, absoluteKeywordLocation: keywordUri } = error;
-    const where = error.isAboutName ? input.source.name(pointer) : input.source.value(pointer);
+    const positions = input.source.positions(this.#engine);
+    const where = error.isAboutName ? positions.name(pointer) : positions.value(pointer);
     return { kind: ERROR, rule: error.keyword, message, range: inFile(input, where), pointer, keywordUri,
-      keywordPlace: this.#places.find(keywordUri), error };
+      keywordPlace: this.#places.find(error.upgradedLocation), error };
   }
 }
 
 /** The result of what is refused. */
-export function refusal(input, refused) {
-  const problem = { kind: REFUSED, rule: refused.kind, message: refused.meaning,
-    range: inFile(input, input.source.refusal(refused)), pointer: refused.place ?? "", refused };
+export function refusal(input, refused, engine) {
+  const message = `${refused.meaning}${refused.isUpgraded ? ", in the upgraded document" : ""}`;
+  const problem = { kind: REFUSED, rule: refused.kind, message, pointer: refused.place ?? "", refused,
+    range: inFile(input, input.source.positions(engine).refusal(refused)) };
   return { input, status: STATUS.REFUSED, problems: [problem] };
 }
 

@@ -1,6 +1,7 @@
 /** A report in SARIF 2.1.0 (OASIS), which code scanning reads. */
 import { isAbsolute } from "node:path";
 import { fileUrl } from "./lookup.js";
+import { upgraded } from "./machine_reports.js";
 import { Report, complain } from "./report.js";
 import { FAILED, REFUSED, STATUS } from "./results.js";
 import { packageVersion } from "./versions.js";
@@ -58,7 +59,8 @@ export class SarifReport extends Report {
       locations: [{ physicalLocation: placeOf(file, problem),
         logicalLocations: [{ name, fullyQualifiedName: name }] }],
       ...keywordPlace && { relatedLocations: [related(problem)] },
-      ...error && { properties: { keywordLocation: error.keywordLocation, absoluteKeywordLocation: keywordUri } },
+      ...error && { properties: { keywordLocation: error.keywordLocation, absoluteKeywordLocation: keywordUri,
+        ...upgraded(error) } },
     };
   }
 }

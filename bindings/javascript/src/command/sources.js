@@ -1,10 +1,9 @@
 /** What is read: a text as it was written, and the JSON text that the validator gets for it. */
 import { extname } from "node:path";
 import { LARGEST_TEXT } from "../limits.js";
-import { Text } from "../positions.js";
-import { NotJson } from "../scanner.js";
+import { Text, endOfName } from "../positions.js";
 import { readComments } from "./jsonc.js";
-import { Lines, bytesBefore } from "./lines.js";
+import { Lines } from "./lines.js";
 
 /** Each kind of texts, with the suffixes of its files. */
 export const SUFFIXES = { json: [".json"], jsonc: [".jsonc"], yaml: [".yaml", ".yml"], toml: [".toml"] };
@@ -42,60 +41,80 @@ export const WHOLE = Object.freeze({ begin: START, end: START });
 
 /** A text in JSON, or in JSON with comments: then `json` has blanks in their place, so each byte keeps its place. */
 export class Source {
-  #text;
-  #lines;
-  #before;
+  #positions;
 
   /** @param {Uint8Array} data @param {Uint8Array} json */
   constructor(data, json = data) {
     this.data = data;
     this.json = json;
-    this.#text = new Text(json);
+  }
+
+  /** The value of the text. Throws `SyntaxError` or `TypeError` where it isn't JSON. */
+  get value() {
+    return JSON.parse(new TextDecoder("utf-8", { fatal: true, ignoreBOM: true }).decode(this.json));
+  }
+
+  /** Where its values stand, as an engine says. */
+  positions(engine) {
+    this.#positions ??= new Positions(this, engine);
+    return this.#positions;
+  }
+}
+
+/** Where the values of a text stand. */
+export class Positions {
+  #source;
+  #text;
+  #lines;
+
+  /** @param {Source} source @param {import("../engine.js").Engine} engine */
+  constructor(source, engine) {
+    this.#source = source;
+    this.#text = new Text(source.json, engine);
+  }
+
+  /** Says which values will be asked for. They are then found together. */
+  expect(pointers) {
+    this.#text.expect(pointers);
   }
 
   /** Where the value at a JSON Pointer stands. Throws `RangeError`, or `NotJson` for a text that isn't JSON. */
   value(pointer) {
-    return this.#range(this.#text.range(pointer));
+    const { value, end } = this.#text.located(pointer);
+    return this.#range(value, end);
   }
 
   /** Where the name of the member at a JSON Pointer stands; of an item, or the root, the value. */
   name(pointer) {
-    return this.#range(this.#text.nameRange(pointer));
+    const { name } = this.#text.located(pointer);
+    return name === undefined ? this.value(pointer) : this.#range(name, endOfName(this.#source.json, name.offset));
   }
 
-  /** The value of the text, scanned (see `scan`). Throws `NotJson`. */
-  get root() {
-    return this.#text.root;
-  }
-
-  /** The text of a scanned value. */
-  textOf({ offset, end }) {
-    return this.#text.string.slice(offset, end);
-  }
-
-  /** Where the text is refused: at the value that the refusal names, or where it ceases to be JSON. */
-  refusal({ place }) {
-    if (place === undefined) return WHOLE;
+  /**
+   * Where the text is refused: at the value that the refusal names, or where it ceases to be JSON. A place in an
+   * upgraded document has none.
+   */
+  refusal({ kind, place, isUpgraded }) {
+    if (place === undefined || isUpgraded) return WHOLE;
     try {
-      if (place !== "") return this.value(place);
-      return this.#range({ offset: this.root.offset, end: this.root.offset });
+      if (kind !== "NotJson" && place !== "") return this.value(place);
     } catch (error) {
-      if (error instanceof NotJson) return this.#range({ offset: error.offset, end: error.offset });
       if (error instanceof RangeError) return WHOLE;
       throw error;
     }
+    const begin = this.#at(this.#text.refusedFrom(kind, place));
+    return { begin, end: begin };
   }
 
-  #range({ offset, end }) {
-    return { begin: this.#at(offset), end: this.#at(end) };
+  /** (Not the lines of `json`: it has a blank for each byte of a comment, whose characters may be fewer.) */
+  #range(begin, end) {
+    const isSame = this.#source.json === this.#source.data;
+    return { begin: isSame ? begin : this.#at(begin.offset), end: this.#at(end) };
   }
 
-  /** The position of an index into the text as a string. */
-  #at(index) {
-    const text = this.#text.string;
-    this.#before ??= text.length === this.json.length ? (it) => it : bytesBefore(text);
-    // (Not the lines of `json`: it has a blank for each byte of a comment, whose characters may be fewer.)
-    this.#lines ??= new Lines(this.data);
-    return this.#lines.at(this.#before(index));
+  /** The position of a byte. */
+  #at(offset) {
+    this.#lines ??= new Lines(this.#source.data);
+    return this.#lines.at(offset);
   }
 }

@@ -1,6 +1,9 @@
 /** The command that validates. */
+import { DRAFTS, LATEST } from "../dialects.js";
+import { sharedEngine } from "../engine.js";
 import { Refused } from "../errors.js";
 import { Schemas } from "../schemas.js";
+import { mayBeOlder } from "../upgrading.js";
 import { documentsOf } from "./documents.js";
 import { filesOf } from "./files.js";
 import { inputs } from "./inputs.js";
@@ -8,29 +11,44 @@ import { Places } from "./places.js";
 import { reportFor } from "./reports.js";
 import { Checker, STATUS, refusal } from "./results.js";
 import { Progress } from "./terminal.js";
+import { writeError } from "./writing.js";
 
 /** Validates files, and reports what is wrong with them. Returns the exit status. */
 export async function validate(given) {
   const files = filesOf(given.files, given.input, given.lines);
   const report = reportFor(given.format);
   const documents = documentsOf(given);
+  const engine = await sharedEngine();
   let schemas;
   try {
-    schemas = await Schemas.create(documents.map((it) => [it.uri, it.source.json]));
+    const { defaultDialect, upgrade } = given;
+    schemas = await Schemas.create(documents.map((it) => [it.uri, it.source.json]), { defaultDialect, upgrade });
   } catch (error) {
     if (!(error instanceof Refused)) throw error;
-    report.refusedSchema(refusedSchema(documents, error));
+    report.refusedSchema(refusedSchema(documents, error, engine));
     return STATUS.REFUSED;
   }
-  const checker = new Checker(schemas, documents[0].uri, new Places(documents), report.output);
+  noteUpgrade(documents);
+  const places = new Places(documents, engine);
+  const checker = new Checker({ schemas, entry: documents[0].uri, engine, places, output: report.output });
   const progress = new Progress(given.lines ? undefined : files.length);
   return reported(report, progress, checker, inputs(files, given.input, given.lines));
 }
 
+/** Says once that documents of older drafts were upgraded. */
+function noteUpgrade(documents) {
+  const isOlder = ({ source, assumed, document }) =>
+    document !== undefined && document.dialect !== LATEST && mayBeOlder(source.json, assumed);
+  const [first, ...others] = documents.filter(isOlder);
+  if (first === undefined) return;
+  const more = others.length === 0 ? "" : ` (and ${others.length} other document${others.length > 1 ? "s" : ""})`;
+  writeError(`note: ${first.path}: upgraded from ${DRAFTS[first.document.dialect]}${more}\n`);
+}
+
 /** Which of the schema documents is refused, and where. What is about all of them is at the first. */
-function refusedSchema(documents, refused) {
+function refusedSchema(documents, refused, engine) {
   const { path: file, source } = documents[refused.index ?? 0];
-  return refusal({ file, line: 1, source }, refused);
+  return refusal({ file, line: 1, source }, refused, engine);
 }
 
 /** Reports each result as it comes. The worst of them makes the exit status. */

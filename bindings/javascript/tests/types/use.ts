@@ -14,7 +14,9 @@ export async function use(bytes: Uint8Array): Promise<void> {
   const output: Output = schemas.output("urn:x", "1", "detailed");
   const text: string = schemas.outputText("urn:x", "1");
   const format: Format = FORMATS[0];
-  const position: Position = new Text("{}").value("");
+  const positions: Text = schemas.positions("{}");
+  const position: Position = positions.value("");
+  const end: number = positions.range("").end;
   schemas[Symbol.dispose]();
   others.close();
   const validate = await compile({ type: "object" });
@@ -23,7 +25,7 @@ export async function use(bytes: Uint8Array): Promise<void> {
   const refusing = await Schemas.create({ "urn:x": "true" }, { upgrade: false });
   const worker = await WorkerSchemas.create({ "urn:x": "true" }, { seconds: 1, applications: 8 });
   const inWorker: Promise<boolean> = worker.isValid("urn:x", "1");
-  console.log(valid, places, output, text, format, position, found, inWorker, textOf(1n), older, refusing);
+  console.log(valid, places, output, text, format, position, end, found, inWorker, textOf(1n), older, refusing);
 
   // @ts-expect-error: no such format
   schemas.output("urn:x", "1", "xml");
@@ -39,6 +41,8 @@ export async function use(bytes: Uint8Array): Promise<void> {
   await Schemas.create({}, { defaultDialect: "draft-05" });
   // @ts-expect-error: `create` makes schemas
   new Schemas();
+  // @ts-expect-error: `positions` makes texts
+  new Text("{}");
   // @ts-expect-error: a string in a list is a value, the entry is missing
   schemas.isValid(["1"]);
 }

@@ -1,10 +1,16 @@
 /** URI references (RFC 3986), as the validator resolves and writes them. */
+import { pointer } from "./locations.js";
 
 // The scheme, the authority, the path, the query with its `?`, and the fragment with its `#`.
 const PARTS = /^(?:([A-Za-z][A-Za-z0-9+.-]*):)?(?:\/\/([^/?#]*))?([^?#]*)(\?[^#]*)?(#.*)?$/s;
 // What the URL standard doesn't leave as it is. (`%` it does: what is escaped stays so.)
 const ESCAPED = /[^A-Za-z0-9!$&'()*+,;=:@[\]|/?%~\-._#^]/gu;
+// What the validator escapes in a fragment.
+const ESCAPED_IN_FRAGMENT = /[^A-Za-z0-9!$&'()*+,;=:@/?~\-._]/gu;
 const WITH_HOST = new Set(["http", "https", "ws", "wss", "ftp"]);
+
+const encoder = new TextEncoder();
+const decoder = new TextDecoder("utf-8", { ignoreBOM: true });
 
 /** A reference, resolved against a base URI. */
 export function joined(base, reference) {
@@ -57,17 +63,25 @@ export function fragmentOf(uri) {
 export function documentOf(uri) {
   const { scheme, authority, path, query } = parts(withoutFragment(uri));
   const lower = scheme?.toLowerCase();
-  const whole = quoted(WITH_HOST.has(lower) && path === "" ? "/" : path);
-  return made({ scheme: lower, authority: authority?.toLowerCase(), path: whole, query: query && quoted(query) });
+  const whole = quoted(WITH_HOST.has(lower) && path === "" ? "/" : path, ESCAPED);
+  const rest = query && quoted(query, ESCAPED);
+  return made({ scheme: lower, authority: authority?.toLowerCase(), path: whole, query: rest });
 }
 
 /** What a part of a URI escapes. What isn't UTF-8 then has signs for that. */
 export function unquoted(text) {
-  return text.replace(/(?:%[0-9A-Fa-f]{2})+/g, (run) => Buffer.from(run.replaceAll("%", ""), "hex").toString());
+  return text.replace(/(?:%[0-9A-Fa-f]{2})+/g, (run) =>
+    decoder.decode(Uint8Array.from(run.slice(1).split("%"), (it) => parseInt(it, 16))));
 }
 
-function quoted(text) {
-  return text.replace(ESCAPED, (it) => Buffer.from(it).toString("hex").toUpperCase().replace(/../g, "%$&"));
+/** A URI with the JSON Pointer of these tokens as its fragment, in the form in which the validator writes it. */
+export function withPointer(uri, tokens) {
+  return `${withoutFragment(uri)}#${quoted(pointer(tokens), ESCAPED_IN_FRAGMENT)}`;
+}
+
+function quoted(text, escaped) {
+  const written = (byte) => `%${byte.toString(16).toUpperCase().padStart(2, "0")}`;
+  return text.replace(escaped, (it) => Array.from(encoder.encode(it), written).join(""));
 }
 
 function parts(reference) {
