@@ -12,8 +12,9 @@ from .positions import Position, Text
 from .program import ProgramEngine
 from .scanner import NotJson
 from .schemas import Schemas
+from .upgrading import upgrade
 from .validators import DetailedError, SchemaError, Validator, best_match, validate, validator_for
 
 __all__ = ["FORMATS", "Answer", "DetailedError", "Engine", "EngineError", "EngineNotFound", "LibraryEngine", "NotJson",
            "Position", "ProgramEngine", "Refused", "SchemaError", "Schemas", "Text", "ValidationError", "Validator",
-           "__version__", "best_first", "best_match", "validate", "validator_for"]
+           "__version__", "best_first", "best_match", "upgrade", "validate", "validator_for"]

@@ -2,7 +2,7 @@
 from __future__ import annotations
 
 from collections.abc import Iterable, Mapping
-from typing import Any, Union
+from typing import Any, Callable, Union
 
 from .errors import Refused
 from .limits import LARGEST_TEXT
@@ -14,14 +14,14 @@ Document = Union[bytes, bytearray, memoryview, str, bool, dict[str, Any]]
 Documents = Union[Mapping[str, Document], Iterable[tuple[str, Document]]]
 
 
-def texts_of(documents: Documents) -> list[tuple[str, bytes]]:
-    """The URI and the text of each document.
+def texts_of(documents: Documents, prepare: Callable[[Any], Any] = lambda it: it) -> list[tuple[str, bytes]]:
+    """The URI and the text of each document. `prepare` may make another document of one first.
 
     Raises `Refused` for a URI with a zero byte or a lone surrogate, for a text that is too large, and for a value that
     is none of JSON's within the profile; `TypeError` for what is no document.
     """
     pairs = documents.items() if isinstance(documents, Mapping) else documents
-    return [(uri, _text_of(document, uri, index)) for index, (uri, document) in enumerate(pairs)]
+    return [(uri, _text_of(document, uri, index, prepare)) for index, (uri, document) in enumerate(pairs)]
 
 
 def is_uri_text(uri: str) -> bool:
@@ -36,14 +36,14 @@ def is_uri_text(uri: str) -> bool:
     return "\0" not in uri
 
 
-def _text_of(document: Document, uri: str, index: int) -> bytes:
+def _text_of(document: Document, uri: str, index: int, prepare: Callable[[Any], Any]) -> bytes:
     if not is_uri_text(uri):
         raise Refused("document", "BadUri", "", index, uri)
     if not isinstance(document, (bytes, bytearray, memoryview, str, bool, dict)):
         raise TypeError(f"the document {uri} is of type {type(document).__name__}: a schema document is a JSON text "
                         f"(bytes or str), a dict or a bool")
     try:
-        text = text_of(document)
+        text = text_of(prepare(document))
     except Refused as refused:
         raise Refused("document", refused.kind, refused.place, index, uri) from None
     except TypeError as error:

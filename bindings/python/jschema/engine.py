@@ -46,7 +46,7 @@ class Engine(Protocol):
 
     def locate(self, text: bytes, pointers: Sequence[str]) -> Optional[Sequence[Optional[Located]]]:
         """Where the values at JSON Pointers stand in a JSON text; None for one that isn't there. None for all where the
-        engine doesn't say."""
+        engine doesn't say, or the text isn't JSON."""
 
     def close(self) -> None:
         """Frees what is held. A second call does nothing."""

@@ -13,15 +13,18 @@ class ValidationError(Exception):
     """One error of an instance: a unit of the `basic` output."""
 
     def __init__(self, message: str, instance_location: str, keyword_location: str,
-                 absolute_keyword_location: str, text: Text) -> None:
-        super().__init__(message, instance_location, keyword_location, absolute_keyword_location, text)
+                 absolute_keyword_location: str, text: Text, upgraded_location: Optional[str] = None) -> None:
+        super().__init__(message, instance_location, keyword_location, absolute_keyword_location, text,
+                         upgraded_location)
         self.message = message
         #: JSON Pointer to the value that was validated.
         self.instance_location = instance_location
-        #: JSON Pointer through the schemas, with references followed.
+        #: JSON Pointer through the schemas, with references followed; through upgraded ones of older drafts.
         self.keyword_location = keyword_location
-        #: URI of the keyword, with a JSON Pointer as its fragment.
+        #: URI of the keyword, with a JSON Pointer as its fragment: in the schema document that was passed in.
         self.absolute_keyword_location = absolute_keyword_location
+        #: The same in the document that was validated with: of an older draft, the upgraded one.
+        self.upgraded_location = absolute_keyword_location if upgraded_location is None else upgraded_location
         #: The instance.
         self.text = text
 

@@ -1,4 +1,5 @@
-"""Where a value of a JSON text stands, without a pass over the whole text.
+"""Where a value of a JSON text stands, without a pass over the whole text: for the engine of the program, which says
+no positions, and for what Python reads as JSON and the library refuses.
 
 The text must be JSON: what stands beside the value is passed over, and not looked at.
 """
@@ -29,8 +30,8 @@ class Value:
         self._items: list[int] = []
         self._members: Optional[dict[str, tuple[int, int]]] = None
 
-    def child(self, token: str) -> Optional[tuple[Union[str, int], Value]]:
-        """The item or the member that a token of a JSON Pointer names, with its index or name."""
+    def child(self, token: str) -> Optional[Value]:
+        """The item or the member that a token of a JSON Pointer names."""
         first = self._text[self.offset]
         key: Union[str, int] = token
         if first == _ARRAY and re.fullmatch("0|[1-9][0-9]{0,18}", token):
@@ -42,7 +43,7 @@ class Value:
             if found is None:
                 return None
             self._children[key] = found
-        return key, self._children[key]
+        return self._children[key]
 
     def _item(self, index: int) -> Optional[Value]:
         text, items = self._text, self._items

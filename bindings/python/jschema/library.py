@@ -56,7 +56,7 @@ class _Handle(ctypes.Structure):
 
 class _Position(ctypes.Structure):
     _fields_ = tuple((name, c_size_t) for name in (
-        "offset", "line", "column", "name_offset", "name_line", "name_column"))
+        "offset", "line", "column", "end", "name_offset", "name_line", "name_column"))
 
 
 _NOWHERE = c_size_t(-1).value
@@ -84,6 +84,7 @@ def _installed() -> Optional[str]:
     return ctypes.util.find_library("jschema")
 
 
+@lru_cache(maxsize=None)
 def _load(path: str) -> ctypes.CDLL:
     handle = POINTER(_Handle)
     try:
@@ -111,6 +112,9 @@ def _load(path: str) -> ctypes.CDLL:
     if library.jschema_version() not in _VERSIONS:
         raise EngineError(f"{path} has version {library.jschema_version()}, and this package needs {_VERSIONS[0]} to "
                           f"{_VERSIONS[-1]} ({_MAJOR}.{_MINOR})")
+    # (A build of before a release may have another form, and would be misread.)
+    if on_large_stack(_located, library, b"[1]", ["/0"]) != [Located(Position(1, 1, 2), 2, None)]:
+        raise EngineError(f"{path} says positions in another form: build it again (tools/build-library)")
     return library
 
 
@@ -264,7 +268,7 @@ class LibraryEngine:
     def check(self, entry: str, instance: bytes, format: str) -> Answer:
         return cast(Answer, on_large_stack(self._with_handle, _Schemas.check, entry, instance, format))
 
-    def locate(self, text: bytes, pointers: Sequence[str]) -> list[Optional[Located]]:
+    def locate(self, text: bytes, pointers: Sequence[str]) -> Optional[list[Optional[Located]]]:
         return on_large_stack(_located, self._library, text, pointers)
 
     def close(self) -> None:
@@ -292,7 +296,14 @@ class LibraryEngine:
                 return self._first.shared()
 
 
-def _located(library: ctypes.CDLL, text: bytes, pointers: Sequence[str]) -> list[Optional[Located]]:
+def locate(text: bytes, pointers: Sequence[str]) -> Optional[list[Optional[Located]]]:
+    """Where the values at JSON Pointers stand in a JSON text, by the library; None for one that isn't there. None for
+    all where the text isn't JSON, or there is no library."""
+    path = find_library()
+    return None if path is None else on_large_stack(_located, _load(path), text, pointers)
+
+
+def _located(library: ctypes.CDLL, text: bytes, pointers: Sequence[str]) -> Optional[list[Optional[Located]]]:
     # (What isn't Unicode stands in no text.)
     encoded = {pointer: pointer.encode() for pointer in pointers if not _SURROGATES.search(pointer)}
     count, joined = len(encoded), b"".join(encoded.values())
@@ -301,6 +312,8 @@ def _located(library: ctypes.CDLL, text: bytes, pointers: Sequence[str]) -> list
     status = library.jschema_positions(text, len(text), joined, len(joined), ends, count, positions, count)
     if status == _FAILED:
         raise MemoryError("failed: Memory")
+    if status == _REFUSED:
+        return None
     if status != _DONE:
         raise EngineError(f"the library answered status {status} when it was asked for positions")
     found = dict(zip(encoded, map(_read_position, positions)))
@@ -311,7 +324,7 @@ def _read_position(found: _Position) -> Optional[Located]:
     if found.offset == _NOWHERE:
         return None
     name = None if found.name_offset == _NOWHERE else Position(found.name_offset, found.name_line, found.name_column)
-    return Located(Position(found.offset, found.line, found.column), name)
+    return Located(Position(found.offset, found.line, found.column), found.end, name)
 
 
 def _encoded(uri: str) -> bytes:

@@ -21,7 +21,7 @@ def explain(refused: Refused, text: bytes, uri: str) -> None:
         wanted = uri if refused.place is None else _reference(text, refused.place, uri)
         refused.meaning = f"no schema has the URI {wanted}; give its document too" if wanted else refused.meaning
     elif refused.kind == "BadReference" and (refused.place or "").endswith("/$recursiveRef"):
-        refused.meaning = "$recursiveRef of 2019-09 isn't followed"
+        refused.meaning = "a $recursiveRef of 2019-09 is `#`"
 
 
 def _encoding(text: bytes) -> Optional[str]:

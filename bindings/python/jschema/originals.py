@@ -12,7 +12,8 @@ _FOUR, _SIX, _NINETEEN = 1, 2, 4
 SCHEMA, SEVERAL, VALUE = range(3)
 #: A keyword of the upgraded schema, the first dialect in which it is its own, and what it comes from before.
 _ORIGINS = {
-    "$anchor": (_NINETEEN, "$id"), "$defs": (_NINETEEN, "definitions"), "allOf": (_FOUR, "extends"),
+    "$anchor": (_NINETEEN, "$id"), "$dynamicRef": (LATEST, "$recursiveRef"),
+    "$dynamicAnchor": (LATEST, "$recursiveAnchor"), "$defs": (_NINETEEN, "definitions"), "allOf": (_FOUR, "extends"),
     "anyOf": (_FOUR, "type"), "not": (_FOUR, "disallow"), "prefixItems": (LATEST, "items"),
     "dependentRequired": (_NINETEEN, "dependencies"), "dependentSchemas": (_NINETEEN, "dependencies"),
     "required": (_FOUR, "properties"), "multipleOf": (_FOUR, "divisibleBy"), "exclusiveMaximum": (_SIX, "maximum"),
@@ -45,6 +46,10 @@ def original(value: Any, tokens: Sequence[str], dialect: int) -> Optional[Origin
             if holding == SCHEMA and isinstance(value, dict):
                 dialect = own_dialect(value, dialect)
                 keyword = origin(value, token, dialect)
+                if keyword == "contains" != token:
+                    # (It stands with its limits in an item, behind two `not`s.)
+                    del left[:3]
+                    token = keyword = left.pop(0) if left else keyword
                 holding, below = _held(value[keyword], token, keyword, left)
                 steps = [keyword, *below]
             else:
@@ -84,8 +89,15 @@ def origin(schema: dict[str, Any], keyword: str, dialect: int) -> str:
         return "additionalItems"
     if keyword in ("$id", "$anchor") and dialect < _SIX:
         return "id"
+    if dialect == _NINETEEN and "contains" in schema and keyword == _holder(schema):
+        return "contains"
     first, older = _ORIGINS.get(keyword, (0, keyword))
     return older if dialect < first else keyword
+
+
+def _holder(schema: dict[str, Any]) -> str:
+    """The keyword that `contains` of 2019-09 goes into: the first of these that isn't there."""
+    return next((it for it in ("allOf", "anyOf", "oneOf") if it not in schema), "contains")
 
 
 def upgraded_value(schema: dict[str, Any], keyword: str, dialect: int) -> Any:

@@ -10,9 +10,11 @@ import itertools
 import re
 from bisect import bisect_right
 from collections.abc import Iterable, Sequence
-from typing import Callable, NamedTuple, Optional, Union
+from operator import add
+from typing import Callable, NamedTuple, Optional
 
-from .finder import Value, end_of_string, end_of_text, end_of_value, root
+from .finder import Value, end_of_text, end_of_value, root
+from .limits import DEEPEST
 from .locations import steps
 from .scanner import scan
 
@@ -32,31 +34,34 @@ class Position(NamedTuple):
 
 
 class Located(NamedTuple):
-    """Where a value begins, and the name of the member that it is the value of."""
+    """Where a value begins, the byte after it, and where the name of the member begins that it is the value of."""
 
     value: Position
+    #: None where it wasn't looked for.
+    end: Optional[int]
     name: Optional[Position]
 
 
-#: Finds the values at JSON Pointers in a JSON text: None for one that isn't there; None for all if it can't be asked.
+#: Finds the values at JSON Pointers in a text: None for one that isn't there; None for all where the text isn't JSON,
+#: or there is nothing to ask.
 Locate = Callable[[bytes, Sequence[str]], Optional[Sequence[Optional[Located]]]]
 
 
 class Text:
-    """A JSON text. With `is_json` an engine has read it as JSON before; otherwise it is scanned when a position is
-    first asked for, and only once. `locate` finds positions in a text that is JSON: an engine's."""
+    """A JSON text, and where its values stand. The library finds them, or `locate`, an engine's call; where neither
+    does, Python. With `is_json` an engine has read the text as JSON before, so that Python needn't look whether it
+    is."""
 
     def __init__(self, data: bytes, is_json: bool = False, locate: Optional[Locate] = None) -> None:
         self.data = data
         self._is_json = is_json
-        self._locate = locate if is_json else None
-        # What was found by it, and what is to be found with the next pointer.
+        self._locate: Optional[Locate] = locate or _by_library
+        # What was found, and what is to be found with the next pointer.
         self._located: dict[str, Optional[Located]] = {}
         self._expected: dict[str, None] = {}
-        # Where the values end of which that was asked, by their first bytes.
-        self._ends: dict[int, int] = {}
         # (Made when they are needed. The lock of `functools.cached_property` would outlive a fork.)
         self._root: Optional[Value] = None
+        self._ends: dict[int, int] = {}
         self._line_starts: Optional[list[int]] = None
         self._characters_before: Optional[list[int]] = None
 
@@ -68,95 +73,88 @@ class Text:
 
         Raises `NotJson`, `LookupError` where there is none, and `ValueError` for what is no JSON Pointer.
         """
-        located = self._by_engine(pointer)
-        return self.at(self._found(pointer)[0].offset) if located is None else located.value
+        return self._find(pointer).value
 
     def name(self, pointer: str) -> Position:
         """Where the name of the member at a JSON Pointer begins; of an item, or the root, the value."""
-        located = self._by_engine(pointer)
-        if located is not None:
-            return located.value if located.name is None else located.name
-        found = self._found(pointer)[0]
-        return self.at(found.offset if found.name is None else found.name)
+        located = self._find(pointer)
+        return located.value if located.name is None else located.name
 
     def expect(self, pointers: Iterable[str]) -> None:
-        """Says which positions will be asked for. `locate` then finds them together."""
+        """Says which positions will be asked for, so that they are found together."""
         self._expected.update(dict.fromkeys(pointers))
 
     def span(self, pointer: str) -> tuple[int, int]:
         """The first byte of the value at a JSON Pointer, and the byte after it."""
-        located = self._by_engine(pointer)
-        offset = self._found(pointer)[0].offset if located is None else located.value.offset
-        if offset not in self._ends:
-            self._ends[offset] = end_of_value(self.data, offset) if pointer else end_of_text(self.data)
-        return offset, self._ends[offset]
+        located = self._find(pointer)
+        begin, end = located.value.offset, located.end
+        if end is None:
+            # (Many errors may be about one value.)
+            end = self._ends.get(begin) or (end_of_value(self.data, begin) if pointer else end_of_text(self.data))
+            self._ends[begin] = end
+        return begin, end
 
     def name_span(self, pointer: str) -> tuple[int, int]:
         """The same of the member's name; of an item, or the root, of the value."""
-        located = self._by_engine(pointer)
-        if located is None:
-            name = self._found(pointer)[0].name
-        else:
-            name = None if located.name is None else located.name.offset
-        return self.span(pointer) if name is None else (name, end_of_string(self.data, name))
+        located = self._find(pointer)
+        if located.name is None:
+            return self.span(pointer)
+        # (Between a name and its value there is no other quote.)
+        return located.name.offset, self.data.rindex(b'"', located.name.offset, located.value.offset) + 1
 
     def path(self, pointer: str) -> list[str | int]:
         """A JSON Pointer as the names of members and the indices of items."""
-        if self._by_engine(pointer) is None:
-            return self._found(pointer)[1]
+        self._find(pointer)
         tokens = zip(steps(pointer), _prefixes(pointer))
         return [int(token) if _INDEX.fullmatch(token) and self._is_item(prefix) else token for token, prefix in tokens]
 
     def at(self, offset: int) -> Position:
         """The line and column of a byte."""
         if self._line_starts is None:
-            self._line_starts = [0, *(found.end() for found in re.finditer(b"\n", self.data))]
+            self._line_starts = starts_of(self.data.split(b"\n"))
         line = bisect_right(self._line_starts, offset)
         start = self._line_starts[line - 1]
         return Position(offset, line, self._characters(offset) - self._characters(start) + 1)
 
-    def _by_engine(self, pointer: str) -> Optional[Located]:
-        """What `locate` says of a pointer; None where it can't be asked."""
-        if self._locate is None:
-            return None
+    def _find(self, pointer: str) -> Located:
+        """Where the value at a pointer stands. What is expected is found with it. Each pointer is looked for once."""
         _require_pointer(pointer)
         if pointer not in self._located:
-            asked = [*{pointer: None, **{it: None for it in self._expected if it not in self._located}}]
-            found = self._locate(self.data, asked)
-            if found is None:
-                self._locate = None
-                return None
-            self._located.update(zip(asked, found))
+            asked = [*dict.fromkeys([pointer, *(it for it in self._expected if it not in self._located)])]
+            self._located.update(zip(asked, self._ask(asked)))
             self._expected = {}
         located = self._located[pointer]
         if located is None:
             raise LookupError(f"no value at {pointer}")
         return located
 
-    def _is_item(self, pointer: str) -> bool:
-        """Whether the value at a pointer, which is there, is an item of an array: then it has no name."""
-        if pointer not in self._located:
-            # (What is asked for the paths of the other pointers is found with it.)
-            self.expect(it for known in [*self._located, *self._expected] for it in _prefixes(known)
-                        if _INDEX.fullmatch(it.rpartition("/")[2]))
-        located = self._by_engine(pointer)
-        return located is not None and located.name is None
-
-    def _found(self, pointer: str) -> tuple[Value, list[str | int]]:
-        _require_pointer(pointer)
+    def _ask(self, pointers: Sequence[str]) -> Iterable[Optional[Located]]:
+        found = None if self._locate is None else self._locate(self.data, pointers)
+        if found is not None:
+            return found
+        self._locate = None
         if self._root is None:
             if not self._is_json:
-                scan(self.data)
+                # (As the library takes it: with any number, and a level more than a text that is validated.)
+                scan(self.data, DEEPEST + 1, any_number=True)
             self._root = root(self.data)
-        value = self._root
-        path: list[Union[str, int]] = []
+        return map(self._by_python, itertools.repeat(self._root), pointers)
+
+    def _by_python(self, value: Value, pointer: str) -> Optional[Located]:
         for token in steps(pointer):
             child = value.child(token)
             if child is None:
-                raise LookupError(f"no value at {pointer}")
-            path.append(child[0])
-            value = child[1]
-        return value, path
+                return None
+            value = child
+        return Located(self.at(value.offset), None, None if value.name is None else self.at(value.name))
+
+    def _is_item(self, pointer: str) -> bool:
+        """Whether the value at a pointer, which is there, is an item of an array: then it has no name."""
+        if pointer not in self._located and self._locate is not None:
+            # (What is asked for the paths of the other pointers is found with it.)
+            self.expect(it for known in [*self._located, *self._expected] for it in _prefixes(known)
+                        if _INDEX.fullmatch(it.rpartition("/")[2]))
+        return self._find(pointer).name is None
 
     def _characters(self, offset: int) -> int:
         if self._characters_before is None:
@@ -165,6 +163,17 @@ class Text:
             self._characters_before = [0, *itertools.accumulate(map(_characters, blocks))]
         block = offset // _BLOCK
         return self._characters_before[block] + _characters(self.data[block * _BLOCK:offset])
+
+
+def starts_of(lines: Sequence[bytes | str]) -> list[int]:
+    """Where lines begin in the text of which they are, with a line feed between two."""
+    return [0, *map(add, itertools.accumulate(map(len, lines[:-1])), itertools.count(1))]
+
+
+def _by_library(data: bytes, pointers: Sequence[str]) -> Optional[Sequence[Optional[Located]]]:
+    # (Imported where it is needed, since it needs this module.)
+    from .library import locate
+    return locate(data, pointers)
 
 
 def _require_pointer(pointer: str) -> None:

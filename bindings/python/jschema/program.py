@@ -41,14 +41,13 @@ def find_program() -> str:
                       "or name it in the environment variable JSCHEMA; or build the library (tools/build-library)")
 
 
-def find_upgrader(program: str) -> str:
-    """The program `jschema-upgrade` beside the program."""
+def find_upgrader(program: str) -> Optional[str]:
+    """The program `jschema-upgrade` beside the program, if it is there."""
     folder = os.path.dirname(shutil.which(program) or program)
     for name in _UPGRADERS:
         if found := shutil.which(os.path.join(folder, name)):
             return found
-    raise UpgraderNotFound("schemas of older drafts need the library (tools/build-library in its repository makes it), "
-                           f"or the program jschema-upgrade beside {program}")
+    return None
 
 
 class ProgramEngine:
@@ -71,6 +70,9 @@ class ProgramEngine:
 
     def upgrade(self, dialect: str) -> None:
         upgrader = find_upgrader(self._program)
+        if upgrader is None:
+            raise UpgraderNotFound("schemas of older drafts need the library (tools/build-library in its repository "
+                                   f"makes it), or the program jschema-upgrade beside {self._program}")
         folder = Path(self._folder, "upgraded")
         folder.mkdir(exist_ok=True)
         if not self._uris:
@@ -79,6 +81,10 @@ class ProgramEngine:
         if done.returncode != 0:
             self._raise(done, upgrader)
         self._arguments[1::2] = [str(folder / os.path.basename(path)) for path in self._arguments[1::2]]
+
+    def documents(self) -> list[bytes]:
+        """The texts of the documents, in their order: after an upgrade the upgraded ones."""
+        return [Path(path).read_bytes() for path in self._arguments[1::2]]
 
     def finish(self) -> None:
         done = self._run_with_documents("places")

@@ -3,16 +3,15 @@ from __future__ import annotations
 
 import json
 import math
-import re
-from collections.abc import Iterator, Sequence
+from collections.abc import Iterable, Iterator, Sequence
 from typing import Any, NamedTuple, Optional
 from urllib.parse import unquote
 
 from .dialects import LATEST, dialect_of
-from .locations import LISTS, OBJECTS, steps
+from .locations import LISTS, OBJECTS, pointer, steps
 from .originals import Original, hides, identifier, original, own_dialect
-from .sources import JsonSource, Source
-from .uris import document_of, fragment_of, joined, without_fragment
+from .sources import Source
+from .uris import document_of, fragment_of, joined, with_pointer, without_fragment
 
 Tokens = tuple[str, ...]
 
@@ -39,10 +38,6 @@ class Schema(NamedTuple):
                 yield keyword, reference
 
 
-# What Python's `json` reads and the validator may refuse: a lone surrogate, a number beyond a double's range.
-_DOUBTFUL = re.compile(rb"\\u[dD][89a-fA-F]|[0-9][eE]")
-
-
 class Document:
     """A schema document under a URI."""
 
@@ -57,6 +52,20 @@ class Document:
         self.targets: dict[str, Tokens] = {}
         #: The dialect of each resource, by its tokens.
         self.roots: dict[Tokens, int] = {(): self.dialect}
+        self._expected = 0
+
+    def expect(self, keywords: Iterable[Tokens]) -> None:
+        """Says of which keywords the places in the source will be asked for, so that they are found together: at the
+        second call with those of all others."""
+        self.source.expect(pointer([*it]) for it in keywords)
+        self._expected += 1
+        if self._expected == 2:
+            self.source.expect(pointer([*it.tokens, keyword]) for it in self.schemas for keyword in it.value)
+
+    def dialect_of(self, tokens: Tokens) -> int:
+        """The dialect of the schema with these tokens."""
+        return next(self.roots[tokens[:length]] for length in range(len(tokens), -1, -1)
+                    if tokens[:length] in self.roots)
 
 
 class Target(NamedTuple):
@@ -70,8 +79,13 @@ def document(uri: str, source: Source, assumed: int = LATEST) -> Document:
     """The document of a text, of the dialect that is assumed if it names none. Raises `ValueError` or `RecursionError`
     where it isn't JSON."""
     value = json.loads(source.json.decode(), parse_constant=_no_constant, parse_int=_whole)
-    if isinstance(source, JsonSource) and not _DOUBTFUL.search(source.json):
-        source.trust()
+    # (What Python's reader takes and the validator doesn't, such as a lone surrogate, has its place all the same.)
+    source.trust()
+    return document_with(uri, source, value, assumed)
+
+
+def document_with(uri: str, source: Source, value: Any, assumed: int = LATEST) -> Document:
+    """The same of a text whose value is known."""
     made = Document(uri, source, value, assumed)
     made.targets[document_of(uri)] = ()
     _visit(made, value, (), without_fragment(uri), made.dialect)
@@ -82,16 +96,37 @@ def target(uri: str, documents: Sequence[Document]) -> Optional[Target]:
     """What the fragment of a URI names in the documents: by a JSON Pointer, it may be less than a schema."""
     resource = document_of(uri)
     try:
-        fragment = unquote(fragment_of(uri), errors="strict")
+        named = unquote(fragment_of(uri), errors="strict")
     except UnicodeDecodeError:
         return None
     for document in documents:
-        if fragment and not fragment.startswith("/"):
-            if (anchored := document.targets.get(f"{resource}#{fragment}")) is not None:
+        if named and not named.startswith("/"):
+            if (anchored := document.targets.get(f"{resource}#{named}")) is not None:
                 return Target(document, anchored)
         elif (root := document.targets.get(resource)) is not None:
-            return Target(document, (*root, *steps(fragment)))
+            return Target(document, (*root, *steps(named)))
     return None
+
+
+def value_of(target: Target) -> Any:
+    """The value at a place; None where there is nothing."""
+    value = target.document.value
+    try:
+        for token in target.tokens:
+            value = value[int(token)] if isinstance(value, list) else value[token]
+    except (LookupError, TypeError, ValueError):
+        return None
+    return value
+
+
+def expect(targets: Iterable[Optional[Target]]) -> None:
+    """Says of which keywords the places will be asked for (see `Document.expect`)."""
+    keywords: dict[int, tuple[Document, list[Tokens]]] = {}
+    for it in targets:
+        if it is not None:
+            keywords.setdefault(id(it.document), (it.document, []))[1].append(it.tokens)
+    for document, tokens in keywords.values():
+        document.expect(tokens)
 
 
 def original_of(uri: str, documents: Sequence[Document]) -> Optional[tuple[Document, Original]]:
@@ -108,6 +143,16 @@ def original_of(uri: str, documents: Sequence[Document]) -> Optional[tuple[Docum
         found = original(value, steps(unquote(fragment_of(uri), errors="replace")), document.roots[root])
         return None if found is None else (document, found._replace(tokens=(*root, *found.tokens)))
     return None
+
+
+def original_location(uri: str, documents: Sequence[Document]) -> str:
+    """The absolute location of a keyword in the documents, by that in the upgraded ones: a URI as for `original_of`.
+    Where nothing becomes that keyword, the location is the upgraded one."""
+    found = original_of(uri, documents)
+    if found is None:
+        return uri
+    root = found[0].targets[document_of(uri)]
+    return with_pointer(uri, found[1].tokens[len(root):])
 
 
 def subschemas(schema: dict[str, Any], dialect: int) -> Iterator[tuple[Tokens, Any]]:

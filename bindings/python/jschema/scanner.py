@@ -1,4 +1,6 @@
-"""Where each value of a JSON text stands, by one pass over its bytes.
+"""Where each value of a JSON text stands, by one pass over its bytes: for the engine of the program. With that of the
+library it only looks where a text that was refused ceases to be JSON, and reads outputs that nest deeper than Python's
+own reader goes.
 
 Accepts what the validator reads as JSON: RFC 8259 in UTF-8, no byte order mark, no lone surrogate, no number beyond
 a double's range, at most 127 arrays and objects in one another. Numbers needn't be whole here.
@@ -10,9 +12,7 @@ import math
 import re
 from typing import Optional, Union
 
-from .interface import LIMITS
-
-DEEPEST = LIMITS["nesting"]
+from .limits import DEEPEST
 
 # A token after the space before it; its first byte says what it is. None is at the end.
 _TOKEN = re.compile(
@@ -49,23 +49,24 @@ class Node:
         self.children: Union[dict[str, Node], list[Node], None] = None
 
 
-def scan(text: bytes, deepest: Optional[int] = DEEPEST) -> Node:
+def scan(text: bytes, deepest: Optional[int] = DEEPEST, any_number: bool = False) -> Node:
     """The value of a text. Of members with the same name the last counts. Raises `NotJson`.
 
-    `deepest` limits how many arrays and objects are in one another; None doesn't.
+    `deepest` limits how many arrays and objects are in one another; None doesn't. With `any_number` a number may be
+    beyond a double's range.
     """
     try:
         text.decode()
     except UnicodeDecodeError as error:
         raise NotJson(error.start) from None
-    return _Scanner(text, deepest).run()
+    return _Scanner(text, deepest, any_number).run()
 
 
 class _Scanner:
     """A pass over a text: `at` is the next byte, `holders` are the arrays and objects that are open."""
 
-    def __init__(self, text: bytes, deepest: Optional[int]) -> None:
-        self.text, self.at, self.deepest = text, 0, deepest
+    def __init__(self, text: bytes, deepest: Optional[int], any_number: bool) -> None:
+        self.text, self.at, self.deepest, self.any_number = text, 0, deepest, any_number
         self.holders: list[Node] = []
 
     def run(self) -> Node:
@@ -111,7 +112,7 @@ class _Scanner:
             self.string()
         elif first == _END or first not in _NUMBER + _WORD:
             raise NotJson(self.begin)
-        elif first in _NUMBER and math.isinf(float(self.text[self.begin:self.at])):
+        elif first in _NUMBER and not self.any_number and math.isinf(float(self.text[self.begin:self.at])):
             raise NotJson(self.begin)
         return node
 

@@ -14,7 +14,8 @@ from .metaschemas import ALL, LATEST_ALONE, metaschemas_for
 from .outputs import malformed, parse
 from .positions import Text
 from .program import ProgramEngine
-from .upgrading import Upgrade
+from .rewriting import Rewriting
+from .upgrading import Originals, Upgrade
 from .values import Instance, text_of
 
 
@@ -29,56 +30,83 @@ class Schemas:
 
     Documents of older drafts, from draft-03 to 2019-09, are upgraded to 2020-12 (docs/MIGRATING.md says where the
     verdict differs); `upgrade=False` refuses them. A document that names no dialect is of the `default_dialect`:
-    `draft-03`, `draft-04`, `draft-06`, `draft-07`, `2019-09` or `2020-12`, or the URI of one. Locations in errors and
-    outputs are those of the upgraded schemas. Meta-schemas that documents refer to are taken from pip's
+    `draft-03`, `draft-04`, `draft-06`, `draft-07`, `2019-09` or `2020-12`, or the URI of one. Locations in outputs are
+    those of the upgraded schemas. Meta-schemas that documents refer to are taken from pip's
     `jsonschema-specifications` or Debian's `python3-jsonschema`, where that is installed.
+
+    With `patterns="ecma"` patterns are read as ECMA-262 has them, look-around too where it can be rewritten exactly;
+    with `numbers="exact"` schemas may have fractions, and `1.0` is the integer 1. (`"texts"` also makes texts of
+    fractions in annotations.) Errors then name the keywords of the documents, and outputs those that they became. This
+    is tested, and not proved (docs/MIGRATING.md).
 
     Each call raises `Refused` for an input that has no verdict, `MemoryError` if memory runs out, `EngineError` if the
     engine fails otherwise, `TypeError` for a value that JSON doesn't have, and `ValueError` after `close`.
     """
 
     def __init__(self, documents: Documents, *, engine: Optional[Engine] = None, default_dialect: Optional[str] = None,
-                 upgrade: bool = True) -> None:
+                 upgrade: bool = True, patterns: Optional[str] = None, numbers: Optional[str] = None) -> None:
         upgrading = Upgrade(default_dialect, upgrade)
+        self._rewriting = Rewriting(patterns, numbers)
         self._engine: Optional[Engine] = _default_engine() if engine is None else engine
+        self._originals: Optional[Originals] = None
         texts: list[tuple[str, bytes]] = []
-        is_upgraded = False
         try:
-            texts = texts_of(documents)
+            texts = texts_of(documents, self._rewriting.document)
             texts += metaschemas_for(texts, ALL if upgrade else LATEST_ALONE)
-            for uri, text in texts:
+            rewritten = self._rewriting.texts(texts, upgrading.assumed)
+            for uri, text in rewritten:
                 self._engine.add(uri, text)
             if upgrading.may_change(text for _, text in texts):
                 self._engine.upgrade(upgrading.uri)
-                is_upgraded = True
+                self._originals = Originals(texts, upgrading.assumed)
             self._engine.finish()
         except BaseException as error:
             self.close()
             if isinstance(error, Refused) and error.index is not None and error.index < len(texts):
                 uri, text = texts[error.index]
-                if is_upgraded:
-                    upgrading.explain(error, text)
+                if self._originals is not None:
+                    upgrading.explain(error, rewritten[error.index][1])
+                self._rewriting.restoring.refusal(error)
                 explain(error, text, uri)
             raise
 
     def places(self) -> list[str]:
         """The absolute location of every schema: what can be an entry, or be referred to."""
-        return list(self._open().places())
+        return self._rewriting.restoring.places(list(self._open().places()))
 
     def is_valid(self, entry: str, instance: Instance) -> bool:
         """Whether an instance is valid. No output is made, so this is the quickest call."""
-        text = text_of(instance)
+        text = text_of(self._rewriting.value(instance))
         try:
-            return self._asked(entry).is_valid(entry, text)
+            return self._asked(entry).is_valid(self._rewriting.entry(entry), self._rewriting.instance(text))
         except Refused as refused:
             explain(refused, text, entry)
             raise
 
     def errors(self, entry: str, instance: Instance) -> list[ValidationError]:
         """The errors of the `basic` output, in its order; none for a valid instance."""
-        text = text_of(instance)
+        text = text_of(self._rewriting.value(instance))
         answer = self.check(entry, text, "basic")
-        return [] if answer.valid else errors_of(answer, self.text_of(text))
+        return [] if answer.valid else self.errors_in(answer, self.text_of(text))
+
+    def errors_in(self, answer: Answer, text: Text) -> list[ValidationError]:
+        """The errors in a `basic` output of an invalid instance, whose text this is."""
+        errors = self._rewriting.restoring.errors(_errors_in(answer, text))
+        text.expect(it.instance_location for it in errors)
+        if self._originals is not None:
+            for error in errors:
+                error.absolute_keyword_location = self._originals.location(error.upgraded_location)
+        return errors
+
+    def original_location(self, absolute_keyword_location: str) -> str:
+        """An absolute location of an output in the schema documents that were passed in. It is another one where these
+        were rewritten, or upgraded from an older draft; where nothing in them becomes the keyword, it stays."""
+        location = self._rewriting.restoring.location(absolute_keyword_location)
+        return location if self._originals is None else self._originals.location(location)
+
+    def tree_in(self, answer: Answer) -> bytes:
+        """The same errors as a tree: a `detailed` output."""
+        return self._rewriting.restoring.tree(answer.text)
 
     def iter_errors(self, entry: str, instance: Instance) -> Iterator[ValidationError]:
         """The same, one by one."""
@@ -96,7 +124,7 @@ class Schemas:
 
     def output_text(self, entry: str, instance: Instance, *, format: str = "basic") -> bytes:
         """The output in a format: a JSON text in UTF-8, with a line feed at its end."""
-        return self.check(entry, text_of(instance), format).text
+        return self.check(entry, text_of(self._rewriting.value(instance)), format).text
 
     def check(self, entry: str, text: bytes, format: str) -> Answer:
         """The verdict and the output in a format for a JSON text, by one check."""
@@ -105,7 +133,7 @@ class Schemas:
         if not isinstance(text, bytes):
             raise TypeError(f"the text of a check is bytes, not {type(text).__name__}")
         try:
-            return self._asked(entry).check(entry, text, format)
+            return self._asked(entry).check(self._rewriting.entry(entry), self._rewriting.instance(text), format)
         except Refused as refused:
             explain(refused, text, entry)
             raise
@@ -150,13 +178,11 @@ def _default_engine() -> Engine:
     return LibraryEngine(library)
 
 
-def errors_of(answer: Answer, text: Text) -> list[ValidationError]:
-    """The errors in a `basic` output of an invalid instance."""
+def _errors_in(answer: Answer, text: Text) -> list[ValidationError]:
+    """The errors in an output, at the places that it has."""
     try:
-        errors = [ValidationError(unit["error"], unit["instanceLocation"], unit["keywordLocation"],
-                                  unit["absoluteKeywordLocation"], text)
-                  for unit in parse(answer.text)["errors"]]
+        return [ValidationError(unit["error"], unit["instanceLocation"], unit["keywordLocation"],
+                                unit["absoluteKeywordLocation"], text)
+                for unit in parse(answer.text)["errors"]]
     except (KeyError, TypeError) as error:
         raise malformed(answer.text) from error
-    text.expect(error.instance_location for error in errors)
-    return errors

@@ -3,13 +3,20 @@ from __future__ import annotations
 
 import json
 import re
-from collections.abc import Iterable
+from collections.abc import Iterable, Sequence
+from functools import lru_cache
 from typing import Optional
 
 from .dialects import LATEST, URIS, dialect_called, dialect_of
-from .errors import Refused
+from .documents import Documents, texts_of
+from .errors import Refused, UpgraderNotFound
 from .locations import pointer, steps
+from .meanings import explain
+from .metaschemas import ALL, metaschemas_for
 from .originals import original
+from .program import ProgramEngine, find_program, find_upgrader
+from .resources import Document, document, original_location
+from .sources import read
 
 # What a document of an older draft has somewhere. (A slash may be escaped.)
 _OLDER = re.compile(rb"json-schema\.org\\?/draft(?:-0[3467]|\\?/2019-09)\\?/")
@@ -18,6 +25,34 @@ _OLDER = re.compile(rb"json-schema\.org\\?/draft(?:-0[3467]|\\?/2019-09)\\?/")
 def may_be_older(text: bytes, assumed: int = LATEST) -> bool:
     """Whether a document may be of an older draft, or have a part that is. (It may say too often that it may.)"""
     return assumed != LATEST or _OLDER.search(text) is not None
+
+
+def upgrade(documents: Documents, *, default_dialect: Optional[str] = None) -> dict[str, bytes]:
+    """Schema documents as documents of 2020-12: a JSON text for each URI, in the order of the documents.
+
+    They are upgraded together, since a reference may lead into another document. One that names no dialect is of the
+    `default_dialect`, as for `Schemas`. The program `jschema-upgrade` does it, which stands beside `jschema` where that
+    is installed. Raises `Refused` for a document that can't be upgraded, and `EngineError` without the program.
+    """
+    given = texts_of(documents)
+    texts = [*given, *metaschemas_for(given, ALL)]
+    program = find_program()
+    if find_upgrader(program) is None:
+        raise UpgraderNotFound("documents are upgraded by the program jschema-upgrade, and there is none beside "
+                               f"{program} (tools/install in its repository installs both)")
+    engine = ProgramEngine(program)
+    try:
+        for uri, text in texts:
+            engine.add(uri, text)
+        engine.upgrade(Upgrade(default_dialect, True).uri)
+        return dict(zip([uri for uri, _ in given], engine.documents()))
+    except Refused as refused:
+        if refused.index is not None:
+            uri, text = texts[refused.index]
+            explain(refused, text, uri)
+        raise
+    finally:
+        engine.close()
 
 
 class Upgrade:
@@ -56,3 +91,27 @@ class Upgrade:
             refused.is_upgraded = True
         else:
             refused.place = pointer([*found.tokens])
+
+
+class Originals:
+    """Documents as they were before they were upgraded. They are read when the first location is looked for."""
+
+    def __init__(self, texts: Sequence[tuple[str, bytes]], assumed: int) -> None:
+        self._texts, self._assumed = texts, assumed
+        self._documents: Optional[list[Document]] = None
+        self.location = lru_cache(maxsize=10_000)(self._location)
+
+    def _location(self, uri: str) -> str:
+        """The absolute location of a keyword in them, by that in the upgraded documents. Where nothing becomes that
+        keyword, the location is the upgraded one."""
+        if self._documents is None:
+            self._documents = [it for uri, text in self._texts if (it := _document(uri, text, self._assumed))]
+        return original_location(uri, self._documents)
+
+
+def _document(uri: str, text: bytes, assumed: int) -> Optional[Document]:
+    """A document that the validator has read. (Python's own reader refuses numbers of thousands of digits.)"""
+    try:
+        return document(uri, read(text, "json")[0], assumed)
+    except (ValueError, RecursionError):
+        return None

@@ -2,14 +2,19 @@
 from __future__ import annotations
 
 import re
+from collections.abc import Iterable
 from typing import Optional
 from urllib.parse import quote
+
+from .locations import pointer
 
 # The scheme, the authority, the path, the query with its `?`, and the fragment with its `#`.
 _Parts = tuple[Optional[str], Optional[str], str, Optional[str], Optional[str]]
 _PARTS = re.compile(r"(?:([A-Za-z][A-Za-z0-9+.-]*):)?(?://([^/?#]*))?([^?#]*)(\?[^#]*)?(#.*)?", re.DOTALL)
 # What the URL standard leaves as it is. (`%` too: what is escaped stays so.)
 _SAFE = "!$&'()*+,;=:@[]|/?%~-._#^"
+# What the validator leaves as it is in a fragment, beside letters and digits.
+_SAFE_IN_FRAGMENT = "!$&'()*+,;=:@/?~-._"
 
 
 def joined(base: str, reference: str) -> str:
@@ -56,6 +61,11 @@ def document_of(uri: str) -> str:
         path = "/"
     return _made(scheme and scheme.lower(), authority and authority.lower(), _quoted(path),
                  query and _quoted(query), None)
+
+
+def with_pointer(uri: str, tokens: Iterable[str]) -> str:
+    """A URI with the JSON Pointer of these tokens as its fragment, in the form in which the validator writes it."""
+    return without_fragment(uri) + "#" + quote(pointer([*tokens]), safe=_SAFE_IN_FRAGMENT)
 
 
 def _quoted(text: str) -> str:

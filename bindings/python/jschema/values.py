@@ -5,8 +5,8 @@ import json
 from typing import Any, Union
 
 from .errors import Refused
+from .limits import DEEPEST
 from .locations import pointer
-from .scanner import DEEPEST
 
 #: A JSON text, as bytes or as a str; or a value of None, booleans, integers, lists, tuples and dicts.
 Instance = Union[bytes, bytearray, memoryview, str, Any]

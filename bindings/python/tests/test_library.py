@@ -52,6 +52,19 @@ class Case(unittest.TestCase):
         return done.stdout
 
 
+class Forms(Case):
+    def test_positions_of_another_form(self):
+        """A library whose struct has its members in another order isn't misread."""
+        path = find_library()
+        names = ("line", "column", "offset", "name_offset", "name_line", "name_column", "end")
+        other = type("_Position", (library.ctypes.Structure,), {"_fields_": [(it, library.c_size_t) for it in names]})
+        self.assertIsNotNone(library._load.__wrapped__(path))
+        with mock.patch.object(library, "_Position", other), self.assertRaisesRegex(
+                jschema.EngineError, "positions in another form: build it again"):
+            with mock.patch.object(library, "POINTER", lambda it: library.c_void_p):
+                library._load.__wrapped__(path)
+
+
 class Handles(Case):
     def test_refusal_leaves_the_others(self):
         engine = jschema.LibraryEngine()

@@ -129,6 +129,16 @@ class Rules(unittest.TestCase):
                 self.assertEqual((finding.rule, finding.severity), ("not-json", "error"))
                 self.assertEqual(finding.range.begin.line, line)
 
+    def test_what_only_python_reads(self):
+        """What else is found has its place too, and the text is refused where it ceases to be JSON."""
+        for text, column in ((b'{"requierd": [], "title": "\\ud800"}', 27),
+                             (b'{"requierd": [], "default": [1e999]}', 30)):
+            with self.subTest(text):
+                findings = lint(text, URI)
+                self.assertEqual((findings[0].rule, findings[0].range.begin.column), ("unknown-keyword", 2))
+                [refused] = [it for it in findings if it.rule == "refused"]
+                self.assertEqual((refused.message[:15], refused.range.begin.column), ("not a JSON text", column))
+
     def test_other_documents(self):
         schema = {"$ref": "other#/$defs/a"}
         self.assertEqual(found(schema, others={"https://example.com/other": {"$defs": {"a": True}}}), [])

@@ -7,7 +7,8 @@ from pathlib import Path
 
 from lsp_client import ADDRESS, FILES, PERSON, once
 
-from jschema.lsp.completion import Client, completion
+from jschema.lsp.client import Client
+from jschema.lsp.completion import completion
 from jschema.lsp.definition import definition
 from jschema.lsp.diagnostics import Diagnoses
 from jschema.lsp.documents import Document

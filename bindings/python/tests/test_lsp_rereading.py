@@ -1,12 +1,13 @@
 """A YAML text that is read again in part comes to what it is when it is read as a whole."""
 import random
 import unittest
+from unittest import mock
 
 from lsp_client import once
 
 from jschema.errors import Refused
 from jschema.lsp.rereading import reread
-from jschema.sources import read
+from jschema.sources import read, writing
 
 try:
     import yaml
@@ -51,16 +52,24 @@ class Rereading(unittest.TestCase):
         self.again = self.whole = self.faults = self.unread = self.same = 0
 
     def test_random_edits(self):
+        """With and without texts of arrays and objects that are kept."""
         numbers = random.Random(6)
-        for _ in range(40):
-            text = document(numbers)
-            source = read(text.encode(), "yaml")[0]
-            for _ in range(8):
-                changed = self.edited(numbers, text)
-                source, text = self.judged(source, text, changed)
+        for number in range(60):
+            with mock.patch.object(writing, "_LONGEST", 16 if number % 2 else 4096):
+                text = document(numbers)
+                source = read(text.encode(), "yaml")[0]
+                for _ in range(8):
+                    changed = self.edited(numbers, text)
+                    source, text = self.judged(source, text, changed)
         self.assertGreater(self.again, self.whole / 4)
         self.assertGreater(self.faults, self.unread)
         self.assertGreater(self.same, self.faults * 0.8)
+
+    def test_another_holder(self):
+        """What follows the change stands in another member then."""
+        more = "".join(f"  k{it}:\n    name: {it}\n" for it in range(1, 20))
+        before, after = f"top:\n  k0:\n    name: 0\n    list:\n{more}", f"top:\n  k0:\n    name: 0\nb:\n  list:\n{more}"
+        self.judged(read(before.encode(), "yaml")[0], before, after)
 
     def judged(self, source, text, changed):
         """Compares the two ways to read a changed text, and returns the last that could be read."""

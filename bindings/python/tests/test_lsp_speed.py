@@ -7,7 +7,7 @@ import unittest
 from lsp_client import Session
 
 SIZE = 300_000
-SECONDS = 0.5
+SECONDS = 0.2
 SCHEMA = {
     "type": "object",
     "properties": {"rows": {"type": "array", "items": {
@@ -46,7 +46,8 @@ class Speed(Session):
             import yaml
         except ImportError:
             self.skipTest("PyYAML isn't installed")
-        text = yaml.safe_dump(json.loads(rows(SIZE)), sort_keys=False)
+        text = yaml.safe_dump(json.loads(rows(3 * SIZE // 2)), sort_keys=False)
+        self.assertGreater(len(text), SIZE)
         for what, change in YAML_CHANGES.items():
             with self.subTest(what):
                 self.typed("yaml", text, *change)

@@ -6,9 +6,13 @@ from unittest import mock
 
 import jschema
 from commands import Case
-from jschema import NotJson, Text, positions
+from jschema import NotJson, Text, positions, sources
 from jschema.library import find_library
+from jschema.lint import lint
 from jschema.locations import pointer
+from jschema.lsp.diagnostics import Diagnoses
+from jschema.lsp.documents import Document
+from jschema.lsp.workspace import Workspace
 from jschema.scanner import scan
 from jschema.sources import JsonSource
 from tests.reference import json_text
@@ -30,12 +34,17 @@ NOT_JSON = (
 )
 
 
+def by_python(*_):
+    """What the engine of the program finds: nothing."""
+
+
 def every_text(data):
-    """A text that is scanned, one that is known to be JSON, and one whose values the library finds, where it is the
-    engine."""
-    yield Text(data)
-    yield Text(data, is_json=True)
+    """A text in which Python finds the values, one that it knows to be JSON, and one in which the library finds them,
+    where it is the engine."""
+    yield Text(data, locate=by_python)
+    yield Text(data, is_json=True, locate=by_python)
     if find_library() is not None:
+        yield Text(data)
         yield Text(data, is_json=True, locate=jschema.LibraryEngine().locate)
 
 
@@ -73,20 +82,39 @@ def is_json(data):
     return True
 
 
+def no_json_at(text):
+    """Where a text ceases to be JSON; None if it is JSON."""
+    try:
+        text.value("")
+    except NotJson as error:
+        return error.offset
+    return None
+
+
+def is_beyond(data):
+    """Whether the validator alone refuses a text as no JSON, for a number or a level too many."""
+    try:
+        json.dumps(json.loads(data.decode(), parse_constant=int), ensure_ascii=False).encode()
+    except (ValueError, RecursionError):
+        return False
+    return True
+
+
 class Positions(unittest.TestCase):
     def judge(self, data):
         """A text is read as the reference reads it, and every value and name is where the text has it."""
-        text = Text(data)
+        text, *known = every_text(data)
         if not is_json(data):
             with self.assertRaises(NotJson) as raised:
-                text.value("")
+                scan(data)
             self.assertLessEqual(raised.exception.offset, len(data))
+            expected = None if is_beyond(data) else raised.exception.offset
+            self.assertEqual([no_json_at(it) for it in (text, Text(data))], [expected, expected])
             return
         value = json_text.any_value(data)
         found = list(nodes(scan(data)))
         self.assertEqual(self.leaves(value), len(found))
         # The values of a text that is known to be JSON are found too, those in the middle of it first.
-        _, *known = every_text(data)
         for other in known:
             other.expect(pointer(tokens) for tokens, _ in found)
             for tokens, node in sorted(found, key=lambda it: it[1].offset % 7):
@@ -175,10 +203,18 @@ class Positions(unittest.TestCase):
             self.assertEqual(text.value("/a/0"), (16, 2, 8))
 
     def test_nested(self):
+        for levels in (128, 129):
+            for text in (Text(b"[" * levels + b"]" * levels), Text(b"[" * levels + b"]" * levels, locate=by_python)):
+                self.assertEqual(no_json_at(text), None if levels == 128 else 128)
         for data, accepted in ((b"[" * 127 + b"]" * 127, True), (b"[" * 128 + b"]" * 128, False), (b"[" * 10**6, False),
                                (b'{"a":' * 127 + b"1" + b"}" * 127, True), (b'{"a":' * 10**5, False)):
-            self.assertEqual(self.is_scanned(data), accepted)
-        self.assertEqual(Text(b"[" * 127 + b"]" * 127).value("/0" * 126).column, 127)
+            with self.subTest(data[:9]):
+                if not accepted:
+                    self.assertRaises(NotJson, scan, data)
+                else:
+                    self.assertEqual(scan(data).end, len(data))
+        for text in every_text(b"[" * 127 + b"]" * 127):
+            self.assertEqual((text.value("/0" * 126).column, text.span("/0" * 126)), (127, (126, 128)))
 
     def test_long_line(self):
         for text in every_text(("[" + ", ".join(['"é"'] * 20000) + "]").encode()):
@@ -238,6 +274,18 @@ class Asked(unittest.TestCase):
         self.assertEqual(found, {1: [0], 4: [1], 10: [1, "0"], 16: [2, 0, 0], 21: [2, 1, 0]})
 
 
+    def test_each_once(self):
+        """Many errors about one value ask for it once, by a long pointer too."""
+        name = "x" * 100_000
+        data = json.dumps({name: 1}).encode()
+        schema = {"additionalProperties": {"allOf": [{"minimum": number} for number in range(2, 102)]}}
+        with jschema.Schemas({"a:b": schema}) as schemas:
+            errors = schemas.errors("a:b", data)
+            locate = mock.Mock(wraps=errors[0].text._locate)
+            errors[0].text._locate = locate
+            self.assertEqual([error.position.offset for error in errors], [100_005] * 100)
+            self.assertEqual([[*it.args[1]] for it in locate.call_args_list], [[f"/{name}"]])
+
     def test_end_once(self):
         """Many errors about one value don't go through it again."""
         data = json.dumps({"a": [[]] * 1000}).encode()
@@ -250,39 +298,52 @@ class Asked(unittest.TestCase):
 
 
 class ByTheLibrary(Case):
-    """Where an error stands and its path come from the library: Python doesn't go through the text."""
+    """Where an error and its keyword stand, where they end, and the path come from the library: Python goes through no
+    text."""
 
     def setUp(self):
         if find_library() is None:
             self.skipTest("no library")
-        for name in ("scan", "root"):
-            patched = mock.patch.object(positions, name, side_effect=self.pass_by(getattr(positions, name)))
+        for module, name in ((positions, "scan"), (positions, "root"), (positions, "end_of_value"),
+                             (positions, "end_of_text"), (sources.source, "scan")):
+            patched = mock.patch.object(module, name, side_effect=AssertionError("a pass by Python"))
             patched.start()
             self.addCleanup(patched.stop)
 
-    @staticmethod
-    def pass_by(read):
-        """What reads the schemas, and no instance: these begin with an array."""
-        def of_schema(data):
-            if data.startswith(b"["):
-                raise AssertionError("a pass over the instance")
-            return read(data)
+    def asked(self):
+        """What is asked of the library: each text, and how many values are looked for."""
+        found = []
 
-        return of_schema
+        def located(library, text, pointers):
+            self.assertEqual(len(set(pointers)), len(pointers))
+            found.append((text, len(pointers)))
+            return before(library, text, pointers)
+
+        before = jschema.library._located
+        patched = mock.patch.object(jschema.library, "_located", side_effect=located)
+        patched.start()
+        self.addCleanup(patched.stop)
+        return found
 
     def test_errors(self):
         with jschema.Schemas({"a:b": {"items": {"properties": {"7": {"type": "array"}}}}}) as schemas:
             [error] = schemas.errors("a:b", b'[[1], {"7": 2}]')
         self.assertEqual((error.position, error.path), ((12, 1, 13), [1, "7"]))
+        self.assertEqual((error.text.span("/1"), error.text.name_span("/1/7")), ((6, 14), (7, 10)))
+
+    def test_any_text(self):
+        """Also one that no engine has read, with any numbers."""
+        text = Text(b'{"a": [0.5, "x"], "b\\"": 1e999}')
+        self.assertEqual((text.value("/a/1"), text.span("/a"), text.path("/a/1")), ((12, 1, 13), (6, 16), ["a", 1]))
+        self.assertEqual((text.name_span('/b"'), text.span("")), ((18, 23), (0, 31)))
 
     def test_validator(self):
         schema = {"items": {"properties": {"7": {"type": "array"}}, "additionalProperties": False}}
-        with mock.patch.object(jschema.LibraryEngine, "locate", autospec=True,
-                               side_effect=jschema.LibraryEngine.locate) as asked:
-            errors = list(jschema.Validator(schema).iter_errors([[1], {"7": 2}, {"a": 1, "b": 2}]))
-            self.assertEqual([[*error.absolute_path] for error in errors], [[1, "7"], [2]])
-            self.assertEqual([error.position.offset for error in errors], [12, 16])
-        self.assertEqual(asked.call_count, 1)
+        asked = self.asked()
+        errors = list(jschema.Validator(schema).iter_errors([[1], {"7": 2}, {"a": 1, "b": 2}]))
+        self.assertEqual([[*error.absolute_path] for error in errors], [[1, "7"], [2]])
+        self.assertEqual([error.position.offset for error in errors], [12, 16])
+        self.assertEqual(len(asked), 1)
 
     def test_command(self):
         self.write("numbers.json", '{"items": {"minimum": 0}}')
@@ -292,17 +353,52 @@ class ByTheLibrary(Case):
                 out, _, status = self.run_inside("validate", "--format", format, "numbers.json", "three.json")
                 self.assertRegex(out, "less than 0")
                 self.assertEqual(status, 1)
+        out, _, _ = self.run_inside("validate", "numbers.json", "three.json")
+        self.assertIn("\n2 |  -1, 2]\n  |  ^^ /1\n  = numbers.json:1:12: minimum\n", out)
+
+    def test_keywords(self):
+        """The keywords of a schema are found by two calls at most, however many instances there are."""
+        self.write("wide.json", json.dumps({"properties": {f"a{it}": {"type": "null"} for it in range(100)}}))
+        self.write("lines.jsonl", "".join(f'{{"a{it}": 1}}\n' for it in range(100)))
+        schema = (self.folder / "wide.json").read_bytes()
+        asked = self.asked()
+        out, _, status = self.run_inside("validate", "--format", "json", "--lines", "wide.json", "lines.jsonl")
+        self.assertEqual((len(json.loads(out)), status), (100, 1))
+        self.assertEqual([text == schema for text, _ in asked].count(True), 2)
+        self.assertEqual(len(asked), 102)
+
+    def test_lint(self):
+        asked = self.asked()
+        text = json.dumps({"properties": {f"a{it}": {"requierd": 1} for it in range(100)}}, indent=1)
+        self.write("lint.json", text)
+        out, _, status = self.run_inside("lint", "--format", "short", "lint.json")
+        self.assertEqual((len(out.splitlines()), status), (100, 1))
+        self.assertEqual([count for _, count in asked], [100])
+        [first, *_] = lint(text.encode(), "a:b")
+        self.assertEqual(text[first.range.begin.offset:first.range.end.offset], '"requierd"')
+
+    def test_language_server(self):
+        value = {"$schema": "s.schema.json", "a": {"b": [1]}, **{f"c{it}": it for it in range(100)}}
+        text = json.dumps(value, indent=1)
+        self.write("s.schema.json", '{"properties": {"a": {"properties": {"b": {"type": "null"}}}}, '
+                                    '"patternProperties": {"^c": {"type": "string"}}}')
+        self.write("s.json", text)
+        document = Document((self.folder / "s.json").as_uri(), "json", 1, text)
+        asked = self.asked()
+        found = Diagnoses(Workspace()).of(document)
+        self.assertEqual((len(found), sorted(count for _, count in asked)), (101, [2, 101]))
+        spans = {text[it.span.begin:it.span.end] for it in found}
+        self.assertEqual(spans, {'"b"', *map(str, range(100))})
 
     def test_warnings(self):
-        """Those of all formats by one call."""
+        """Those of all formats by one call for the instance and one for the schema."""
         self.write("formats.json", '{"items": {"format": "ipv4"}}')
         self.write("addresses.json", '["a", "127.0.0.1", "b"]')
-        with mock.patch.object(jschema.LibraryEngine, "locate", autospec=True,
-                               side_effect=jschema.LibraryEngine.locate) as asked:
-            out, said, status = self.run_inside("validate", "--formats", "--format", "short", "formats.json",
-                                                "addresses.json")
+        asked = self.asked()
+        out, said, status = self.run_inside("validate", "--formats", "--format", "short", "formats.json",
+                                            "addresses.json")
         self.assertEqual([line.split(":")[1:3] for line in (out + said).splitlines()[:2]], [["1", "2"], ["1", "20"]])
-        self.assertEqual((status, asked.call_count), (0, 1))
+        self.assertEqual((status, [count for _, count in asked]), (0, [1, 2]))
 
 
 class WithoutAPass(unittest.TestCase):

@@ -64,6 +64,7 @@ VERDICTS = {
         ("8.2.4.1", {"$ref": "#/$defs/a", "maximum": 5, "$defs": {"a": {"minimum": 1}}}, [1, 5], [0, 6]),
         ("9.3.1.1", {"items": [{"$anchor": "a"}], "additionalItems": False}, [[1]], [[1, 2]]),
         ("Validation 6.5.4", {"dependentRequired": {"a": ["b"]}}, [{"b": 1}], [{"a": 1}]),
+        ("8.2.4.2.1", {"properties": {"a": {"$recursiveRef": "#"}}, "type": "object"}, [{"a": {}}], [{"a": 1}]),
         ("no keyword any more", {"dependencies": {"a": ["b"]}}, [{"a": 1}], []),
         ("no keyword yet", {"prefixItems": [False]}, [[1]], []),
     ],
@@ -234,6 +235,20 @@ class Originals(unittest.TestCase):
             "/required": "/properties", "/properties/a/not/type": "/properties/a/disallow",
             "/exclusiveMaximum": "/maximum"})
 
+    def test_2019(self):
+        """`contains` stands with its limits behind two `not`s, in the first list of schemas that isn't there (2019-09
+        Core 9.3.1.4), and recursive references are dynamic ones."""
+        schema = {"$recursiveAnchor": True, "contains": {"type": "null"}, "minContains": 2,
+                  "items": {"allOf": [{"$recursiveRef": "#"}], "contains": {"allOf": [True]}}}
+        within, item = "/allOf/0/not/not", "/items/anyOf/0/not"
+        self.judge("2019-09", schema, {
+            "/allOf": "/contains", "/allOf/0": "/contains", "/allOf/0/not": "/contains", within: "/contains",
+            f"{within}/contains/type": "/contains/type", f"{within}/minContains": "/minContains",
+            f"{within}/maxContains": None, "/anyOf/0": None, "/$dynamicAnchor": "/$recursiveAnchor",
+            "/items/allOf/0/$dynamicRef": "/items/allOf/0/$recursiveRef", item: "/items/contains",
+            f"{item}/not/contains/allOf/0": "/items/contains/allOf/0"})
+        self.judge("2020-12", schema, {"/allOf/0/not": None, "/contains/type": "/contains/type"})
+
     def test_dialects_within(self):
         """Below the root `$schema` counts beside an identifier of its dialect (2019-09 Core 8.1.1)."""
         within = {"items": [{}], "$schema": SEVEN}
@@ -350,16 +365,14 @@ class InstalledMetaschemas(LibraryCase):
 
     def test_each_draft(self):
         for draft, uri in zip(DRAFTS, URIS):
-            if draft == "2019-09":
-                continue
             with self.subTest(draft), jschema.Schemas({URI: {"$ref": uri}}) as schemas:
                 self.assertTrue(schemas.is_valid(URI, {"minimum": 1, "properties": {"a": {}}}))
                 self.assertFalse(schemas.is_valid(URI, {"minimum": "1"}))
 
     def test_recursive_reference(self):
-        """A document that refers in a way that isn't followed is refused (2019-09 Core 8.2.4.2.1)."""
-        with self.assertRaisesRegex(jschema.Refused, r"\$recursiveRef of 2019-09 isn't followed") as caught:
-            jschema.Schemas({URI: {"$schema": URIS[DRAFTS.index("2019-09")], "not": {"$recursiveRef": "#"}}}).close()
+        """It is `#` (2019-09 Core 8.2.4.2.1)."""
+        with self.assertRaisesRegex(jschema.Refused, r"a \$recursiveRef of 2019-09 is `#`") as caught:
+            jschema.Schemas({URI: {"$schema": URIS[4], "not": {"$recursiveRef": "#/a"}}}).close()
         self.assertEqual((caught.exception.kind, caught.exception.place), ("BadReference", "/not/$recursiveRef"))
 
 
@@ -430,7 +443,7 @@ class Command(CommandCase):
         self.assertEqual(self.run_inside("validate", "--schema", "draft07.json", "good.json"),
                          ("", f"{note}1 valid, 0 invalid\n", 0))
         self.assertEqual(self.run_inside("validate", "--format", "short", "draft07.json", "bad.json"),
-                         (f"bad.json:1:9: less than 0 (/age; minimum, {self.uri}#/$defs/age/minimum)\n",
+                         (f"bad.json:1:9: less than 0 (/age; minimum, {self.uri}#/definitions/age/minimum)\n",
                           f"{note}0 valid, 1 invalid (1 error)\n", 1))
         self.assertEqual(self.run_inside("validate", "--format", "flag", "draft07.json", "good.json", "bad.json"),
                          ('{"valid":true}\n{"valid":false}\n', note, 1))
@@ -438,9 +451,13 @@ class Command(CommandCase):
     def test_place_of_the_keyword(self):
         out, said, status = self.run_inside("validate", "--format", "json", "draft07.json", "bad.json")
         self.assertEqual((said, status), ("note: draft07.json: upgraded from draft-07\n", 1))
-        self.assertIn('"draft07.json"', out)
+        [error] = json.loads(out)[0]["errors"]
+        self.assertEqual((error["schema"], error["absoluteKeywordLocation"], error["upgradedLocation"]),
+                         ({"file": "draft07.json", "line": 3, "column": 27},
+                          f"{self.uri}#/definitions/age/minimum", f"{self.uri}#/$defs/age/minimum"))
         out, _, _ = self.run_inside("validate", "draft07.json", "bad.json")
-        self.assertIn("draft07.json:3:27", out)
+        self.assertIn(f"  = draft07.json:3:27: minimum\n  = {self.uri}#/definitions/age/minimum\n", out)
+        self.assertNotIn("$defs", out)
 
     def test_no_upgrade(self):
         self.assertEqual(self.run_inside("validate", "--no-upgrade", "--format", "short", "draft07.json", "good.json"),

@@ -12,7 +12,8 @@ from .files import Misuse
 #: What each command is called on its own, and its usage after its name.
 USAGES = {
     "validate": "[--ref [URI=]FILE|FOLDER]... [--format FORMAT] [--input KIND] [--formats] [--lines] [--jobs N] "
-                "[--default-dialect DIALECT | --no-upgrade] (SCHEMA | --schema SCHEMA) INSTANCE...",
+                "[--default-dialect DIALECT | --no-upgrade] [--patterns SYNTAX] [--numbers RANGE] "
+                "(SCHEMA | --schema SCHEMA) INSTANCE...",
     "lint": "[--ref [URI=]FILE|FOLDER]... [--format FORMAT] [--input KIND] SCHEMA...",
 }
 EXAMPLES = {"validate": "person.schema.json ada.json", "lint": "person.schema.json"}
@@ -48,6 +49,9 @@ class Arguments(NamedTuple):
     #: upgraded.
     default_dialect: Optional[str] = None
     upgrade: bool = True
+    #: How patterns and numbers are read, as `Schemas` has it.
+    patterns: Optional[str] = None
+    numbers: Optional[str] = None
 
 
 class Version(Exception):
@@ -128,6 +132,13 @@ def _validate(name: str) -> _Parser:
     parser.add_argument("--no-upgrade", dest="upgrade", action="store_false",
                         help=f"refuse schemas of older drafts, from {DRAFTS[0]} to {DRAFTS[-2]}, which are upgraded to "
                              f"{DRAFTS[-1]} otherwise")
+    parser.add_argument("--patterns", choices=("ecma", "regex"), default="ecma", metavar="SYNTAX",
+                        help="the syntax of patterns: ecma, ECMA-262, look-around too where it can be rewritten (the "
+                             "default), or regex, that of the validator")
+    parser.add_argument("--numbers", choices=("exact", "texts", "whole"), default="exact", metavar="RANGE",
+                        help="the numbers that are read: exact, fractions in schemas, and 1.0 as the integer 1 (the "
+                             "default), texts, where fractions in a schema's annotations become texts too, or whole, "
+                             "those of the validator")
     parser.add_argument("--jobs", type=_jobs, default=1, metavar="N", help="how many checks run at once (default: 1)")
     parser.add_argument("files", nargs="*", metavar="INSTANCE",
                         help="a file; a folder, for the files in it, at any depth, whose suffix is of a kind (with "
@@ -182,4 +193,6 @@ def of_command(command: str, words: list[str], name: str) -> Arguments:
     if given.default_dialect and not given.upgrade:
         parser.error("--default-dialect says what to upgrade from, and --no-upgrade upgrades nothing")
     return Arguments("validate", schemas[0], given.ref, given.ref_siblings, given.format, given.input, given.verbose,
-                     files, given.formats, given.lines, given.jobs, given.default_dialect, given.upgrade)
+                     files, given.formats, given.lines, given.jobs, given.default_dialect, given.upgrade,
+                     None if given.patterns == "regex" else given.patterns,
+                     None if given.numbers == "whole" else given.numbers)

@@ -2,15 +2,17 @@
 from __future__ import annotations
 
 import threading
-from collections.abc import Sequence
-from functools import lru_cache
+from collections.abc import Iterable, Sequence
 from typing import Optional
 
 from ..locations import pointer
 from ..lookup import SchemaFile, walked
-from ..resources import Document, original_of
+from ..resources import Document, Target, expect, target
 from ..scanner import NotJson
 from .problems import SchemaPlace
+
+# How many places are kept.
+_MOST = 10_000
 
 
 class Places:
@@ -20,22 +22,31 @@ class Places:
         self._files = files
         self._documents: Optional[list[Document]] = None
         self._paths: dict[int, str] = {}
+        self._kept: dict[str, Optional[SchemaPlace]] = {}
         self._lock = threading.Lock()
-        self.find = lru_cache(maxsize=10_000)(self._find)
 
-    def _find(self, keyword_uri: str) -> Optional[SchemaPlace]:
-        """The place of a keyword with an absolute location; None if it is in none of the files."""
+    def of(self, keyword_uris: Iterable[str]) -> list[Optional[SchemaPlace]]:
+        """The places of keywords with these absolute locations; None for one that is in none of the files."""
+        wanted = [*keyword_uris]
         with self._lock:
-            if self._documents is None:
-                walks = [(file, walked(file)) for file in self._files]
-                self._paths = {id(document): file.path for file, document in walks if document is not None}
-                self._documents = [document for _, document in walks if document is not None]
-        found = original_of(keyword_uri, self._documents)
-        if found is None:
-            return None
-        document, keyword = found
+            if len(self._kept) > _MOST:
+                self._kept.clear()
+            self._keep({uri for uri in wanted if uri not in self._kept})
+            return [self._kept[uri] for uri in wanted]
+
+    def _keep(self, keyword_uris: set[str]) -> None:
+        """Looks for keywords, those of a document together."""
+        if keyword_uris and self._documents is None:
+            walks = [(file, walked(file)) for file in self._files]
+            self._paths = {id(document): file.path for file, document in walks if document is not None}
+            self._documents = [document for _, document in walks if document is not None]
+        found = {uri: target(uri, self._documents or ()) for uri in keyword_uris}
+        expect(found.values())
+        self._kept.update((uri, None if it is None else self._place(it)) for uri, it in found.items())
+
+    def _place(self, keyword: Target) -> Optional[SchemaPlace]:
         try:
-            where = document.source.name(pointer([*keyword.tokens])).begin
+            where = keyword.document.source.name(pointer([*keyword.tokens])).begin
         except (LookupError, NotJson):
             return None
-        return SchemaPlace(self._paths[id(document)], where)
+        return SchemaPlace(self._paths[id(keyword.document)], where)

@@ -9,12 +9,12 @@ from ..engine import Answer
 from ..errors import EngineError, Refused, ValidationError, best_first
 from ..extras import MissingLibrary
 from ..positions import Position, Text
-from ..schemas import Schemas, errors_of
-from ..sources import JsonSource, Range
+from ..schemas import Schemas
+from ..sources import Range
 from .inputs import Input
 from .jobs import side_by_side
 from .places import Places
-from .problems import ERROR, FAILED, REFUSED, WARNING, WHOLE, Problem
+from .problems import ERROR, FAILED, REFUSED, WARNING, WHOLE, Problem, SchemaPlace
 
 
 if TYPE_CHECKING:
@@ -86,7 +86,7 @@ class Checker:
             valid, text = self._schemas.is_valid(self._entry, given.source.json), b""
         if valid:
             return Result(given, Status.VALID, self._warnings(given) if wanted.formats else (), text)
-        tree = self._check(given, "detailed").text if wanted.tree else text
+        tree = self._schemas.tree_in(self._check(given, "detailed")) if wanted.tree else text
         return Result(given, Status.INVALID, () if wanted.output is not None else self._errors(given), tree)
 
     def _check(self, given: Input, format: str) -> Answer:
@@ -94,19 +94,19 @@ class Checker:
 
     def _errors(self, given: Input) -> list[Problem]:
         """The errors of an invalid instance, the best first."""
-        errors = errors_of(self._check(given, "basic"), self._read(given))
-        return [self._problem(given, error) for error in best_first(errors)]
+        errors = best_first(self._schemas.errors_in(self._check(given, "basic"), self._read(given)))
+        places = self._places.of(it.absolute_keyword_location for it in errors)
+        return [self._problem(given, error, place) for error, place in zip(errors, places)]
 
     def _read(self, given: Input) -> Text:
         """The JSON text of an instance, with the engine's positions."""
         read = self._schemas.text_of(given.source.json)
-        if isinstance(given.source, JsonSource):
-            given.source.trust(read)
+        given.source.trust(read)
         return read
 
-    def _problem(self, given: Input, error: ValidationError) -> Problem:
+    @staticmethod
+    def _problem(given: Input, error: ValidationError, place: Optional[SchemaPlace]) -> Problem:
         where = (given.source.name if error.is_about_name else given.source.value)(error.instance_location)
-        place = self._places.find(error.absolute_keyword_location)
         return Problem(ERROR, error.keyword, error.message, in_file(given, where), error.instance_location,
                        error.absolute_keyword_location, place, error)
 
@@ -115,9 +115,10 @@ class Checker:
         assert self._wanted.formats is not None
         found = self._wanted.formats.broken(self._check(given, "basic").text, given.source.json)
         self._read(given).expect(it.instance_location for it in found)
+        uris = [self._schemas.original_location(it.absolute_keyword_location) for it in found]
+        places = self._places.of(uris)
         return [Problem(WARNING, "format", it.message, in_file(given, given.source.value(it.instance_location)),
-                        it.instance_location, it.absolute_keyword_location,
-                        self._places.find(it.absolute_keyword_location)) for it in found]
+                        it.instance_location, uri, place) for it, uri, place in zip(found, uris, places)]
 
 
 def refusal(given: Input, refused: Refused) -> Result:

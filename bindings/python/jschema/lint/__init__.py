@@ -108,6 +108,7 @@ def _refusals(documents: Sequence[Document]) -> dict[int, Refused]:
 def _findings(given: Document, documents: Sequence[Document], refused: Optional[Refused]) -> list[Finding]:
     """What the rules find, in the order of the text."""
     found = list(_found(given, documents, refused is not None))
+    given.source.expect(pointer([*it.tokens]) for it in found)
     findings = [_finding(given, it) for it in found]
     if refused is not None and not _is_known(refused, found):
         message = f"{refused.meaning} ({refused.kind})"

@@ -5,11 +5,13 @@ from collections.abc import Iterable, Iterator
 from typing import Any, NamedTuple, Optional
 
 from ..locations import pointer, steps
+from ..resources import value_of
+from .client import Client
 from .completion import written
 from .diagnostics import Diagnostic, Missing
 from .documents import Document
 from .ranges import Span
-from .schemas import SchemaSet, value_of
+from .schemas import SchemaSet
 from .tree import Node
 from .workspace import Choice, Workspace
 
@@ -18,16 +20,6 @@ QUICK_FIX = "quickfix"
 _EMPTY = {"string": "", "integer": 0, "number": 0, "boolean": False, "array": [], "object": {}}
 # How many references lead from one to the next at most.
 _MOST_REFERENCES = 10
-
-
-class Client(NamedTuple):
-    """What the client can take."""
-
-    #: Actions with an edit; without it there are none.
-    has_literals: bool = False
-    #: Edits of a version of a document.
-    has_versions: bool = False
-    has_related: bool = False
 
 
 class Edit(NamedTuple):

@@ -7,13 +7,14 @@ import re
 from collections.abc import Iterator
 from typing import Any, NamedTuple, Optional
 
+from ..resources import value_of
 from .applied import applied, shallow
+from .client import Client
 from .context import Context, contexts
 from .documents import Document
 from .hover import shown
 from .keywords import names_of_keywords, values_of_keyword
 from .references import targets
-from .schemas import value_of
 from .workspace import Choice, Workspace
 
 #: The most items that are sent.
@@ -25,15 +26,6 @@ _OF_TYPES: dict[str, tuple[Any, ...]] = {"boolean": (True, False), "null": (None
 _DEPRECATED = 1
 # A scalar that YAML reads as the string that it looks like.
 _BARE = re.compile(r"(?!(?:null|Null|NULL|true|True|TRUE|false|False|FALSE)$)[A-Za-z_/$][\w./$-]*(?: [\w./$-]+)*")
-
-
-class Client(NamedTuple):
-    """What the client can show."""
-
-    is_markdown: bool = False
-    has_snippets: bool = False
-    has_related: bool = False
-    has_tree: bool = True
 
 
 class Suggestion(NamedTuple):

@@ -2,13 +2,13 @@
 validator refuses and what lint says."""
 from __future__ import annotations
 
-from collections.abc import Iterator
+from collections.abc import Iterator, Sequence
 from typing import Any, NamedTuple, Optional, Union
 
 from ..errors import Refused, ValidationError, best_first
 from ..lint import Finding, lint_all
 from ..locations import schema_steps
-from ..schemas import errors_of
+from ..resources import expect
 from .documents import Document
 from .ranges import Edit, Lines, Span
 from .schemas import SchemaSet
@@ -142,12 +142,13 @@ def _of_source(document: Document, number: int, choice: Choice) -> Iterator[Diag
         return
     if answer.valid:
         return
-    errors = best_first(errors_of(answer, schemas.text_of(source.json)))
-    for error in errors[:MOST]:
-        is_name = _is_of_name(error)
-        span = reading.place(source, error.instance_location, is_name)
-        missing = Missing(number, error.instance_location, error.absolute_keyword_location)
-        yield Diagnostic(span, ERROR, error.keyword, error.message, _related(choice.set, error),
+    errors = best_first(schemas.errors_in(answer, schemas.text_of(source.json)))
+    source.trust(schemas.text_of(source.json))
+    source.expect(it.instance_location for it in errors[:MOST])
+    for error, related in zip(errors, _related(choice.set, errors[:MOST])):
+        span = reading.place(source, error.instance_location, _is_of_name(error))
+        missing = Missing(number, error.instance_location, error.upgraded_location)
+        yield Diagnostic(span, ERROR, error.keyword, error.message, related,
                          missing if error.keyword == "required" else None)
     if len(errors) > MOST:
         yield Diagnostic(Span(0, 1), INFORMATION, "more", f"{len(errors) - MOST} more errors")
@@ -159,11 +160,13 @@ def _is_of_name(error: ValidationError) -> bool:
     return "propertyNames" in keywords or error.keyword in _NOT_ALLOWED
 
 
-def _related(found: SchemaSet, error: ValidationError) -> Optional[Related]:
-    """Where the keyword stands."""
-    target = found.find(error.absolute_keyword_location)
-    at = None if target is None else found.location(target)
-    return None if at is None else Related(at["uri"], at["range"], error.absolute_keyword_location)
+def _related(found: SchemaSet, errors: Sequence[ValidationError]) -> Iterator[Optional[Related]]:
+    """Where the keyword of each error stands."""
+    targets = [found.find(it.upgraded_location) for it in errors]
+    expect(targets)
+    for error, target in zip(errors, targets):
+        at = None if target is None else found.location(target)
+        yield None if at is None else Related(at["uri"], at["range"], error.absolute_keyword_location)
 
 
 def _of_lint(document: Document, finding: Finding) -> Diagnostic:

@@ -7,9 +7,9 @@ from typing import Any, Optional
 from ..errors import Refused
 from ..locations import schema_steps
 from ..outputs import parse
+from ..resources import value_of
 from .applied import applied
 from .documents import Document
-from .schemas import value_of
 from .tree import Node
 from .workspace import Choice, Workspace
 

@@ -1,12 +1,13 @@
 """The positions of LSP in a text: lines, and UTF-16 units in them, from 0."""
 from __future__ import annotations
 
-import itertools
 import os
 import re
 from bisect import bisect_right
 from typing import NamedTuple, Optional
 from urllib.parse import unquote, urlsplit
+
+from ..positions import starts_of
 
 _LINE_END = re.compile("\r\n|\n|\r")
 
@@ -79,8 +80,7 @@ class Lines:
             if "\r" in self.text:
                 self._starts = [0, *(found.end() for found in _LINE_END.finditer(self.text))]
             else:
-                lengths = (len(line) + 1 for line in self.text.split("\n")[:-1])
-                self._starts = [0, *itertools.accumulate(lengths)]
+                self._starts = starts_of(self.text.split("\n"))
         return self._starts
 
 

@@ -5,7 +5,7 @@ import json
 from typing import Any, NamedTuple, NoReturn, Optional
 
 from ..errors import Refused
-from ..positions import Text
+from ..positions import Text, starts_of
 from ..scanner import NotJson, scan
 from ..sources import Member, Source, Unreadable
 from ..sources import read as read_sources
@@ -36,10 +36,7 @@ class Characters:
         """The character at a byte."""
         if self._is_ascii:
             return offset
-        if not self._line_starts:
-            self._line_starts.append(0)
-            for line in self.text.split("\n"):
-                self._line_starts.append(self._line_starts[-1] + len(line) + 1)
+        self._line_starts = self._line_starts or starts_of(self.text.split("\n"))
         position = self._positions.at(offset)
         return self._line_starts[position.line - 1] + position.column - 1
 
@@ -56,21 +53,37 @@ class Reading:
     def __init__(self, text: str, kind: str, before: Optional[Reading] = None) -> None:
         self.characters = Characters(text)
         self.sources: list[Source] = []
-        #: The value of the first source.
-        self.value: Any = None
         self.fault: Optional[Fault] = None
+        # The value of the first source, once it is known.
+        self._value: Any = ...
         if not text.strip():
             return
         try:
             self.sources = self._again(before) or read_sources(self.characters.data, kind)
-            self.value = _value(self.sources[0].json)
+            if isinstance(self.sources[0], JsonSource):
+                # (So it shows whether it is JSON.)
+                self._value = _value(self.sources[0].json)
         except Unreadable as refused:
             self.fail(self.characters.span(*(it.offset for it in refused.range)), refused.meaning)
         except _Syntax as syntax:
             self.fail(self.characters.span(syntax.offset, syntax.offset), syntax.message)
         for source in self.sources:
-            if isinstance(source, JsonSource) and self.fault is None:
-                source.trust()
+            source.trust()
+
+    @property
+    def value(self) -> Any:
+        """The value of the first source; None without any."""
+        if self._value is ...:
+            self._value = _value(self.sources[0].json) if self.sources else None
+        return self._value
+
+    def member(self, name: str) -> Any:
+        """What a member of the first source is, if that is an object with such a scalar; else None."""
+        if not self.sources or isinstance(self.sources[0], JsonSource):
+            return self.value.get(name) if isinstance(self.value, dict) else None
+        found = self.sources[0].tree().child(name)
+        content = found.value.content if isinstance(found, Member) else None
+        return _value(content.encode()) if isinstance(content, str) else None
 
     def _again(self, before: Optional[Reading]) -> list[Source]:
         if before is None or len(before.sources) != 1:
@@ -96,11 +109,6 @@ class Reading:
 
     def refusal(self, source: Source, refused: Refused) -> Span:
         """Where a source is refused."""
-        if refused.kind == "NotJson" and isinstance(source, JsonSource):
-            try:
-                scan(source.json)
-            except NotJson as error:
-                return self.characters.span(error.offset, error.offset)
         if refused.place:
             try:
                 return self.place(source, refused.place)

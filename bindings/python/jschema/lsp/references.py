@@ -4,19 +4,15 @@ from __future__ import annotations
 import json
 from collections.abc import Iterator
 from typing import Any, NamedTuple
-from urllib.parse import quote, urldefrag
+from urllib.parse import urldefrag
 
 from .. import resources
-from ..locations import pointer
 from ..sources import read
-from ..uris import document_of
+from ..uris import document_of, fragment_of, with_pointer
 from .applied import whole
 from .context import Context
 from .documents import Document
 from .workspace import Workspace
-
-# What isn't escaped in a fragment.
-_SAFE = "/!$&'()*+,;=:@~"
 
 
 class Target(NamedTuple):
@@ -47,15 +43,15 @@ def targets(workspace: Workspace, document: Document, context: Context) -> Itera
 def _of_document(document: resources.Document, base: str) -> Iterator[Target]:
     for schema in document.schemas:
         root = document.targets.get(document_of(schema.base), ())
-        fragment = quote(pointer([*schema.tokens[len(root):]]), safe=_SAFE)
+        place = fragment_of(with_pointer(schema.base, schema.tokens[len(root):]))
         anchors = [schema.value[it] for it in resources.ANCHORS if isinstance(schema.value.get(it), str)]
-        for name in [fragment, *anchors]:
+        for name in [place, *anchors]:
             yield Target(_relative(schema.base, name, base), f"{urldefrag(schema.base).url}#{name}", schema.value)
 
 
-def _relative(resource: str, fragment: str, base: str) -> str:
+def _relative(resource: str, name: str, base: str) -> str:
     """A location as it is written where a base URI holds: as short as it can be read."""
-    mark = f"#{fragment}" if fragment else ""
+    mark = f"#{name}" if name else ""
     if document_of(resource) == document_of(base):
         return mark or "#"
     folder = base.rpartition("/")[0] + "/"

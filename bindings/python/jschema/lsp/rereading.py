@@ -7,8 +7,8 @@ from bisect import bisect_left
 from typing import Callable, NamedTuple, Optional
 
 from ..errors import Refused
+from ..limits import DEEPEST
 from ..positions import Text
-from ..scanner import DEEPEST
 from ..sources import Member, Node, Range, Source, Unreadable, read
 from ..sources.source import MarkedSource
 from ..sources.writing import written
@@ -108,7 +108,7 @@ def _places(data: bytes, root: Node, end: int) -> list[_Place]:
             children = [(it.begin, it.value) for it in node.content.values()]
         elif isinstance(node.content, list):
             children = [(it.begin, it) for it in node.content]
-        index = bisect_left(children, end, key=lambda it: it[0]) - 1
+        index = bisect_left([begin for begin, _ in children], end) - 1
         if index < 0:
             break
         following = children[index + 1][0] if index + 1 < len(children) else None
@@ -152,7 +152,8 @@ def _put_again(data: bytes, places: list[_Place], change: _Change, after: bytes)
             made = opened(frame.text + after[frame.line:], frame.moved(place.next + change.more))
         except Refused:
             return False
-        return made is not None and len(made) == count and \
+        # (What is around it has nothing else yet, unless it was closed and opened again.)
+        return made is not None and len(made) == count and not any(it.content for it in made[:-1]) and \
             _replaced(place, made[-1], -frame.moved(0), change.more) and _moved_above(places[:count - 1], change.more)
     return False
 
@@ -161,18 +162,17 @@ def _replaced(place: _Place, made: Node, moved: int, more: int) -> bool:
     """Puts members or items in place of one of a block, and moves those behind it; not if a name were there twice."""
     holder, number = place.holder, place.number
     if isinstance(holder.content, list) and isinstance(made.content, list):
-        _move(made, moved)
+        made.move(moved)
         for it in holder.content[number + 1:]:
-            _move(it, more)
-        holder.content[number:number + 1] = made.content
+            it.move(more)
+        holder.content = [*holder.content[:number], *made.content, *holder.content[number + 1:]]
     elif isinstance(holder.content, dict) and isinstance(made.content, dict):
         members = [*holder.content.items()]
         before, behind = members[:number], members[number + 1:]
         if not made.content.keys().isdisjoint(name for name, _ in [*before, *behind]):
             return False
-        _move(made, moved)
-        following: dict[str, Member] = dict(behind)
-        _move(Node(0, 0, following), more)
+        made.move(moved)
+        following = {name: it.moved(more) for name, it in behind}
         holder.content = {**dict(before), **made.content, **following}
     else:
         return False
@@ -184,15 +184,19 @@ def _moved_above(places: list[_Place], more: int) -> bool:
     """Moves the ends of blocks, and what stands in them behind their last members and items before a change."""
     for holder, number, _, _ in places:
         holder.end += more
-        content = holder.content
-        if isinstance(content, list):
-            for it in content[number + 1:]:
-                _move(it, more)
-        elif isinstance(content, dict):
-            for name, (begin, end, value) in [*content.items()][number + 1:]:
-                content[name] = Member(begin + more, end + more, value)
-                _move(value, more)
+        _move_behind(holder, number, more)
     return True
+
+
+def _move_behind(holder: Node, number: int, more: int) -> None:
+    """Moves the items or members that stand behind one of an array or object, whose text is another."""
+    content = holder.content
+    if isinstance(content, list):
+        for it in content[number + 1:]:
+            it.move(more)
+    elif isinstance(content, dict):
+        content.update((name, it.moved(more)) for name, it in [*content.items()][number + 1:])
+    holder.text = None
 
 
 def _change(before: bytes, after: bytes) -> _Change:
@@ -286,38 +290,11 @@ def _levels(node: Node) -> int:
 def _put(path: list[Node], made: Node, column: int, more: int) -> None:
     """Puts the new value of a block into the tree, and moves what stands behind it."""
     *above, block = path
-    _move(made, block.begin - column)
+    made.move(block.begin - column)
     end, block.end, block.content = block.end, made.end, made.content
     child = block
     for holder in reversed(above):
         holder.end = block.end if holder.end == end else holder.end + more
-        _move_after(holder, child, more)
+        number = next(at for at, (_, it) in enumerate(holder.children()) if it is child)
+        _move_behind(holder, number, more)
         child = holder
-
-
-def _move_after(holder: Node, child: Node, more: int) -> None:
-    """Moves the children of an array or object that stand behind one of them."""
-    if isinstance(holder.content, list):
-        index = next(at for at, it in enumerate(holder.content) if it is child)
-        for item in holder.content[index + 1:]:
-            _move(item, more)
-    elif isinstance(holder.content, dict):
-        for name, (begin, end, value) in [*holder.content.items()]:
-            if begin > child.begin:
-                holder.content[name] = Member(begin + more, end + more, value)
-                _move(value, more)
-
-
-def _move(root: Node, more: int) -> None:
-    waiting = [root]
-    while waiting:
-        node = waiting.pop()
-        node.begin += more
-        node.end += more
-        content = node.content
-        if isinstance(content, list):
-            waiting += content
-        elif isinstance(content, dict):
-            for name, (begin, end, value) in content.items():
-                content[name] = Member(begin + more, end + more, value)
-                waiting.append(value)

@@ -12,7 +12,7 @@ from ..errors import Refused
 from ..limits import LARGEST_TEXT
 from ..locations import pointer, steps
 from ..lookup import Lookup, SchemaFile, file_url, is_absolute, schema_file, schemas_in, walked
-from ..resources import Target
+from ..resources import Target, value_of
 from ..schemas import Schemas
 from ..sources import Source, kind_of
 from ..uris import document_of, fragment_of, joined
@@ -125,17 +125,6 @@ class SchemaSet:
     def is_complete(self) -> bool:
         """Whether all documents were found that it refers to."""
         return self.refused is None or self.refused.kind != "Unresolved"
-
-
-def value_of(target: Target) -> Any:
-    """The value at a place; None where there is nothing."""
-    value = target.document.value
-    try:
-        for token in target.tokens:
-            value = value[int(token)] if isinstance(value, list) else value[token]
-    except (LookupError, TypeError, ValueError):
-        return None
-    return value
 
 
 class Store:

@@ -10,7 +10,8 @@ from typing import Any, Callable, Optional
 from ..errors import EngineError
 from ..interface import VERSION
 from . import actions
-from .completion import Client, completion
+from .client import Client, client_of
+from .completion import completion
 from .definition import definition
 from .diagnostics import Diagnoses
 from .documents import Document
@@ -44,10 +45,9 @@ class Server:
         self._workspace = Workspace()
         self._diagnoses = Diagnoses(self._workspace)
         self._client = Client()
-        self._taker = actions.Client()
         # The settings that the client has sent without being asked.
         self._sent: Any = None
-        self._can_watch = self._can_register = self._can_ask = self._is_initialized = self._is_shut_down = False
+        self._is_initialized = self._is_shut_down = False
         # What is done with the answer to each request of the server, by its id.
         self._asked: dict[Id, Callable[[Any], None]] = {}
         # The documents whose diagnostics are to be made, by their URIs.
@@ -124,24 +124,11 @@ class Server:
             raise Failure(Code.INVALID_REQUEST, "initialize is the first request, and the only one of its kind")
         folders = params.get("workspaceFolders") or [{"uri": params.get("rootUri") or ""}]
         self._workspace.folder = path_of(folders[0]["uri"]) or params.get("rootPath") or self._workspace.folder
-        given = params.get("capabilities") or {}
-        text = given.get("textDocument") or {}
-        formats = _at(text, "hover", "contentFormat") or []
-        self._client = Client(is_markdown="markdown" in formats[:1],
-                              has_snippets=bool(_at(text, "completion", "completionItem", "snippetSupport")),
-                              has_related=bool(_at(text, "publishDiagnostics", "relatedInformation")),
-                              has_tree=bool(_at(text, "documentSymbol", "hierarchicalDocumentSymbolSupport")))
-        space = given.get("workspace") or {}
-        self._taker = actions.Client(has_literals=bool(_at(text, "codeAction", "codeActionLiteralSupport")),
-                                     has_versions=bool(_at(space, "workspaceEdit", "documentChanges")),
-                                     has_related=self._client.has_related)
-        self._can_watch = bool(_at(space, "didChangeWatchedFiles", "dynamicRegistration"))
-        self._can_register = bool(_at(space, "didChangeConfiguration", "dynamicRegistration"))
-        self._can_ask = bool(_at(space, "configuration"))
+        self._client = client_of(params.get("capabilities"))
         self._is_initialized = True
         self._sent = params.get("initializationOptions")
         self._configured(self._sent)
-        fixes = {"codeActionProvider": {"codeActionKinds": [actions.QUICK_FIX]}} if self._taker.has_literals else {}
+        fixes = {"codeActionProvider": {"codeActionKinds": [actions.QUICK_FIX]}} if self._client.has_actions else {}
         return {"capabilities": {**_CAPABILITIES, **fixes},
                 "serverInfo": {"name": "jschema-lsp", "version": VERSION}}
 
@@ -149,10 +136,10 @@ class Server:
 
     def _initialized(self, params: Message) -> None:
         wanted: list[Message] = []
-        if self._can_watch:
+        if self._client.can_watch:
             options = {"watchers": [{"globPattern": it} for it in _WATCHED]}
             wanted.append({"id": "files", "method": "workspace/didChangeWatchedFiles", "registerOptions": options})
-        if self._can_register:
+        if self._client.can_register:
             wanted.append({"id": "settings", "method": "workspace/didChangeConfiguration"})
         if wanted:
             self._connection.request("client/registerCapability", {"registrations": wanted})
@@ -160,7 +147,7 @@ class Server:
 
     def _ask_for_settings(self) -> None:
         """Asks for the settings below `jschema`, of clients that have an answer."""
-        if self._can_ask:
+        if self._client.can_ask:
             asked = self._connection.request("workspace/configuration", {"items": [{"section": "jschema"}]})
             self._asked[asked] = self._answered
 
@@ -247,12 +234,12 @@ class Server:
 
     def _actions(self, _: Id, document: Document, params: Message) -> Any:
         context = params.get("context") or {}
-        if not self._taker.has_literals or not actions.is_asked(context.get("only")):
+        if not self._client.has_actions or not actions.is_asked(context.get("only")):
             return []
         if document.uri in self._pending:
             self._diagnose(document)
         asked = Span(*(document.lines.offset(params["range"][it]) for it in ("start", "end")))
-        return actions.actions(self._workspace, document, self._diagnoses.last(document), asked, self._taker)
+        return actions.actions(self._workspace, document, self._diagnoses.last(document), asked, self._client)
 
     # ---- diagnostics
 
@@ -285,12 +272,6 @@ class Server:
         if message not in self._shown:
             self._shown.add(message)
             self._connection.notify("window/showMessage", {"type": kind, "message": message})
-
-
-def _at(value: Any, *names: str) -> Any:
-    for name in names:
-        value = value.get(name) if isinstance(value, dict) else None
-    return value
 
 
 _NOTIFICATIONS: dict[str, Callable[[Server, Message], None]] = {

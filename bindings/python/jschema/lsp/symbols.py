@@ -3,7 +3,7 @@ from __future__ import annotations
 
 from typing import Any, Callable
 
-from ..scanner import DEEPEST
+from ..limits import DEEPEST
 from .documents import Document
 from .tree import Node
 

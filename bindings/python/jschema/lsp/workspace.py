@@ -136,8 +136,7 @@ class Workspace:
 
 
 def _name_in(document: Document) -> Optional[str]:
-    value = document.reading().value
-    named = value.get("$schema") if isinstance(value, dict) else None
+    named = document.reading().member("$schema")
     if isinstance(named, str):
         return named
     found = _COMMENT.search(document.text) if document.kind in ("yaml", "toml") else None
@@ -147,7 +146,7 @@ def _name_in(document: Document) -> Optional[str]:
 def place_of_name(document: Document) -> Span:
     """Where a document names its schema."""
     reading = document.reading()
-    if isinstance(reading.value, dict) and "$schema" in reading.value:
+    if reading.member("$schema") is not None:
         return reading.place(reading.sources[0], "/$schema")
     found = _COMMENT.search(document.text)
     return Span(*found.span(1)) if found else Span(0, min(1, len(document.text)))

@@ -1,10 +1,10 @@
 """What all kinds of texts have in common, and the two that are JSON."""
 from __future__ import annotations
 
+from collections.abc import Iterable
 from typing import NamedTuple, Optional
 
 from ..errors import Refused
-from ..finder import end_of_string
 from ..positions import Position, Text
 from ..scanner import NotJson, scan
 from .tree import Member, Node, found
@@ -40,8 +40,17 @@ class Source:
         #: The text as it was written, in UTF-8.
         self.data = data
         self.json = json
-        #: The line at which it begins: more than 1 for a later document of a YAML file.
-        self.first_line = 1
+
+    @property
+    def first_line(self) -> int:
+        """The line at which it begins: more than 1 for a later document of a YAML file."""
+        return 1
+
+    def trust(self, read: Optional[Text] = None) -> None:
+        """Says that `json` has been read as JSON. `read` is its text with the validator's positions."""
+
+    def expect(self, pointers: Iterable[str]) -> None:
+        """Says which places will be asked for, so that they are found together."""
 
     def value(self, pointer: str) -> Range:
         """Where the value at a JSON Pointer stands. Raises `LookupError`, or `NotJson` for a text that isn't JSON."""
@@ -52,7 +61,7 @@ class Source:
         raise NotImplementedError
 
     def tree(self) -> Node:
-        """All values, with the bytes at which they stand. Raises `NotJson` for a text that isn't JSON."""
+        """All values, with the bytes at which they stand: of what isn't written in JSON."""
         raise NotImplementedError
 
     def at(self, offset: int) -> Position:
@@ -89,10 +98,11 @@ class JsonSource(Source):
         self._lines: Optional[Text] = None
 
     def trust(self, read: Optional[Text] = None) -> None:
-        """Says that the validator has read the text as JSON, so it isn't scanned again. `read` is the text of `json`
-        with the validator's positions."""
         self._is_json = True
         self._read = read
+
+    def expect(self, pointers: Iterable[str]) -> None:
+        self._text.expect(pointers)
 
     @property
     def _text(self) -> Text:
@@ -108,9 +118,6 @@ class JsonSource(Source):
         begin, end = self._text.name_span(pointer)
         return Range(self.at(begin), self.at(end))
 
-    def tree(self) -> Node:
-        return _tree(self.json)
-
     def at(self, offset: int) -> Position:
         if self._lines is None:
             # (Not that of `json`: it has a blank for each byte of a comment, whose characters may be fewer.)
@@ -118,8 +125,10 @@ class JsonSource(Source):
         return self._lines.at(offset)
 
     def _place(self, refused: Refused) -> Range:
-        if refused.kind != "NotJson":
-            self.trust()
+        if refused.kind == "NotJson":
+            # (Raises where it ceases to be JSON, which the library doesn't say.)
+            scan(self.json)
+        self.trust()
         if refused.place:
             return super()._place(refused)
         # (Of a document that is refused for its URI nobody has read more.)
@@ -133,7 +142,10 @@ class MarkedSource(Source):
     def __init__(self, kind: str, data: bytes, json: bytes, root: Node, lines: Text) -> None:
         super().__init__(kind, data, json)
         self._root, self._lines = root, lines
-        self.first_line = lines.at(root.begin).line
+
+    @property
+    def first_line(self) -> int:
+        return self._lines.at(self._root.begin).line
 
     def value(self, pointer: str) -> Range:
         at = found(self._root, pointer)
@@ -149,27 +161,3 @@ class MarkedSource(Source):
 
     def at(self, offset: int) -> Position:
         return self._lines.at(offset)
-
-
-def _tree(text: bytes) -> Node:
-    """The tree of a JSON text."""
-    root = scan(text)
-    made = Node(root.offset, root.end, "")
-    waiting = [(root, made)]
-    while waiting:
-        scanned, node = waiting.pop()
-        if scanned.children is None:
-            node.content = text[scanned.offset:scanned.end].decode()
-        elif isinstance(scanned.children, list):
-            items = [Node(child.offset, child.end, "") for child in scanned.children]
-            node.content = items
-            waiting += zip(scanned.children, items)
-        else:
-            members = {}
-            for name, child in scanned.children.items():
-                begin = child.name if child.name is not None else child.offset
-                value = Node(child.offset, child.end, "")
-                members[name] = Member(begin, end_of_string(text, begin), value)
-                waiting.append((child, value))
-            node.content = members
-    return made

@@ -3,7 +3,7 @@ from __future__ import annotations
 
 import re
 
-from ..scanner import DEEPEST
+from ..limits import DEEPEST
 
 Tokens = tuple[str, ...]
 Span = tuple[int, int]

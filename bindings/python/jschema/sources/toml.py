@@ -12,9 +12,9 @@ import sys
 from typing import Any, Union
 
 from ..extras import library
+from ..limits import DEEPEST
 from ..locations import pointer
 from ..positions import Text
-from ..scanner import DEEPEST
 from .source import MarkedSource, Range, Source, Unreadable
 from .tables import Places, TooDeep
 from .tree import Member, Node

@@ -6,30 +6,31 @@ import json
 from .tree import Node
 
 _written = json.JSONEncoder(ensure_ascii=False).encode
+# The longest text of an array or an object that is kept, so that it needn't be made again after a change elsewhere. It
+# is kept only in a longer one, so what is kept has no more characters than the whole text.
+_LONGEST = 4096
 
 
 def written(root: Node) -> bytes:
     """The JSON text of a tree. (What nests deeper than the validator takes was refused before.)"""
-    parts: list[str] = []
-    _write(root, parts)
-    return "".join(parts).encode()
+    return _text(root).encode()
 
 
-def _write(node: Node, parts: list[str]) -> None:
+def _text(node: Node) -> str:
+    if node.text is not None:
+        return node.text
     content = node.content
     if isinstance(content, str):
-        parts.append(content)
-    elif isinstance(content, list):
-        parts.append("[")
-        for index, item in enumerate(content):
-            if index:
-                parts.append(",")
-            _write(item, parts)
-        parts.append("]")
+        return content
+    if isinstance(content, list):
+        children = content
+        texts = [*map(_text, children)]
+        made = f"[{','.join(texts)}]"
     else:
-        separator = "{"
-        for name, member in content.items():
-            parts.append(f"{separator}{_written(name)}:")
-            _write(member.value, parts)
-            separator = ","
-        parts.append("}" if content else "{}")
+        children = [member.value for member in content.values()]
+        texts = [*map(_text, children)]
+        made = f"{{{','.join(f'{_written(name)}:{text}' for name, text in zip(content, texts))}}}"
+    if len(made) > _LONGEST:
+        for child, text in zip(children, texts):
+            child.text = text if len(text) <= _LONGEST else None
+    return made

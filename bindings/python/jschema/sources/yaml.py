@@ -10,9 +10,8 @@ from collections.abc import Iterator
 from typing import Any, NamedTuple, Optional
 
 from ..extras import library
-from ..limits import LARGEST_TEXT
+from ..limits import DEEPEST, LARGEST_TEXT
 from ..positions import Text
-from ..scanner import DEEPEST
 from .core import NotCore, scalar, string
 from .source import MarkedSource, Range, Source, Unreadable
 from .tree import Member, Node

@@ -18,8 +18,9 @@ class DetailedError(ValidationError):
     """An error of an instance, with those that led to it. The message is in the words of pip's `jsonschema`."""
 
     def __init__(self, message: str, instance_location: str, keyword_location: str,
-                 absolute_keyword_location: str, text: Text) -> None:
-        super().__init__(message, instance_location, keyword_location, absolute_keyword_location, text)
+                 absolute_keyword_location: str, text: Text, upgraded_location: Optional[str] = None) -> None:
+        super().__init__(message, instance_location, keyword_location, absolute_keyword_location, text,
+                         upgraded_location)
         #: The keyword; None for a schema `false`.
         self.validator: Optional[str] = None
         #: The keyword's value, and the schema that has it.

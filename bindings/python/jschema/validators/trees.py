@@ -11,7 +11,7 @@ from typing import Any, Callable, Optional, Union
 from ..locations import schema_steps, steps
 from ..originals import own_dialect, upgraded_value
 from ..positions import Text
-from ..resources import Document, original_of
+from ..resources import Document, Target, original_location, original_of, value_of
 from . import messages
 from .errors import DetailedError, Path
 
@@ -62,7 +62,9 @@ class Reading:
 
     def _error(self, node: Node, parent: Optional[DetailedError]) -> DetailedError:
         location, keyword_location = node["instanceLocation"], node["keywordLocation"]
-        error = DetailedError(node["error"], location, keyword_location, node["absoluteKeywordLocation"], self._text)
+        upgraded = node["absoluteKeywordLocation"]
+        error = DetailedError(node["error"], location, keyword_location, original_location(upgraded, self._documents),
+                              self._text, upgraded)
         error.parent = parent
         path = _path(self._instance, location)
         error.instance = _at(self._instance, path)
@@ -90,14 +92,20 @@ class Reading:
 
     def _set_keyword(self, error: DetailedError) -> None:
         """Sets the keyword, its value, and its schema."""
-        found = original_of(error.absolute_keyword_location, self._documents)
+        found = original_of(error.upgraded_location, self._documents)
         last = schema_steps(error.keyword_location)[-1:]
         is_keyword = bool(last) and last[0].is_keyword
         if found is not None and found[1].value is False and not (is_keyword and last[0].token in _EXTRAS):
             error.schema = False
             return
         error.validator = error.keyword
-        above = original_of(_above(error.absolute_keyword_location), self._documents)
+        if found is not None and error.keyword == "not" and found[1].tokens[-1:] == ("contains",):
+            # (So `contains` of 2019-09 is upgraded.)
+            document, keyword = found
+            error.validator, error.validator_value = "contains", keyword.value
+            error.schema = value_of(Target(document, keyword.tokens[:-1]))
+            return
+        above = original_of(_above(error.upgraded_location), self._documents)
         if above is not None:
             schema, dialect = above[1].value, above[1].dialect
             # (In draft-03 the name of a type may stand in place of a schema.)
@@ -107,7 +115,7 @@ class Reading:
     def _held(self, error: DetailedError) -> list[Any]:
         """The subschemas of a `oneOf` that hold."""
         return [it for index, it in enumerate(error.validator_value)
-                if self._holds(f"{error.absolute_keyword_location}/{index}", error.instance)]
+                if self._holds(f"{error.upgraded_location}/{index}", error.instance)]
 
     def _extras(self, child: Node, node: Optional[Node]) -> Optional[list[Node]]:
         """The nodes of the members or items that there may not be, of which a node is one; None if it is none."""

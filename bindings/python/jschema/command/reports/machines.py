@@ -86,13 +86,21 @@ def _error(problem: Problem) -> dict[str, Any]:
     return {**_place(problem), "endLine": problem.range.end.line, "endColumn": problem.range.end.column,
             "error": problem.message, "instanceLocation": problem.pointer,
             "keywordLocation": problem.error.keyword_location, "absoluteKeywordLocation": problem.keyword_uri,
-            **_schema(problem)}
+            **upgraded(problem), **_schema(problem)}
 
 
 def _warning(problem: Problem) -> dict[str, Any]:
     return {**_place(problem), "endLine": problem.range.end.line, "endColumn": problem.range.end.column,
             "warning": problem.message, "instanceLocation": problem.pointer,
             "absoluteKeywordLocation": problem.keyword_uri, **_schema(problem)}
+
+
+def upgraded(problem: Problem) -> dict[str, str]:
+    """Where the keyword of an error stands in an upgraded schema, if that is another place."""
+    error = problem.error
+    if error is None or error.upgraded_location == error.absolute_keyword_location:
+        return {}
+    return {"upgradedLocation": error.upgraded_location}
 
 
 def _schema(problem: Problem) -> dict[str, Any]:

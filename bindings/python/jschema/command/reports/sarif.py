@@ -12,6 +12,7 @@ from ...lookup import file_url
 from ..problems import FAILED, NOTE, REFUSED, WARNING, Problem
 from ..results import Result, Status
 from .base import Report, complain
+from .machines import upgraded
 
 _SCHEMA = "https://docs.oasis-open.org/sarif/sarif/v2.1.0/errata01/os/schemas/sarif-schema-2.1.0.json"
 _BEGIN = '{"$schema":%s,"version":"2.1.0","runs":[{"columnKind":"unicodeCodePoints","results":['
@@ -66,7 +67,7 @@ class SarifReport(Report):
                                      "region": {"startLine": begin.line, "startColumn": begin.column}}}]
         if problem.error is not None:
             found["properties"] = {"keywordLocation": problem.error.keyword_location,
-                                   "absoluteKeywordLocation": problem.keyword_uri}
+                                   "absoluteKeywordLocation": problem.keyword_uri, **upgraded(problem)}
         return found
 
 

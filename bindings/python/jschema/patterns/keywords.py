@@ -1,0 +1,94 @@
+"""The keywords of a schema that have patterns, with these as `regex` reads them."""
+from __future__ import annotations
+
+from collections.abc import Callable, Iterator
+from typing import Any, Optional
+
+from ..changes import Change
+from . import Combination, Every, Plain, read, read_single, schema_of, text_of
+from .matching import matches
+from .pushing import NotExact
+
+_FOUR, _SIX = 1, 2
+# What the validator says of them.
+NO_MATCH, FALSE_SCHEMA = "no match", "false schema"
+
+
+def rewrite_pattern(schema: dict[str, Any], dialect: int) -> Iterator[Change]:
+    """Rewrites `pattern`: into another, and where that isn't enough what stands beside it in `allOf`."""
+    pattern = schema.get("pattern")
+    found = read(pattern) if isinstance(pattern, str) else None
+    if isinstance(found, Plain):
+        schema["pattern"] = text_of(found)
+        yield Change(("pattern",), ("pattern",))
+    if found is None or isinstance(found, Plain) or not _has_conditions(schema, dialect):
+        return
+    conditions = [*found.of] if isinstance(found, Every) else [found]
+    last = conditions[-1]
+    if isinstance(last, Plain):
+        schema["pattern"] = text_of(last)
+        del conditions[-1]
+    else:
+        del schema["pattern"]
+    for it in conditions:
+        yield _with_condition(schema, schema_of(it), ("pattern",), NO_MATCH)
+
+
+def rewrite_names(schema: dict[str, Any], dialect: int, free: Callable[[str, str], str]) -> Iterator[Change]:
+    """Rewrites the names in `patternProperties`. `free` makes of a name and a pattern one unlike all other names."""
+    named = schema.get("patternProperties")
+    if not isinstance(named, dict):
+        return
+    plain: dict[str, Plain] = {}
+    for name in named:
+        found = _read_name(name)
+        if isinstance(found, Plain):
+            plain[name] = found
+        elif isinstance(found, Every) and isinstance(found.of[-1], Plain) and _is_closed(schema, dialect, found):
+            # (Every other name is refused, so it is enough to refuse these.)
+            plain[name] = found.of[-1]
+            yield _with_condition(schema, _names_allowed(schema, found), ("additionalProperties",), FALSE_SCHEMA)
+    schema["patternProperties"] = {}
+    # (In their order, as the author has them.)
+    for name, value in named.items():
+        made = free(name, text_of(plain[name])) if name in plain else name
+        schema["patternProperties"][made] = value
+        if made != name:
+            yield Change(("patternProperties", name), ("patternProperties", made))
+
+
+def _read_name(name: str) -> Optional[Combination]:
+    found = read(name)
+    return found if found is None or isinstance(found, Plain) else read_single(name) or found
+
+
+def _is_closed(schema: dict[str, Any], dialect: int, wanted: Every) -> bool:
+    """Whether the one pattern's names, and those in `properties`, are all that there may be; and the weaker pattern
+    matches none of the latter that the whole doesn't."""
+    if dialect < _SIX or not _has_conditions(schema, dialect) or len(schema["patternProperties"]) != 1:
+        return False
+    if schema.get("additionalProperties") is not False or not isinstance(schema.get("properties", {}), dict):
+        return False
+    try:
+        return not any(matches(wanted.of[-1], name) and not matches(wanted, name)
+                       for name in schema.get("properties", ()))
+    except NotExact:
+        return False
+
+
+def _names_allowed(schema: dict[str, Any], wanted: Combination) -> dict[str, Any]:
+    listed = [*schema.get("properties", ())]
+    allowed = schema_of(wanted)
+    return {"propertyNames": {"anyOf": [{"enum": listed}, allowed]} if listed else allowed}
+
+
+def _has_conditions(schema: dict[str, Any], dialect: int) -> bool:
+    """Whether a schema can have conditions in `allOf`."""
+    return dialect >= _FOUR and isinstance(schema.get("allOf", []), list)
+
+
+def _with_condition(schema: dict[str, Any], condition: dict[str, Any], before: tuple[str, ...],
+                    message: str) -> Change:
+    """Adds a condition to `allOf`, for a keyword. (At its end, so that the others keep their places.)"""
+    schema["allOf"] = [*schema.get("allOf", ()), condition]
+    return Change(before, ("allOf", str(len(schema["allOf"]) - 1)), message)

@@ -1,0 +1,217 @@
+"""Schema documents as people write them, rewritten before the validator gets them: patterns of ECMA-262 in the syntax
+of the crate `regex`, numbers with fractions as integers. That they say the same then is tested, and not proved.
+
+What can't be rewritten exactly is left as it is, and refused as it is without this.
+"""
+from __future__ import annotations
+
+import json
+import re
+from collections.abc import Sequence
+from typing import Any, NamedTuple, Optional, Union
+
+from .changes import Change
+from .limits import LARGEST_TEXT
+from .numbers import Number, exact_text, exact_value, number, without_floats, written
+from .numbers_keywords import exact, texts
+from .resources import Document, Schema, document_with, target
+from .restoring import Place, Restoring
+from .sources import JsonSource
+from .uris import fragment_of, joined, with_pointer
+from .values import GREATEST, LEAST, text_of
+
+PATTERNS, NUMBERS = ("ecma",), ("exact", "texts")
+
+# What a document has that may change.
+_PATTERN = re.compile(rb"pattern|\\u00")
+_NUMBER = re.compile(rb"[0-9][.eE]|-0|[0-9]{19}")
+_NAMES = "patternProperties"
+# The drafts in which `1.0` is no integer, where one has a `$schema`.
+_SIX = 2
+_STRICT = re.compile(rb"json-schema\.org\\?/draft-0[34]")
+_Tokens = tuple[str, ...]
+
+
+class Rewritten(NamedTuple):
+    """A document with its schemas, whose value is rewritten, and what became of keywords in each schema."""
+
+    document: Document
+    #: Whether it has a number that is written otherwise now.
+    has_numbers: bool
+    changes: list[tuple[_Tokens, Change]]
+    #: What a name in `patternProperties` became, by the tokens that it had.
+    names: dict[_Tokens, str]
+
+    def now(self, tokens: _Tokens) -> _Tokens:
+        """The tokens that something has now."""
+        return tuple(self.names.get(tokens[:index + 1], it) for index, it in enumerate(tokens))
+
+    def places(self) -> dict[_Tokens, Place]:
+        """What became of other keywords and names, or has another message, by the tokens now."""
+        return {self.now(schema) + it.now: Place((*schema, *it.before), it, it.before[:1] == (_NAMES,))
+                for schema, it in self.changes if it.before != it.now or it.message is not None}
+
+
+class Rewriting:
+    """What is rewritten, and the documents that were. Raises `ValueError` for what isn't one of the options.
+
+    `patterns` is `ecma` or None, `numbers` is `exact`, `texts` (where fractions in annotations become texts) or None.
+    """
+
+    def __init__(self, patterns: Optional[str], numbers: Optional[str]) -> None:
+        for name, given, known in (("patterns", patterns, PATTERNS), ("numbers", numbers, NUMBERS)):
+            if given is not None and given not in known:
+                raise ValueError(f"{name}={given!r}: it is one of {', '.join(known)}, or None")
+        self._patterns, self.numbers = patterns is not None, numbers is not None
+        self._has_texts = numbers == "texts"
+        # Whether a document of such a draft asks for integers.
+        self._is_strict = False
+        # What names became, and all that are taken.
+        self._names: dict[str, str] = {}
+        self._taken: set[str] = set()
+        # The entry that was looked up last.
+        self._entries: dict[str, str] = {}
+        #: The documents that may have changed, by their numbers.
+        self.documents: dict[int, Rewritten] = {}
+        #: What leads from what they are now to what they were.
+        self.restoring = Restoring({}, {})
+
+    def texts(self, given: Sequence[tuple[str, bytes]], assumed: int) -> list[tuple[str, bytes]]:
+        """The documents, rewritten. One that names no dialect is of the one that is assumed."""
+        self._is_strict = any(b"integer" in text and (
+            _STRICT.search(text) or assumed < _SIX and b"$schema" not in text) for _, text in given)
+        self.documents = {index: it for index, (uri, text) in enumerate(given)
+                          if (it := self._read(uri, text, assumed)) is not None}
+        for it in self.documents.values():
+            self._taken.update(*(schema.value[_NAMES] for schema in it.document.schemas
+                                 if isinstance(schema.value.get(_NAMES), dict)))
+        for it in self.documents.values():
+            self._rewrite(it)
+        for it in self.documents.values():
+            self._refer(it)
+        made = [(uri, self._text(index, text)) for index, (uri, text) in enumerate(given)]
+        self.restoring = Restoring(self.documents, {now: name for name, now in self._names.items()})
+        return made
+
+    def instance(self, text: bytes) -> bytes:
+        """The text of an instance, as the validator gets it."""
+        return exact_text(text, not self._is_strict) if self.numbers else text
+
+    def value(self, value: Any) -> Any:
+        """An instance that is no text yet."""
+        is_text = isinstance(value, (bytes, bytearray, memoryview, str))
+        return value if is_text or not self.numbers or self._is_strict else exact_value(value)
+
+    def document(self, value: Any) -> Any:
+        """A document that is no text yet, as a text where it has fractions. Raises what `text_of` does."""
+        if not self.numbers or not isinstance(value, dict):
+            return value
+        checked = without_floats(value)
+        text_of(checked)
+        try:
+            return json.dumps(value, allow_nan=False)
+        except ValueError:
+            return value
+
+    def entry(self, uri: str) -> str:
+        """The URI that an entry has now."""
+        if not self._names or _NAMES not in uri:
+            return uri
+        known = self._entries
+        if uri not in known:
+            self._entries = known = {uri: self.restoring.renamed(uri, self._names)}
+        return known[uri]
+
+    def _read(self, uri: str, text: bytes, assumed: int) -> Optional[Rewritten]:
+        """A document that may change. None for one that can't be read: the validator says why."""
+        if len(text) > LARGEST_TEXT or not (self._patterns and _PATTERN.search(text)
+                                            or self.numbers and _NUMBER.search(text)):
+            return None
+        odd: list[str] = []
+
+        def exactly(digits: str) -> Union[int, Number]:
+            if not _is_taken(digits):
+                odd.append(digits)
+            return number(digits)
+
+        whole = exactly if self.numbers else _within
+        try:
+            value = json.loads(text.decode(), parse_int=whole, parse_float=whole, parse_constant=_no_constant)
+            document = document_with(uri, JsonSource("json", text, text), value, assumed)
+        except (ValueError, RecursionError):
+            return None
+        return Rewritten(document, bool(odd), [], {})
+
+    def _rewrite(self, made: Rewritten) -> None:
+        # (Imported where it is needed, so that a validation starts sooner.)
+        from .patterns.keywords import rewrite_names, rewrite_pattern
+        for schema in reversed(made.document.schemas):
+            dialect = made.document.dialect_of(schema.tokens)
+            if self.numbers:
+                made.changes.extend((schema.tokens, it) for it in exact(schema.value, dialect))
+                if self._has_texts:
+                    texts(schema.value, dialect)
+            if self._patterns:
+                made.changes.extend((schema.tokens, it) for it in rewrite_pattern(schema.value, dialect))
+                for it in rewrite_names(schema.value, dialect, self._free):
+                    made.changes.append((schema.tokens, it))
+                    if it.before[0] == _NAMES:
+                        made.names[(*schema.tokens, *it.before)] = it.now[1]
+
+    def _free(self, name: str, text: str) -> str:
+        """The name that a name becomes: each one another, and none that was there."""
+        if name == text:
+            return name
+        if name not in self._names:
+            while text in self._taken:
+                text += "(?:)"
+            self._taken.add(text)
+            self._names[name] = text
+        return self._names[name]
+
+    def _refer(self, made: Rewritten) -> None:
+        """Rewrites the references that lead through names that are others now."""
+        for schema in made.document.schemas if self._names else ():
+            for keyword, reference in [*schema.references()]:
+                referred = self._referred(reference, joined(schema.base, reference))
+                if referred != reference:
+                    schema.value[keyword] = referred
+                    made.changes.append((schema.tokens, Change((keyword,), (keyword,))))
+
+    def _referred(self, reference: str, uri: str) -> str:
+        """A reference to what has this URI."""
+        fragment = fragment_of(uri)
+        found = target(uri, [it.document for it in self.documents.values()]) if _NAMES in fragment else None
+        if found is None or not fragment.startswith("/"):
+            return reference
+        made = next(it for it in self.documents.values() if it.document is found.document).now(found.tokens)
+        if made == found.tokens:
+            return reference
+        length = fragment.count("/")
+        return with_pointer(reference, made[len(made) - length:])
+
+    def _text(self, index: int, text: bytes) -> bytes:
+        made = self.documents.get(index)
+        if made is None or not made.has_numbers and not made.changes:
+            return text
+        try:
+            return json.dumps(written(made.document.value), ensure_ascii=False, separators=(",", ":")).encode()
+        except UnicodeEncodeError:
+            # (A lone surrogate is refused.)
+            return text
+
+
+def _is_taken(digits: str) -> bool:
+    """Whether the validator takes a number as it is written."""
+    return digits.lstrip("-").isdigit() and digits != "-0" and len(digits) < 21 and LEAST <= int(digits) <= GREATEST
+
+
+def _within(digits: str) -> int:
+    """An integer as the validator takes it."""
+    if not _is_taken(digits):
+        raise ValueError(f"{digits} is no integer in the range")
+    return int(digits)
+
+
+def _no_constant(name: str) -> float:
+    raise ValueError(f"JSON has no {name}")
