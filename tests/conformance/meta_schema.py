@@ -6,7 +6,7 @@ from pathlib import Path
 
 from judging import Judged
 from program import Outcome, Program, ProgramFailed, read_json, refusal
-from suite import DRAFT, META_SCHEMA, META_SCHEMAS, REMOTES, Suite, json_files, needed
+from suite import CURRENT, META_SCHEMA, REMOTES, Suite, json_files, needed
 from tests.reference.jschema import answer as reference
 from tests.reference.jschema import finished
 from tests.reference.json_text import NotJson, NotWhole, read
@@ -93,7 +93,7 @@ def schemas_of(suite: Suite, more):
         for g, group in enumerate(read_json(os.path.join(suite.tests(), name))):
             yield f"{name} {g}: {group['description']}", group["schema"]
     for uri, path in suite.documents.items():
-        if uri.startswith((f"{REMOTES}{DRAFT}/", META_SCHEMAS)):
+        if uri.startswith((f"{REMOTES}{CURRENT.folder}/", CURRENT.uris)):
             yield uri, read_json(path)
     for name in schema_files(more) if more else []:
         yield from readable(name, os.path.join(more, name))

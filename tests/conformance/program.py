@@ -8,8 +8,10 @@ import subprocess
 from dataclasses import dataclass
 
 HOME = os.path.join(os.path.dirname(os.path.abspath(__file__)), "..", "..")
-# ./jschema copies the first to the second.
+# ./jschema copies the first to the second, and ./jschema-upgrade likewise.
 BUILDS = [os.path.join(HOME, "crates", "js_cli", "out", "js_cli"), os.path.join(HOME, "out", "jschema")]
+UPGRADES = [os.path.join(HOME, "crates", "js_upgrade_cli", "out", "js_upgrade_cli"),
+            os.path.join(HOME, "out", "jschema-upgrade")]
 LINE = re.compile(r"(pass|fail|skip) (\d+)\.(\d+) ")
 REFUSED = re.compile(r"refused: (document (\d+)|entry|input|instance|suite|walk)\b.*: (\w+)\n", re.S)
 SECONDS = 600
@@ -30,9 +32,9 @@ class Outcome:
     detail: str = ""
 
 
-def default_program():
+def default_program(builds=BUILDS):
     """The program as the gate, or `./jschema`, built it; none where it isn't built."""
-    return next((os.path.normpath(it) for it in BUILDS if os.path.isfile(it)), None)
+    return next((os.path.normpath(it) for it in builds if os.path.isfile(it)), None)
 
 
 def parse_json(text):
@@ -60,6 +62,7 @@ class Program:
 
     def __init__(self, path, folder, seconds=SECONDS):
         self.path, self.folder, self.seconds, self.numbers = os.path.abspath(path), folder, seconds, itertools.count()
+        self.name = os.path.basename(path)
         if not (os.path.isfile(path) and os.access(path, os.X_OK)):
             raise ProgramFailed(f"no program at {path}")
 
@@ -69,9 +72,9 @@ class Program:
             done = subprocess.run([self.path, *words], capture_output=True, text=True, encoding="utf-8",
                                   timeout=self.seconds)
         except subprocess.TimeoutExpired as error:
-            raise ProgramFailed(f"{words[0]}: no end after {self.seconds:g} s") from error
+            raise ProgramFailed(f"{self.name} {words[0]}: no end after {self.seconds:g} s") from error
         if done.returncode not in (0, 1, 3):
-            raise ProgramFailed(f"{words[0]} ended with {done.returncode}: {done.stderr.strip()}")
+            raise ProgramFailed(f"{self.name} {words[0]} ended with {done.returncode}: {done.stderr.strip()}")
         return done
 
     def file(self, value):

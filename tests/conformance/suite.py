@@ -1,4 +1,5 @@
 """A checkout of the JSON Schema Test Suite: its files, its remotes, and which documents a schema refers to."""
+import dataclasses
 import datetime
 import functools
 import glob
@@ -9,11 +10,32 @@ from urllib.parse import urldefrag, urljoin
 
 from program import read_json
 
-DRAFT = "draft2020-12"
 # The suite's readme asks for its remotes under this URI.
 REMOTES = "http://localhost:1234/"
+REFERENCES = ("$ref", "$dynamicRef", "$recursiveRef")
 META_SCHEMA = "https://json-schema.org/draft/2020-12/schema"
-META_SCHEMAS = META_SCHEMA.removesuffix("schema")
+
+
+@dataclasses.dataclass(frozen=True)
+class Draft:
+    """A draft: its folder in the suite, its keyword for identifiers, and the folder of its meta-schema in pip's package
+    with what the URIs of its documents begin with. `dialect` is its name for jschema-upgrade; 2020-12 has none."""
+
+    folder: str
+    identifier: str
+    package: str
+    uris: str
+    dialect: str | None = None
+
+
+CURRENT = Draft("draft2020-12", "$id", "draft202012", META_SCHEMA.removesuffix("schema"))
+OLDER = {it.folder: it for it in (
+    Draft("draft3", "id", "draft3", "http://json-schema.org/draft-03/", "draft-03"),
+    Draft("draft4", "id", "draft4", "http://json-schema.org/draft-04/", "draft-04"),
+    Draft("draft6", "$id", "draft6", "http://json-schema.org/draft-06/", "draft-06"),
+    Draft("draft7", "$id", "draft7", "http://json-schema.org/draft-07/", "draft-07"),
+    Draft("draft2019-09", "$id", "draft201909", "https://json-schema.org/draft/2019-09/", "2019-09"),
+)}
 
 
 def json_files(folder):
@@ -25,8 +47,8 @@ def json_files(folder):
 class Suite:
     """A folder with `tests`, `remotes` and, for the output tests, `output-tests`."""
 
-    def __init__(self, folder, meta_schemas):
-        self.folder = folder
+    def __init__(self, folder, meta_schemas, draft=CURRENT):
+        self.folder, self.draft = folder, draft
         remotes = os.path.join(folder, "remotes")
         self.documents = {REMOTES + it.replace(os.sep, "/"): os.path.join(remotes, it) for it in json_files(remotes)}
         self.documents |= meta_schemas
@@ -40,10 +62,10 @@ class Suite:
         return json_files(os.path.join(self.outputs(), "content"))
 
     def tests(self):
-        return os.path.join(self.folder, "tests", DRAFT)
+        return os.path.join(self.folder, "tests", self.draft.folder)
 
     def outputs(self):
-        return os.path.join(self.folder, "output-tests", DRAFT)
+        return os.path.join(self.folder, "output-tests", self.draft.folder)
 
     def version(self):
         """The commit of the suite with its date, as git knows it; of Debian's package, the commit that it notes, and
@@ -58,16 +80,16 @@ class Suite:
             return subprocess.run(asked, capture_output=True, text=True).stdout.strip() or "unknown"
 
 
-def find_meta_schemas(folder=None):
-    """The documents of the meta-schema of 2020-12 by their URIs: a folder's, or pip's `jsonschema_specifications`."""
+def find_meta_schemas(folder=None, draft=CURRENT):
+    """The documents of a draft's meta-schema by their URIs: a folder's, or pip's `jsonschema_specifications`."""
     if folder is None:
         package = importlib.util.find_spec("jsonschema_specifications")
         if package is None:
             return {}
-        folder = os.path.join(os.path.dirname(package.origin), "schemas", "draft202012")
+        folder = os.path.join(os.path.dirname(package.origin), "schemas", draft.package)
     files = [os.path.join(top, name) for top, _, names in os.walk(folder) for name in sorted(names)]
-    by_uri = {read_json(it)["$id"]: it for it in files}
-    return {uri: by_uri[uri] for uri in sorted(by_uri) if uri.startswith(META_SCHEMAS)}
+    by_uri = {urldefrag(read_json(it).get(draft.identifier, "")).url: it for it in files}
+    return {uri: by_uri[uri] for uri in sorted(by_uri) if uri.startswith(draft.uris)}
 
 
 @functools.cache
@@ -84,25 +106,35 @@ def joined(base, reference):
         return base
 
 
+def own_identifiers(schema):
+    """What the members `$id` and `id` of a schema hold, where they hold a text. (Which of the two is a keyword depends
+    on the draft.)"""
+    return [schema[name] for name in ("$id", "id") if isinstance(schema.get(name), str)]
+
+
 def references(value, base):
-    """The URIs, without fragments, that references anywhere in a value make; some may stand where no schema does."""
+    """The URIs, without fragments, that references anywhere in a value make; some may stand where no schema does, and
+    with some an identifier doesn't count."""
     if isinstance(value, dict):
-        if isinstance(value.get("$id"), str):
-            base = joined(base, value["$id"])
-        for name, below in value.items():
-            if name in ("$ref", "$dynamicRef") and isinstance(below, str):
-                yield joined(base, below)
-            yield from references(below, base)
+        for below in {base, *(joined(base, it) for it in own_identifiers(value))}:
+            yield from references_in(value, below)
     elif isinstance(value, list):
         for below in value:
             yield from references(below, base)
 
 
+def references_in(schema, base):
+    """The same for an object and its base."""
+    for name, below in schema.items():
+        if name in REFERENCES and isinstance(below, str):
+            yield joined(base, below)
+        yield from references(below, base)
+
+
 def identifiers(value):
-    """Each `$id` anywhere in a value."""
+    """Each identifier anywhere in a value."""
     if isinstance(value, dict):
-        if isinstance(value.get("$id"), str):
-            yield value["$id"]
+        yield from own_identifiers(value)
         for below in value.values():
             yield from identifiers(below)
     elif isinstance(value, list):
