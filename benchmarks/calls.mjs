@@ -40,7 +40,8 @@ async function outputIn(format) {
 function ajvFunction() {
   const Ajv = createRequire(import.meta.url)("ajv");
   const ajv = new Ajv({ unknownFormats: "ignore", logger: false });
-  for (const [uri, text] of Object.entries(olderDocuments)) ajv.addSchema(JSON.parse(text), uri);
+  // ajv resolves a reference against the `$id` alone, not against the URI under which a schema is added.
+  for (const [uri, text] of Object.entries(olderDocuments)) ajv.addSchema({ $id: uri, ...JSON.parse(text) }, uri);
   return ajv.getSchema(entry);
 }
 

@@ -18,7 +18,8 @@ def page(tools, missing, results, given):
 def heading(results, given):
     """When and where was measured, and by which command."""
     names = " ".join(f"--only {it}" for it in given.only or [])
-    command = " ".join(it for it in ("benchmarks/compare/run FOLDER", names, f"--rounds {given.rounds}") if it)
+    words = ("benchmarks/compare/run FOLDER", names, f"--rounds {given.rounds} --seconds {given.seconds:g}")
+    command = " ".join(it for it in words if it)
     return (f"Measured on {datetime.date.today()} by `{command}` on {processor()}, {os.cpu_count()} processors, "
             f"{platform.system()} {platform.release()}; the load was {os.getloadavg()[2]:.1f} at the end.\n")
 
