@@ -246,9 +246,18 @@ def javascript_tables(interface):
     formats = ", ".join(f'"{it["name"]}"' for it in by_number(interface["format"]))
     statuses = ", ".join(f'{it["c_name"]} = {it["number"]}' for it in by_number(interface["status"])
                          if it["c_name"] != "MISUSED")
+    subjects = "".join(f'  {it["number"]}: {{ name: "{it["name"]}", isPlaced: {json.dumps(it["placed"])} }},\n'
+                       for it in by_number(interface["subject"]))
+    kinds = "".join(f'  {it["number"]}: "{it["name"]}",\n' for it in by_number(interface["refusal"]))
+    meanings = "".join(f'  {it["name"]}: {json.dumps(it["meaning"])},\n'
+                       for it in sorted(interface["refusal"], key=lambda it: it["name"]))
     return ("/** The formats of the standard, and `merged`: `detailed` with each error once. */\n"
             f"export const FORMATS = Object.freeze([{formats}]);\n\n"
-            f"// What a call answers (jschema.h).\nconst {statuses};\n")
+            f"/** What a call of the module answers. */\nexport const {statuses};\n\n"
+            "/** What is refused, by its number, and whether the refusal has a place in it. */\n"
+            f"export const SUBJECTS = Object.freeze({{\n{subjects}}});\n\n"
+            f"/** Each kind of refusal, by its number. */\nexport const KINDS = Object.freeze({{\n{kinds}}});\n\n"
+            f"/** What each kind of refusal means. */\nexport const MEANINGS = Object.freeze({{\n{meanings}}});\n")
 
 
 def table(head, rows):
@@ -317,7 +326,7 @@ TEXTS = {
                              "refusals": c_refusals, "subjects": c_subjects},
     "bindings/python/pyproject.toml": {"version": project_version},
     "bindings/python/jschema/interface.py": {"tables": python_tables},
-    "bindings/javascript/src/engine.js": {"tables": javascript_tables},
+    "bindings/javascript/src/interface.js": {"tables": javascript_tables},
     "README.md": {"commands": page_commands, "statuses": page_statuses},
     "docs/REFUSALS.md": {"limits": page_limits, "lines": page_lines, **{kind: page_checks(kind) for kind in
                                                  ("document", "schema", "keyword", "reference", "entry")},

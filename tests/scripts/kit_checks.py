@@ -59,99 +59,6 @@ def over_the_gate(room):
             yield Check(f"{script}, {name}", [script], says, home, env, has_count=False, status=status)
 
 
-# A fake rt for two functions: `check` answers by what is written in each, and `must-fail` refuses nothing.
-FAKE_RT = r"""[ "$1" = must-fail ] && for edit in "crates/$2/must-fail"/*; do
-    echo "rt: must-fail $2/${edit##*/}: NOT REFUSED: the crate is still proved"
-done
-for one in first second; do
-    if ! grep -q "wrong_$one" src/ends.rt; then echo "fn js_doc::ends::$one: proved"; else %s; fi
-done 2>/dev/null
-echo only=2 proved=1"""
-REFUSES = 'echo "fn js_doc::ends::$one: no proof: expected answers in ..; \\`search\\` did not prove \\`returns\\`"'
-ANSWERS = 'printf "./proofs/ends/$one/Answers.antt:1:1: error: %s\\nfn js_doc::ends::$one: not proved\\n" "{}"'
-# An `rt must-fail` that answers each edit so, and has to find the library that `rt lib` made.
-SAYS = r"""[ -e crates/js_doc/out/rlib/stamp ] && [ ! -e crates/js_doc/out/incremental ] || exit 1
-for edit in first second; do printf "rt: must-fail js_doc/$edit.edit: %s\\n"; done"""
-SAYS_OF_EACH = r"""for edit in "crates/$2/must-fail"/*; do
-    echo "rt: must-fail $2/${edit##*/}: refused, as it must be"
-done; [ "$(ls "crates/$2/must-fail" | wc -l)" = 1 ]"""
-# A fake rt whose `check` says this of a crate with an edit, and whose `must-fail` refuses nothing.
-FAKE_WHOLE = r"""[ "$1" = must-fail ] && for edit in "crates/$2/must-fail"/*; do
-    echo "rt: must-fail $2/${edit##*/}: NOT REFUSED: the crate is still proved"
-done
-[ "$1" = check ] && if grep -q wrong_ src/ends.rt; then printf '%s'; else echo logic=proved functions=2; fi"""
-AT_LIMIT = "; `search` gave up at one of its limits"
-CALLS_IT = 'echo "fn js_doc::ends::$one: no proof: it calls \\`js_doc::ends::other\\`, which is not proved"'
-DOES_NOT_COMPILE = 'echo "error[type]: src/ends.rt:1:1"; exit 1'
-
-
-def write_bodies(home, crate, first):
-    """Two functions of a crate, and a wrong body for each."""
-    for folder in (f"crates/{crate}/src", f"tests/mutants/{crate}"):
-        os.makedirs(os.path.join(home, folder), exist_ok=True)
-    Path(home, f"crates/{crate}/src/ends.rt").write_text(
-        f"fn first() {{\n    {first}\n}}\n\nfn second() {{\n    right_second\n}}\n")
-    for one in ("first", "second"):
-        Path(home, f"tests/mutants/{crate}/{one}.edit").write_text(
-            f"file: src/ends.rt\nold: right_{one}\nnew: wrong_{one}\n")
-
-
-def of_wrong_bodies(room):
-    """Over fakes of rt: an edit passes only where the function that it is in is refused for its contract."""
-    homes = [room.copy("wrong bodies"), room.copy("wrong bodies of what isn't proved")]
-    for home, first in zip(homes, ("right_first", "wrong_first")):
-        write_bodies(home, "js_doc", first)
-        for folder in ("rlib", "incremental"):
-            os.makedirs(os.path.join(home, "crates/js_doc/out", folder))
-        Path(home, "crates/js_doc/out/rlib/stamp").touch()
-    missing, script = os.path.join(room.folder, "none"), "tests/mutants/run"
-    for words in ([script], [script, "--quick"]):
-        yield Check(f"{' '.join(words)}, no rt", words, f"{missing}: No such file", homes[0], {"RT": missing})
-    proving = room.executable("rt/proves all", FAKE_RT % 'echo "fn js_doc::ends::$one: proved"')
-    for words in ([script], [script, "--jobs", "2"]):
-        yield Check(f"{' '.join(words)}, an rt that proves all", words, "0 passed, 2 failed", homes[0], {"RT": proving})
-    for says, failure in (("refused, as it must be", ""),
-                          ("refused, as it must be: ./proofs/ends/Answers.antt:1:1: no", ""),
-                          ("refused, as it must be (only because a proof file names it)", "FAILED js_doc/second.edit"),
-                          ("BAD EDIT: it did not reach the prover\\nerror: ends.rt", "FAILED(.|\n)*error: ends.rt"),
-                          ("NOT REFUSED: the crate is still proved", "FAILED js_doc/first.edit: NOT REFUSED")):
-        rt = room.executable(f"rt/says {says[:30]} {len(says)}", SAYS % says)
-        yield Check(f"{script}, an rt that says '{says}'", [script], failure, homes[0], {"RT": rt})
-    rt = room.executable("rt/refuses what is there", SAYS_OF_EACH)
-    yield Check(f"{script} --jobs 2, an rt that refuses", [script, "--jobs", "2"], "", homes[0], {"RT": rt})
-    for name, says, body in (("proves all", "NOT REFUSED", 'echo "fn js_doc::ends::$one: proved"'),
-                             ("refuses each", "", REFUSES),
-                             ("refuses answers", "", ANSWERS.format("another type")),
-                             ("refuses names alone", "NOT REFUSED", ANSWERS.format("it has no field")),
-                             ("refuses callers alone", "NOT REFUSED", CALLS_IT),
-                             ("can't compile it", "NOT REFUSED", DOES_NOT_COMPILE)):
-        env = {"RT": room.executable(f"rt/{name}", FAKE_RT % body)}
-        yield Check(f"{script} --quick, an rt that {name}", [script, "--quick"], says, homes[0], env)
-    yield Check(f"{script} --quick, a crate that isn't proved", [script, "--quick"], "isn't proved without them",
-                homes[1], {"RT": room.executable("rt/refuses each", FAKE_RT % REFUSES)})
-    refuses, ends = "note: src/ends.rt:2:1: it is not proved", r"\nlogic=not-proved\nrt: what to do next\n"
-    for name, says, printed in (("proves all", "NOT REFUSED", "logic=proved functions=2"),
-                                ("refuses each", "", refuses + ends),
-                                ("refuses answers", "", "./proofs/ends/Answers.antt:1:1: error: another type" + ends),
-                                ("refuses names alone", "NOT REFUSED",
-                                 "./proofs/ends/Answers.antt:1:1: error: it has no field" + ends),
-                                ("can't read it", "NOT REFUSED", "src/ends.rt:1:1: error: no such name" + ends),
-                                ("comes to no verdict", "NOT REFUSED", refuses)):
-        env = {"RT": room.executable(f"rt/whole {name}", FAKE_WHOLE % printed)}
-        yield Check(f"{script} --kept, an rt that {name}", [script, "--kept"], says, homes[0], env)
-    for name, prints, printed in (("meets limits", "2 of 2 refused, 2 at a limit", refuses + AT_LIMIT + ends),
-                                  ("meets a limit and refuses", "2 of 2 refused$",
-                                   refuses + AT_LIMIT + r"\n" + refuses + ends)):
-        env = {"RT": room.executable(f"rt/whole {name}", FAKE_WHOLE % printed)}
-        yield Check(f"{script} --kept, an rt that {name}", [script, "--kept"], "", homes[0], env, prints=prints)
-    yield Check(f"{script} --kept, a crate that isn't proved", [script, "--kept"], "NOT REFUSED", homes[1],
-                {"RT": room.executable("rt/whole refuses each", FAKE_WHOLE % (refuses + ends))})
-    home = room.copy_with_crates("wrong bodies over the gate")
-    write_bodies(home, "js_assert", "right_first")
-    env = fake_kit(room, "kit that refuses each", "mkdir -p out/incremental; " + FAKE_WHOLE % (refuses + ends))
-    yield Check(f"{script} --kept, over the libraries of the gate", [script, "--kept"], "", home, env)
-
-
 # A fake gate: what a fake prover does, in the order of lines. The words of a line: the crate, the folder of kept work,
 # and where it runs ('-' for none), and the seconds of a core that it takes; without these it sleeps for a second.
 FAKE_GATE = """
@@ -166,12 +73,19 @@ js_tree rt-edits-2/5 rt-edit-5
 js_tree rt-edits-2/6 rt-edit-6
 
 js_eval - rt-edit-7
+
+js_assert out/incremental mutants-8/crates/js_assert 1.2
+js_assert out/incremental mutants-8/crates/js_assert
 """
-# The columns of gate-times: proof, build, tests, kept check, wrong bodies, tried, each.
+# The columns of gate-times: proof, build, tests, kept check, wrong bodies, together, tried, each. Then those of the
+# page: proof, check before mutants, mutants.
 WANTED_TIMES = r"""
-\| `js_doc` \| 1 \| 0 \| 0 \| [23] \| 0 \| 3 \| 0 \|
-\| `js_tree` \| 0 \| 0 \| 0 \| 1 \| 0 \| 2 \| 0 \|
-\| `js_eval` \| 0 \| 0 \| 0 \| 0 \| 0 \| 1 \| 0 \|
+\| `js_doc` \| 1 \| 0 \| 0 \| [23] \| 0 \| 0 \| 3 \| 0 \|
+\| `js_tree` \| 0 \| 0 \| 0 \| 1 \| 0 \| 0 \| 2 \| 0 \|
+\| `js_eval` \| 0 \| 0 \| 0 \| 0 \| 0 \| 0 \| 1 \| 0 \|
+\| `js_assert` \| 0 \| 0 \| 0 \| 0 \| 0 \| 1 \| 0 \|  \|
+\| `js_doc` \| 1 \| [23] \| \|
+\| `js_assert` \| \| \| 1 \|
 """
 # Not rattle, whose processes count in the gate that this test runs in.
 PROVER = "fake-rattle"

@@ -50,6 +50,9 @@ RUN_BY = {
     "tests/conformance/run $suite": Step("tests/conformance/test"),
     "tests/conformance/run $suite --optional --output --meta-schema --schemas tests/rows":
         Step("tests/conformance/test"),
+    "tests/conformance/run $suite --draft draft7": Step("tests/conformance/test"),
+    "tests/conformance/run $suite --draft draft2019-09 --optional --list": Step("tests/conformance/test"),
+    "tests/random/run --draft draft7 --count 1000": Step("tests/random/run --draft all --count 20"),
     "rt test": Step("rt ci"),
     "../../tests/hostile/run single": Step("tests/hostile/run"),
     "tests/random/run --seed 1 --count 1000": Small("tests/random/run --seed 1 --count 3 --program {program}"),
