@@ -147,7 +147,7 @@ def valijson(folder):
     built = ["g++", "-O2", "-std=c++14", "-o", program, os.path.join(DRIVERS, "valijson_driver.cpp")]
     if not os.path.isdir("/usr/include/valijson") or output_of(*built) is None:
         return "valijson: libvalijson-dev or rapidjson-dev isn't installed, or g++ fails"
-    asked = {"verdict": "the verdict alone", "errors": "all errors"}
+    asked = {"verdict": "the verdict alone, up to the first error", "errors": "all errors"}
     return Tool("valijson", package_version("libvalijson-dev"), 7, (program,), asked)
 
 
