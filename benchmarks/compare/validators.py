@@ -53,7 +53,7 @@ class Tool:
         return (done.stdout.splitlines() or [""])[0].partition(" ")[2].partition(" ")[2] or None
 
     def verdicts(self, mode, done):
-        """Whether each instance is valid; none where it answers no verdict on one of them."""
+        """Whether each instance is valid; none where it has no verdict on one of them."""
         words = [line.split(" ")[0] for line in done.stdout.removesuffix("\n").split("\n")]
         known = done.returncode == 0 and set(words) <= {"valid", "invalid"}
         return [word == "valid" for word in words] if known else None
