@@ -5,7 +5,7 @@ use Rattle.js_doc.specs.Pointer.{Tokens}
 use Rattle.js_doc.specs.Value.{text, truth, Named}
 use Rattle.js_upgrade.specs.Dialect.{version_named}
 use Rattle.js_upgrade.specs.Keyword.{core_change, applicator_change, assertion_change}
-use Rattle.js_upgrade.specs.Original.{original_in}
+use Rattle.js_upgrade.specs.Originals.{original_in}
 use Rattle.js_upgrade.specs.declared.dialect.Dialect.{Dialect}
 use Rattle.js_upgrade.specs.declared.dialect.Dialect.TheVariants.{Draft03, Draft04, Draft07, Draft2019}
 use Rattle.js_upgrade.proofs.Examples.{arr, is_null, is_string, obj}

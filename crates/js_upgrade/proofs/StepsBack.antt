@@ -5,18 +5,15 @@ use Rattle.std.proofs.lemmas.List.{append-nil, drop_more}
 use Rattle.js_doc.specs.Pointer.{Tokens}
 use Rattle.js_doc.specs.Seen.{value_of}
 use Rattle.js_doc.specs.Value.{Value, Text}
-use Rattle.js_upgrade.specs.Original.{Back, at_end, joined, original, step_back}
-use Rattle.js_upgrade.specs.code.Back.{IsBack}
+use Rattle.js_upgrade.specs.Originals.{Back, at_end, joined, original, step_back}
+use Rattle.js_upgrade.specs.code.Back.{IsBack, Reached, reached_at, reached_by}
 use Rattle.js_upgrade.specs.declared.dialect.Dialect.{Dialect}
-use Rattle.js_upgrade.specs.declared.original.At.{At}
-use Rattle.js_upgrade.specs.declared.original.Way.{Way}
+use Rattle.js_upgrade.specs.declared.originals.At.{At}
+use Rattle.js_upgrade.specs.declared.originals.Way.{Way}
 
 pub ruleset stay_rules = (append-nil)
 
 -- ---- one token more
-
-abbrev seen : Tokens → Back → Way × (Dialect × (Value × Tokens))
-seen old b = (b.way, (b.dialect, (b.value, old ++ b.into)))
 
 -- what is left of the tokens, where a step has led
 abbrev onward : Tokens → Option Back → Option Tokens
@@ -27,14 +24,14 @@ joined_twice out into None = refl
 joined_twice out into (Some more) = ap Some (sym (append_assoc out into more))
 
 -- the same by what is seen of the step
-abbrev onward_seen : Tokens → Way × (Dialect × (Value × Tokens)) → Option Tokens
+abbrev onward_seen : Tokens → Reached → Option Tokens
 onward_seen rest s = joined s.1.1.1 (original s.0 s.1.0 s.1.1.0 rest)
 
-led_on : (out rest : Tokens) (found : Option Back) (s : Way × (Dialect × (Value × Tokens)))
-    → option_map (seen out) found ≡ Some s → joined out (onward rest found) ≡ onward_seen rest s
+led_on : (out rest : Tokens) (found : Option Back) (s : Reached)
+    → option_map (reached_by out) found ≡ Some s → joined out (onward rest found) ≡ onward_seen rest s
 led_on out rest None s e = absurd (cc)
 led_on out rest (Some b) s e =
-    joined_twice out b.into (original b.way b.dialect b.value rest) ∙ ap (onward_seen rest) (some_is (seen out b) s e)
+    joined_twice out b.into (original b.way b.dialect b.value rest) ∙ ap (onward_seen rest) (some_is (reached_by out b) s e)
   where
   some_is : {A : Type 0} (a b : A) → Some a ≡ Some b → a ≡ b
   some_is a b e = cc
@@ -56,7 +53,7 @@ module _ (out : Tokens) (w : Way) (d : Dialect) (v : Value) (tokens : Tokens) (i
       → joined new (original at.way at.dialect (value_of at.value.now) (drop (i + 1) tokens)) ≡ whole
   step_made_back new at made =
       sym (led_on out (drop (i + 1) tokens) (step_back w d v token)
-      (at.way, (at.dialect, (value_of at.value.now, new))) made) ∙ at_token
+      (reached_at new at) made) ∙ at_token
 
 pub all_back : (out : Tokens) (w : Way) (d : Dialect) (v : Value) (left : Tokens) (whole : Option Tokens)
     → left ≡ [] → joined out (original w d v left) ≡ whole → Some (out ++ at_end w) ≡ whole

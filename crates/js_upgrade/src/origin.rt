@@ -1,5 +1,6 @@
 //! Which keyword of a schema a keyword of the upgraded schema comes from.
-ghost use Rattle.std.specs.Prelude.{◌≡◌, codes, if◌then◌else◌};
+ghost use Rattle.std.specs.Prelude.{◌≡◌, option_map, unwrap_or, if◌then◌else◌};
+ghost use Rattle.js_doc.specs.Value.{Text};
 ghost use Rattle.js_upgrade.specs.Dialect.{is_before};
 ghost use Rattle.js_upgrade.specs.Origin.{moves_contains, origin, origin_by};
 
@@ -8,15 +9,14 @@ use crate::dialect::Dialect;
 use crate::pieces::has_list;
 use js_doc::Members;
 
-/// The name of the keyword that the one with this name comes from.
-pub(crate) fn origin<'n>(dialect: Dialect, siblings: &Members, name: &'n str) -> &'n str
-    ensures { result.now ≡ origin dialect siblings.now name.now }
+/// The name of the keyword that the one with this name comes from; None if it has that name itself.
+pub(crate) fn origin(dialect: Dialect, siblings: &Members, name: &str) -> Option<&'static str>
+    ensures { unwrap_or (option_map (λ n. n.now) result) name.now ≡ origin dialect siblings.now name.now }
 {
     if moves_contains(dialect) && name == holder(siblings) {
-        "contains"
-    } else {
-        origin_by(dialect, has_list(siblings, "items"), name)
+        return Some("contains");
     }
+    older_name(dialect, has_list(siblings, "items"), name)
 }
 
 fn moves_contains(dialect: Dialect) -> bool
@@ -25,42 +25,48 @@ fn moves_contains(dialect: Dialect) -> bool
     matches!(dialect, Dialect::Draft2019)
 }
 
-fn origin_by<'n>(dialect: Dialect, listed: bool, name: &'n str) -> &'n str
-    ensures { result.now ≡ origin_by dialect listed name.now }
+fn older_name(dialect: Dialect, listed: bool, name: &str) -> Option<&'static str>
+    ensures { unwrap_or (option_map (λ n. n.now) result) name.now ≡ origin_by dialect listed name.now }
 {
     match name {
-        "$id" => until_own(dialect, Dialect::Draft06, name, "id"),
+        "$id" => before(dialect, Dialect::Draft06, "id"),
         "$anchor" => {
-            let old = until_own(dialect, Dialect::Draft2019, name, "$id");
-            until_own(dialect, Dialect::Draft06, old, "id")
+            if dialect.is_before(Dialect::Draft06) {
+                return Some("id");
+            }
+            before(dialect, Dialect::Draft2019, "$id")
         }
-        "$dynamicRef" => until_own(dialect, Dialect::Draft2020, name, "$recursiveRef"),
-        "$dynamicAnchor" => until_own(dialect, Dialect::Draft2020, name, "$recursiveAnchor"),
-        "$defs" => until_own(dialect, Dialect::Draft2019, name, "definitions"),
-        "allOf" => until_own(dialect, Dialect::Draft04, name, "extends"),
-        "anyOf" => until_own(dialect, Dialect::Draft04, name, "type"),
-        "not" => until_own(dialect, Dialect::Draft04, name, "disallow"),
-        "prefixItems" => until_own(dialect, Dialect::Draft2020, name, "items"),
-        "items" => until_own(dialect, Dialect::Draft2020, name, items_of(listed)),
-        "dependentRequired" => until_own(dialect, Dialect::Draft2019, name, "dependencies"),
-        "dependentSchemas" => until_own(dialect, Dialect::Draft2019, name, "dependencies"),
-        "required" => until_own(dialect, Dialect::Draft04, name, "properties"),
-        "multipleOf" => until_own(dialect, Dialect::Draft04, name, "divisibleBy"),
-        "exclusiveMaximum" => until_own(dialect, Dialect::Draft06, name, "maximum"),
-        "exclusiveMinimum" => until_own(dialect, Dialect::Draft06, name, "minimum"),
-        _ => name,
+        "$dynamicRef" => before(dialect, Dialect::Draft2020, "$recursiveRef"),
+        "$dynamicAnchor" => before(dialect, Dialect::Draft2020, "$recursiveAnchor"),
+        "$defs" => before(dialect, Dialect::Draft2019, "definitions"),
+        "allOf" => before(dialect, Dialect::Draft04, "extends"),
+        "anyOf" => before(dialect, Dialect::Draft04, "type"),
+        "not" => before(dialect, Dialect::Draft04, "disallow"),
+        "prefixItems" => before(dialect, Dialect::Draft2020, "items"),
+        "items" => {
+            if !listed {
+                return None;
+            }
+            before(dialect, Dialect::Draft2020, "additionalItems")
+        }
+        "dependentRequired" => before(dialect, Dialect::Draft2019, "dependencies"),
+        "dependentSchemas" => before(dialect, Dialect::Draft2019, "dependencies"),
+        "required" => before(dialect, Dialect::Draft04, "properties"),
+        "multipleOf" => before(dialect, Dialect::Draft04, "divisibleBy"),
+        "exclusiveMaximum" => before(dialect, Dialect::Draft06, "maximum"),
+        "exclusiveMinimum" => before(dialect, Dialect::Draft06, "minimum"),
+        _ => None,
     }
 }
 
-fn items_of(listed: bool) -> &'static str
-    ensures { result.now ≡ (if listed then codes "additionalItems" else codes "items") }
+// The name, before a draft.
+fn before(dialect: Dialect, draft: Dialect, old: &'static str) -> Option<&'static str>
+    ensures { (new : Text) → unwrap_or (option_map (λ n. n.now) result) new
+        ≡ (if is_before dialect draft then old.entry.now else new) }
 {
-    if listed { "additionalItems" } else { "items" }
-}
-
-// Another keyword before a draft.
-fn until_own<'n>(dialect: Dialect, draft: Dialect, new: &'n str, old: &'n str) -> &'n str
-    ensures { result.now ≡ (if is_before dialect draft then old.now else new.now) }
-{
-    if dialect.is_before(draft) { old } else { new }
+    if dialect.is_before(draft) {
+        Some(old)
+    } else {
+        None
+    }
 }

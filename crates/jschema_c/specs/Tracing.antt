@@ -12,7 +12,7 @@ use Rattle.js_doc.specs.declared.reading.ReadFault.TheVariants as read_fault
 use Rattle.js_output.specs.Device.{input_limit}
 use Rattle.js_output.specs.declared.fault.Fault.{Fault}
 use Rattle.js_output.specs.declared.fault.Fault.TheVariants as fault
-use Rattle.js_upgrade.specs.Original.{original_in}
+use Rattle.js_upgrade.specs.Originals.{original_in}
 use Rattle.js_upgrade.specs.declared.dialect.Dialect.{Dialect}
 use Rattle.jschema_c.specs.Locating.{ArePointers, AreUtf8}
 use Rattle.jschema_c.specs.Said.{Says}

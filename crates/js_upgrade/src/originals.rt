@@ -1,13 +1,12 @@
 //! Where what stands in an upgraded value comes from in the value as it was.
 ghost use Rattle.std.specs.Prelude.{◌≡◌, ◌++◌, IfOk, OnOk, option_map};
 ghost use Rattle.js_doc.specs.Lookup.{part_named};
-ghost use Rattle.js_doc.specs.Pointer.{Tokens};
 ghost use Rattle.js_doc.specs.Seen.{value_of};
-ghost use Rattle.js_upgrade.specs.Original.{at_end, held_back, is_wrapper, item_back, keyword_back};
-ghost use Rattle.js_upgrade.specs.Original.{keyword_from, lead, original, original_in, stay, step_back, way_of};
+ghost use Rattle.js_upgrade.specs.Originals.{at_end, held_back, is_wrapper, item_back, keyword_back};
+ghost use Rattle.js_upgrade.specs.Originals.{keyword_from, lead, original, original_in, stay, step_back, way_of};
 ghost use Rattle.js_upgrade.specs.Upgrade.{dialect_found, document_dialect, own_dialect};
 ghost use Rattle.js_upgrade.specs.code.Back.{IsBack};
-ghost use Rattle.js_upgrade.specs.declared.original.Way.TheVariants.{Held};
+ghost use Rattle.js_upgrade.specs.declared.originals.Way.TheVariants.{Held};
 ghost use Rattle.js_upgrade.specs.declared.holding.Holding.TheVariants.{One};
 
 use crate::dialect::Dialect;
@@ -139,16 +138,16 @@ fn step_back<'d>(
     match way {
         Way::Held(holding) => held_back(alloc, out, holding, dialect, value, token),
         Way::Alternatives => item_back(alloc, out, dialect, value, token),
-        Way::Negated => Ok(stay(Way::Alternatives, dialect, value)),
+        Way::Negated => Ok(stay(out, Way::Alternatives, dialect, value)),
         Way::Wrapped => {
             if is_wrapper(token) {
-                Ok(stay(Way::Wrapped, dialect, value))
+                Ok(stay(out, Way::Wrapped, dialect, value))
             } else {
                 lead(alloc, out, Way::Held(Holding::One), dialect, value, token)
             }
         }
         Way::Names => lead(alloc, out, Way::Within, dialect, value, token),
-        Way::Within => Ok(stay(Way::Within, dialect, value)),
+        Way::Within => Ok(stay(out, Way::Within, dialect, value)),
     }
 }
 
@@ -159,8 +158,8 @@ fn is_wrapper(token: &str) -> bool
 }
 
 #[tactic(auto, using(crate::proofs::StepsBack::stay_rules))]
-fn stay<'d>(way: Way, dialect: Dialect, value: &'d Doc) -> Option<At<'d>>
-    ensures { (out : Tokens) → IsBack out out (stay way dialect (value_of value.now)) result }
+fn stay<'d>(_out: &Pointer, way: Way, dialect: Dialect, value: &'d Doc) -> Option<At<'d>>
+    ensures { IsBack _out.now _out.now (stay way dialect (value_of value.now)) result }
 {
     Some(At {
         way,
@@ -204,7 +203,7 @@ fn item_back<'d>(
 {
     match value {
         Doc::List(_) => lead(alloc, out, Way::Held(Holding::One), dialect, value, token),
-        _ => Ok(stay(Way::Held(Holding::One), dialect, value)),
+        _ => Ok(stay(out, Way::Held(Holding::One), dialect, value)),
     }
 }
 
@@ -236,7 +235,7 @@ fn held_back<'d>(
             Holding::Nothing => lead(alloc, out, others, dialect, value, token),
         },
         Doc::Text(_) => match holding {
-            Holding::One => Ok(stay(Way::Within, dialect, value)),
+            Holding::One => Ok(stay(out, Way::Within, dialect, value)),
             Holding::Listed => lead(alloc, out, others, dialect, value, token),
             Holding::Named => lead(alloc, out, others, dialect, value, token),
             Holding::OneOrListed => lead(alloc, out, others, dialect, value, token),
@@ -257,8 +256,10 @@ fn keyword_back<'d>(
         (keyword_back (own_dialect dialect siblings.now) siblings.now (value_of value.now) token.now)) }
 {
     let dialect = own_dialect(dialect, siblings);
-    let name = origin(dialect, siblings, token);
-    keyword_from(out, dialect, value, siblings, token, name)
+    match origin(dialect, siblings, token) {
+        Some(name) => keyword_from(out, dialect, value, siblings, token, name),
+        None => keyword_from(out, dialect, value, siblings, token, token),
+    }
 }
 
 fn keyword_from<'d>(
@@ -277,7 +278,7 @@ fn keyword_from<'d>(
     };
     let change = change_of(dialect, siblings, name);
     if let Change::Contains = change {
-        return Ok(stay(Way::Wrapped, dialect, value));
+        return Ok(stay(out, Way::Wrapped, dialect, value));
     }
     out.push(name)?;
     Ok(Some(At {

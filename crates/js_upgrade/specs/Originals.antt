@@ -15,8 +15,8 @@ use Rattle.js_upgrade.specs.declared.holding.Holding.TheVariants.{One, Listed, N
 use Rattle.js_upgrade.specs.declared.keyword.Change.{Change}
 use Rattle.js_upgrade.specs.declared.keyword.Change.TheVariants.{Contains, Dependencies, Disallowed, Extended}
 use Rattle.js_upgrade.specs.declared.keyword.Change.TheVariants.{Properties, Types}
-use Rattle.js_upgrade.specs.declared.original.Way.{Way}
-use Rattle.js_upgrade.specs.declared.original.Way.TheVariants.{Alternatives, Held, Names, Negated, Within, Wrapped}
+use Rattle.js_upgrade.specs.declared.originals.Way.{Way}
+use Rattle.js_upgrade.specs.declared.originals.Way.TheVariants.{Alternatives, Held, Names, Negated, Within, Wrapped}
 
 -- ---- one token back
 
