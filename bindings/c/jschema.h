@@ -218,6 +218,18 @@ uint32_t jschema_positions(const uint8_t *text, size_t text_length, const uint8_
                            const size_t *ends, size_t ends_length,
                            jschema_position *positions, size_t positions_length);
 
+/* Where parts of an upgraded document come from in the document as it was: `document` is its text, and `dialect` the URI
+   that jschema_upgrade got. The texts of JSON Pointers in the upgraded document stand in `pointers` as those of
+   jschema_positions do. Leaves a JSON array and a line feed as the text: for each pointer that of the part which it
+   comes from, or null where nothing stands there. What the upgrade made of a part by itself, such as `required` of the
+   members of a draft-03 schema, comes from that part. The handle may hold anything, and stays as it is.
+   JSCHEMA_MISUSED: the handle is empty, the URI names no dialect, an end is before another or beyond `pointers`, or a
+   text is no JSON Pointer in UTF-8.
+   JSCHEMA_REFUSED: the document isn't read, as jschema_add refuses it, with the number 0. */
+uint32_t jschema_origins(jschema *handle, const uint8_t *dialect, size_t dialect_length, const uint8_t *document,
+                         size_t document_length, const uint8_t *pointers, size_t pointers_length,
+                         const size_t *ends, size_t ends_length);
+
 /* Frees all that the handle holds. It is then empty, and can be freed again or used for jschema_new. */
 void jschema_free(jschema *handle);
 

@@ -87,6 +87,13 @@ uint32_t jschema_positions(const uint8_t *text, size_t text_length, const uint8_
     return (void)positions, (void)positions_length, act();
 }
 
+uint32_t jschema_origins(jschema *handle, const uint8_t *dialect, size_t dialect_length, const uint8_t *document,
+                         size_t document_length, const uint8_t *pointers, size_t pointers_length,
+                         const size_t *ends, size_t ends_length) {
+    (void)handle, (void)dialect, (void)dialect_length, (void)document, (void)document_length, (void)pointers;
+    return (void)pointers_length, (void)ends, (void)ends_length, act();
+}
+
 void jschema_free(jschema *handle) { (void)handle, act(); }
 
 uint32_t jschema_version(void) { return act(); }

@@ -32,12 +32,18 @@ static uint32_t find_positions(void) {
     return jschema_positions(TEXT("{\"a\": [1]}"), TEXT("/a/b"), ends, 2, positions, 2);
 }
 
+static uint32_t find_origins(jschema *handle) {
+    static const size_t ends[] = {8, 10};
+    return jschema_origins(handle, TEXT(""), TEXT(OLDER), TEXT("/$defs/a/b"), ends, 2);
+}
+
 int main(void) {
     jschema handle = JSCHEMA_EMPTY, other = JSCHEMA_EMPTY;
     size_t entry = 0;
     setvbuf(stdout, printed, _IOFBF, sizeof printed);
     STEP("new", jschema_new(&handle));
     STEP("positions", find_positions());
+    STEP("origins", find_origins(&handle));
     STEP("refused document", jschema_add(&handle, URI, TEXT("[1, {\"a\": 0.5}]")));
     STEP("add", jschema_add(&handle, URI, TEXT(SCHEMA)));
     STEP("refused documents", jschema_finish(&handle));

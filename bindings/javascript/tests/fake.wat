@@ -38,5 +38,6 @@
     (i32.load (local.get $text)))
   (func (export "jschema_refusal") (param i32 i32 i32 i32 i32 i32 i32) (result i32) (call $act))
   (func (export "jschema_positions") (param i32 i32 i32 i32 i32 i32 i32 i32) (result i32) (call $act))
+  (func (export "jschema_origins") (param i32 i32 i32 i32 i32 i32 i32 i32 i32) (result i32) (call $act))
   (func (export "jschema_free") (param i32) (drop (call $act)))
   (func (export "jschema_version") (result i32) (call $act)))

@@ -19,6 +19,7 @@ u32 proved_jschema_check(void *, usize, const void *, usize, u32);
 usize proved_jschema_text(void *, void *, usize);
 u32 proved_jschema_refusal(void *, void *, void *, void *, void *, usize, void *);
 u32 proved_jschema_positions(const void *, usize, const void *, usize, const void *, usize, void *, usize);
+u32 proved_jschema_origins(void *, const void *, usize, const void *, usize, const void *, usize, const void *, usize);
 void proved_jschema_free(void *);
 u32 proved_jschema_version(void);
 
@@ -62,6 +63,12 @@ u32 jschema_positions(u32 text, u32 text_length, u32 pointers, u32 pointers_leng
                       u32 positions, u32 positions_length) {
     return proved_jschema_positions(AT(text), text_length, AT(pointers), pointers_length, AT(ends), ends_length,
                                     AT(positions), positions_length);
+}
+
+u32 jschema_origins(u32 handle, u32 dialect, u32 dialect_length, u32 document, u32 document_length, u32 pointers,
+                    u32 pointers_length, u32 ends, u32 ends_length) {
+    return proved_jschema_origins(AT(handle), AT(dialect), dialect_length, AT(document), document_length,
+                                  AT(pointers), pointers_length, AT(ends), ends_length);
 }
 
 void jschema_free(u32 handle) { proved_jschema_free(AT(handle)); }

@@ -20,6 +20,7 @@ pub mod Loops
 pub mod MovedExamples
 pub mod MovedParts
 pub mod OneStep
+pub mod OriginalExamples
 pub mod Origins
 pub mod Outcome
 pub mod PartsAt
@@ -32,3 +33,4 @@ pub mod RepeatedUris
 pub mod Standing
 pub mod Staying
 pub mod StayingTogether
+pub mod StepsBack

@@ -6,6 +6,7 @@ pub mod Keyword
 pub mod Laws
 pub mod Moved
 pub mod Origin
+pub mod Originals
 pub mod Reference
 pub mod Resource
 pub mod Schema

@@ -10,6 +10,7 @@ use Rattle.jschema_c.specs.Said.{IsSilent, copied}
 use Rattle.jschema_c.specs.Session.{AddCall, FinishCall, ListCall, EntryCall, CheckCall, IsFinished, finished_in}
 use Rattle.jschema_c.specs.Session.{SetsLimits}
 use Rattle.jschema_c.specs.Status.{code}
+use Rattle.jschema_c.specs.Tracing.{TraceCall}
 use Rattle.jschema_c.specs.Upgrading.{UpgradeCall}
 
 -- no document and no entry, the standard limits, and nothing said
@@ -53,6 +54,11 @@ SessionFinishes before after s = FinishCall before.phase after.phase s after.sai
 abbrev pub SessionLists : Session → Session → Status → Type 0
 SessionLists before after s =
     ListCall before.phase s after.said × ((after.phase ≡ before.phase) × KeepsEntries before after)
+
+abbrev pub SessionTraces : List ℕ → List ℕ → List ℕ → List ℕ → Session → Session → Status → Type 0
+SessionTraces dialect document pointers ends before after s =
+    TraceCall dialect document pointers ends s after.said
+    × ((after.phase ≡ before.phase) × KeepsEntries before after)
 
 abbrev pub SessionEnters : List ℕ → ℕ → ℕ → Session → Session → Status → Type 0
 SessionEnters uri old new before after s =

@@ -3,6 +3,7 @@ pub mod Status
 pub mod Refusal
 pub mod Said
 pub mod Session
+pub mod Tracing
 pub mod Upgrading
 pub mod Exports
 pub mod Run

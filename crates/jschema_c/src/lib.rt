@@ -4,8 +4,8 @@
 
 ghost use Rattle.std.specs.Prelude.{◌≡◌, ◌≢◌, None, IfSome, IsSomeAnd, length};
 ghost use Rattle.jschema_c.specs.Exports.{IsNew, OnHandle, SessionAdds, SessionFinishes, SessionLists, SessionEnters};
-ghost use Rattle.jschema_c.specs.Exports.{AnswersNumber, IsPut, SessionChecks, SessionLimits, SessionUpgrades, Shares};
-ghost use Rattle.jschema_c.specs.Exports.{TellsRefusal, refusal_in, room};
+ghost use Rattle.jschema_c.specs.Exports.{AnswersNumber, IsPut, SessionChecks, SessionLimits, SessionTraces};
+ghost use Rattle.jschema_c.specs.Exports.{SessionUpgrades, Shares, TellsRefusal, refusal_in, room};
 ghost use Rattle.jschema_c.specs.Locating.{Locates};
 ghost use Rattle.jschema_c.specs.Said.{copied, text_in};
 ghost use Rattle.jschema_c.specs.Status.{code};
@@ -20,6 +20,7 @@ mod said;
 mod session;
 pub mod sharing_laws;
 mod status;
+mod tracing;
 mod upgrading;
 
 use handle::Handle;
@@ -93,6 +94,32 @@ pub extern "C" fn jschema_upgrade(alloc: Global, handle: &mut Handle, dialect: &
         return Status::Misused.code();
     };
     let status = taken.session.upgrade_documents(alloc, dialect);
+    handle.put_back(alloc, taken);
+    status.code()
+}
+
+/// Lists where parts of an upgraded document come from in the document as it was, which has this text: as the text, a
+/// JSON array with a JSON Pointer for each that is given, or null where nothing stands there. The pointers' texts stand
+/// one after another, each up to its end. A document that names no dialect is of the one whose URI this is; of 2020-12
+/// if it is empty.
+#[unsafe(no_mangle)]
+pub extern "C" fn jschema_origins(
+    alloc: Global,
+    handle: &mut Handle,
+    dialect: &[u8],
+    document: &[u8],
+    pointers: &[u8],
+    ends: &[usize],
+) -> u32
+    ensures { OnHandle (SessionTraces dialect.now document.now pointers.now ends.now) handle.old.value
+        handle.new.value result }
+{
+    let Some(mut taken) = handle.take_session(alloc) else {
+        return Status::Misused.code();
+    };
+    let status = taken
+        .session
+        .trace(alloc, dialect, document, pointers, ends);
     handle.put_back(alloc, taken);
     status.code()
 }

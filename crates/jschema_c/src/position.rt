@@ -55,7 +55,11 @@ pub(crate) fn locate(
     }
 }
 
-fn parse_all(alloc: Global, bytes: &[u8], ends: &[usize]) -> Result<Option<Vec<Pointer>>, Memory>
+/// The pointers whose texts stand one after another, each up to its end. None if one isn't a pointer's.
+///
+/// # Errors
+/// `Memory`.
+pub(crate) fn parse_all(alloc: Global, bytes: &[u8], ends: &[usize]) -> Result<Option<Vec<Pointer>>, Memory>
     ensures some { IfOk result (λ o. IfSome o (λ v. ArePointers bytes.now 0 ends.now v.items
         × (length v.items ≡ length ends.now))) }
     ensures none { IfOk result (λ o. o ≡ None → (ps : List Tokens) → AreUtf8 ps

@@ -2,8 +2,8 @@
 ghost use Rattle.std.specs.Prelude.{◌≡◌, [], None, true, false, IfOk, IfSome, IfNone, OnErr, MatchOption};
 ghost use Rattle.std.specs.Str.{IsUtf8};
 ghost use Rattle.jschema_c.specs.Exports.{IsNew, SessionAdds, SessionFinishes, SessionLists, SessionEnters};
-ghost use Rattle.jschema_c.specs.Exports.{IsSharedBy, SessionChecks, SessionLimits, SessionUpgrades};
-ghost use Rattle.jschema_c.specs.Exports.{TellsRefusal, room};
+ghost use Rattle.jschema_c.specs.Exports.{IsSharedBy, SessionChecks, SessionLimits, SessionTraces};
+ghost use Rattle.jschema_c.specs.Exports.{SessionUpgrades, TellsRefusal, room};
 ghost use Rattle.jschema_c.specs.Said.{text_in};
 ghost use Rattle.jschema_c.specs.Session.{finished_in, IsFinished};
 ghost use Rattle.jschema_c.specs.Session.{Adds, Finishes, IsUriText, has_zero, Lists, Enters, Checks, Judges};
@@ -13,6 +13,7 @@ ghost use Rattle.js_tree.specs.declared.forms.Format.TheVariants.{Flag};
 
 use crate::said::{Said, copy_text};
 use crate::status::{Status, format_numbered};
+use crate::tracing::traced;
 use crate::upgrading::upgraded;
 use js_bundle::{Bundle, Place, Schemas};
 use js_output::{Fault, Limits, Sink, judge_within, list_places};
@@ -23,7 +24,7 @@ use std::mem::replace;
 use std::sync::Arc;
 
 /// A document has at most so many bytes, as every input of the program.
-const LONGEST_DOCUMENT: usize = 16_777_216;
+pub(crate) const LONGEST_DOCUMENT: usize = 16_777_216;
 
 /// Documents, or the schemas of finished ones.
 #[derive(Drop)]
@@ -84,6 +85,21 @@ impl Session {
     {
         let came = upgraded(alloc, &mut self.phase, dialect);
         self.said.answer(alloc, came)
+    }
+
+    /// Lists where parts of an upgraded document come from as the text.
+    pub(crate) fn trace(
+        &mut self,
+        alloc: Global,
+        dialect: &[u8],
+        document: &[u8],
+        pointers: &[u8],
+        ends: &[usize],
+    ) -> Status
+        ensures { SessionTraces dialect.now document.now pointers.now ends.now self.old self.new result }
+    {
+        let came = traced(alloc, dialect, document, pointers, ends, &mut self.said);
+        self.said.finish(alloc, came)
     }
 
     /// Finishes the documents.

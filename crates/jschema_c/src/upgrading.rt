@@ -30,7 +30,8 @@ pub(crate) fn upgraded(alloc: Global, phase: &mut Phase, uri: &[u8]) -> Result<S
     Ok(Status::Done)
 }
 
-fn assumed_in(uri: &[u8]) -> Option<Dialect>
+/// The dialect that the URI names; 2020-12 if it is empty.
+pub(crate) fn assumed_in(uri: &[u8]) -> Option<Dialect>
     ensures some { IfSome result (λ d. assumed_in uri.now ≡ Some d) }
     ensures none { IfNone result (IsUtf8 uri.now → assumed_in uri.now ≡ None) }
 {
