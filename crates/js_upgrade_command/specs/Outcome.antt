@@ -21,7 +21,8 @@ use Rattle.js_command.specs.Status.{fault_status}
 use Rattle.js_command.specs.Words.{files_of}
 use Rattle.js_upgrade.specs.Documents.{Source, Sources}
 use Rattle.js_upgrade.specs.declared.dialect.Dialect.{Dialect}
-use Rattle.js_upgrade_command.specs.Outputs.{IsBegun, IsWritten, Written}
+use Rattle.js_output.specs.Device.{Tracked}
+use Rattle.js_upgrade_command.specs.Outputs.{Flushes, IsBegun, IsWritten, Written}
 use Rattle.js_upgrade_command.specs.Stop.{stop_line}
 use Rattle.js_upgrade_command.specs.Upgraded.{upgraded}
 use Rattle.js_upgrade_command.specs.Words.{Request, and_then, request_of}
@@ -101,6 +102,10 @@ abbrev pub IsAllDone : List (List ℕ) → ContentsByPath → Option (List ℕ) 
     → Option Written → Type 0
 IsAllDone words contents old new before after =
     (request : Request) × (request_of words ≡ Ok request) × IsDone contents request old new before after
+
+-- the output was flushed, where what the words ask for goes there
+abbrev pub AllFlushes : {D : Type 0} → List (List ℕ) → Tracked D → Tracked D → Type 0
+AllFlushes words old new = (request : Request) × (request_of words ≡ Ok request) × Flushes request.into old new
 
 -- they weren't upgraded, and nothing was written; or a prefix was, and the output has failed, or a file of the
 -- folder. Memory may run out at any point.

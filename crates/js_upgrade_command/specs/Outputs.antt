@@ -1,10 +1,11 @@
 -- What is written: upgraded documents, each as its compact text and a line feed.
-use Rattle.std.specs.Prelude.{◌≡◌, ℕ, List, [], ◌∷◌, ◌++◌, Option, Some, None, option_map, Bool, true, length, flat_map}
+use Rattle.std.specs.Prelude.{◌≡◌, ℕ, List, [], ◌∷◌, ◌++◌, Option, Some, None, option_map, Bool, true, false, length}
+use Rattle.std.specs.Prelude.{flat_map}
 use Rattle.std.specs.Io.KnownBytes.{Appends, Keeps}
 use Rattle.js_doc.specs.Compact.{compact}
 use Rattle.js_doc.specs.Value.{Value, Values}
 use Rattle.js_command.specs.Words.{DocumentPairs}
-use Rattle.js_output.specs.Device.{AppendsBeginning}
+use Rattle.js_output.specs.Device.{AppendsBeginning, FlushedOnce, Tracked}
 use Rattle.js_upgrade_command.specs.Names.{Text, path_in}
 
 -- files with their paths
@@ -34,6 +35,11 @@ abbrev pub IsWritten : Option Text → DocumentPairs → Values → Option (List
 IsWritten None pairs values old new before after = Appends old new (lines_of values) × (after ≡ before)
 IsWritten (Some folder) pairs values old new before after =
     Keeps old new × HasPut before after (files_in folder pairs values)
+
+-- the output was flushed once, as its last call, and hasn't failed; where a folder was named it wasn't called
+abbrev pub Flushes : {D : Type 0} → Option Text → Tracked D → Tracked D → Type 0
+Flushes None old new = FlushedOnce old new × (new.failed ≡ false)
+Flushes (Some folder) old new = new ≡ old
 
 -- a prefix of these files was written, and the next one, with this number, isn't
 abbrev pub IsPartlyPut : Option Written → Option Written → Written → Option ℕ → Type 0

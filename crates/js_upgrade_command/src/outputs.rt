@@ -1,12 +1,12 @@
 //! Upgraded documents, written.
-ghost use Rattle.std.specs.Prelude.{◌≡◌, ◌≢◌, ◌++◌, ◌∷◌, [], IfOk, IfErr, OnOk, OnErr, None, true};
+ghost use Rattle.std.specs.Prelude.{◌≡◌, ◌≢◌, ◌++◌, ◌∷◌, [], IfOk, IfErr, OnOk, OnErr, None, true, false};
 ghost use Rattle.std.specs.Prelude.{map, string_bytes};
 ghost use Rattle.std.specs.Io.KnownBytes.{Appends};
 ghost use Rattle.js_doc.specs.Seen.{value_of};
 ghost use Rattle.js_upgrade_command.specs.Names.{path_in};
-ghost use Rattle.js_output.specs.Device.{AppendsBeginning};
+ghost use Rattle.js_output.specs.Device.{AppendsBeginning, FlushedOnce};
 ghost use Rattle.js_output.specs.declared.fault.Fault.TheVariants as fault;
-ghost use Rattle.js_upgrade_command.specs.Outputs.{HasPut, IsBegun, IsPartlyPut, IsWritten};
+ghost use Rattle.js_upgrade_command.specs.Outputs.{Flushes, HasPut, IsBegun, IsPartlyPut, IsWritten};
 ghost use Rattle.js_upgrade_command.specs.Outputs.{files_in, line_of, lines_of};
 ghost use Rattle.js_upgrade_command.specs.code.Seen.{pairs_seen, request_seen};
 
@@ -34,6 +34,7 @@ pub(crate) fn write_all<P: Folder, W: Write>(
     ensures ok { OnOk result (IsWritten (request_seen request.now).into (request_seen request.now).documents
         (map value_of documents.now) (W.contents out.old.device) (W.contents out.new.device)
         (P.written folder.old) (P.written folder.new)) }
+    ensures flushed { OnOk result (Flushes (request_seen request.now).into out.old out.new) }
     ensures stop { IfErr result (λ s. s.fault ≢ fault.Memory → (s.fault ≡ fault.Write)
         × IsBegun (request_seen request.now).into (request_seen request.now).documents
         (map value_of documents.now) (W.contents out.old.device) (W.contents out.new.device) out.new.failed
@@ -49,6 +50,7 @@ pub(crate) fn write_all<P: Folder, W: Write>(
 fn write_out<W: Write>(alloc: Global, documents: &[Doc], out: &mut Sink<W>) -> Result<(), Stop>
     ensures ok { OnOk result (Appends (W.contents out.old.device) (W.contents out.new.device)
         (lines_of (map value_of documents.now))) }
+    ensures flushed { OnOk result (FlushedOnce out.old out.new × (out.new.failed ≡ false)) }
     ensures stop { IfErr result (λ s. s.fault ≢ fault.Memory → (s.fault ≡ fault.Write) × (s.document ≡ None)
         × AppendsBeginning (W.contents out.old.device) (W.contents out.new.device)
         (lines_of (map value_of documents.now)) × (out.new.failed ≡ true)) }
@@ -60,6 +62,7 @@ fn write_out<W: Write>(alloc: Global, documents: &[Doc], out: &mut Sink<W>) -> R
 
 fn write_text<W: Write>(text: &[u8], out: &mut Sink<W>) -> Result<(), Fault>
     ensures ok { OnOk result (Appends (W.contents out.old.device) (W.contents out.new.device) text.now) }
+    ensures flushed { OnOk result (FlushedOnce out.old out.new × (out.new.failed ≡ false)) }
     ensures begins { AppendsBeginning (W.contents out.old.device) (W.contents out.new.device) text.now }
     ensures fault { IfErr result (λ e. e ≡ fault.Write) }
     ensures failed { IfErr result (λ e. out.new.failed ≡ true) }

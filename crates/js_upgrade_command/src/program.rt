@@ -6,8 +6,9 @@ ghost use Rattle.js_output.specs.Device.{AppendsBeginning};
 ghost use Rattle.js_output.specs.Line.{failed_memory};
 ghost use Rattle.js_command.specs.Answer.{IsWrittenOrFailed};
 ghost use Rattle.js_command.specs.Words.{words_of};
-ghost use Rattle.js_upgrade_command.specs.Outcome.{IsAllDone, IsDone, IsReason, IsStopped, RequestOutcome};
-ghost use Rattle.js_upgrade_command.specs.Outcome.{StopsBy};
+ghost use Rattle.js_upgrade_command.specs.Outcome.{AllFlushes, IsAllDone, IsDone, IsReason, IsStopped};
+ghost use Rattle.js_upgrade_command.specs.Outcome.{RequestOutcome, StopsBy};
+ghost use Rattle.js_upgrade_command.specs.Outputs.{Flushes};
 ghost use Rattle.js_upgrade_command.specs.Stop.{stop_line};
 ghost use Rattle.js_upgrade_command.specs.Words.{request_of, usage_line};
 ghost use Rattle.js_upgrade_command.specs.code.Seen.{misuse_status, misuse_text, request_seen};
@@ -51,6 +52,7 @@ pub fn command<'a, F: Files, P: Folder, W: Write, V: Write>(
     // 0: the documents that the words name, as their files hold them, were upgraded and written.
     ensures done { result ≡ 0 → IsAllDone (words_of words.entry.now) (F.contents files.old)
         (W.contents out.old.device) (W.contents out.new.device) (P.written folder.old) (P.written folder.new) }
+    ensures flushed { result ≡ 0 → AllFlushes (words_of words.entry.now) out.old out.new }
     ensures quiet { result ≡ 0 → faults.new ≡ faults.old }
 
     // 2: the words ask for nothing. The usage text was written whole, unless standard error has failed.
@@ -89,6 +91,7 @@ fn perform<F: Files, P: Folder, W: Write>(
 ) -> Result<(), Stop>
     ensures done { OnOk result (IsDone (F.contents files.old) (request_seen request.now)
         (W.contents out.old.device) (W.contents out.new.device) (P.written folder.old) (P.written folder.new)) }
+    ensures flushed { OnOk result (Flushes (request_seen request.now).into out.old out.new) }
     ensures stop { IfErr result (λ s. IsStopped (F.contents files.old) (request_seen request.now)
         (W.contents out.old.device) (W.contents out.new.device) out.new.failed
         (P.written folder.old) (P.written folder.new) s.document s.fault) }

@@ -18,6 +18,10 @@ pub returns-in-Err-clause-done : goal.returns-in-Err-clause-done
 returns-in-Err-clause-done g c =
     misuse_nonzero c.in-Err.misuse c.report_misuse.result c.report_misuse.ensures.status
 
+pub returns-in-Err-clause-flushed : goal.returns-in-Err-clause-flushed
+returns-in-Err-clause-flushed g c =
+    misuse_nonzero c.in-Err.misuse c.report_misuse.result c.report_misuse.ensures.status
+
 pub returns-in-Err-clause-quiet : goal.returns-in-Err-clause-quiet
 returns-in-Err-clause-quiet g c =
     misuse_nonzero c.in-Err.misuse c.report_misuse.result c.report_misuse.ensures.status
