@@ -16,7 +16,7 @@ use Rattle.js_upgrade.specs.Fault.{Found, Kind, first_fault, source_fault}
 use Rattle.js_upgrade.specs.Keyword.{core_change, applicator_change, assertion_change}
 use Rattle.js_upgrade.specs.Url.{printed, without_fragment}
 use Rattle.js_upgrade.specs.declared.dialect.Dialect.TheVariants.{Draft04, Draft07, Draft2019}
-use Rattle.js_upgrade.specs.declared.fault.Pass.TheVariants.{Names, References}
+use Rattle.js_upgrade.specs.declared.fault.Pass.TheVariants.{Names, References, Contained}
 use Rattle.js_upgrade.specs.declared.fault.UpgradeFaultKind.TheVariants.{BadKeyword, DuplicateUri, UnknownDialect}
 use Rattle.js_upgrade.specs.declared.fault.UpgradeFaultKind.TheVariants.{BadReference, Unresolved}
 use Rattle.js_upgrade.proofs.DocumentExamples.{refers, source}
@@ -104,3 +104,25 @@ names_first : first_fault (source Draft07 (codes "/s") ((codes "$ref", text (cod
     ≡ Some (record { document = 1; place = codes "$schema" ∷ []; kind = UnknownDialect })
 unfolding core_change applicator_change assertion_change version_named
 names_first = refl
+
+-- `contains` of draft-07 would evaluate where a schema of 2019-09 has `unevaluatedItems`, unless a reference hides it
+abbrev contains : Named
+contains = (codes "contains", null) ∷ []
+
+abbrev unevaluated : Named
+unevaluated = (codes "unevaluatedItems", null) ∷ []
+
+contained : first_fault (source Draft2019 (codes "/s") unevaluated ∷ source Draft07 (codes "/t") contains ∷ [])
+    ≡ Some (record { document = 1; place = codes "contains" ∷ []; kind = BadKeyword })
+unfolding core_change applicator_change assertion_change version_named printed chars digits default_port
+contained = refl
+
+contained_alone : first_fault (source Draft07 (codes "/s") unevaluated ∷ source Draft07 (codes "/t") contains ∷ [])
+    ≡ None
+unfolding core_change applicator_change assertion_change version_named printed chars digits default_port
+contained_alone = refl
+
+contained_hidden : source_fault Contained []
+    (source Draft07 (codes "/s") ((codes "$ref", text (codes "#")) ∷ contains)) ≡ None
+unfolding core_change applicator_change assertion_change
+contained_hidden = refl

@@ -1,8 +1,9 @@
 -- Why documents aren't upgraded: the first fault, where it stands, and its kind. First come the dialects and the
--- identifiers of all documents, then the documents' URIs, then the references of all documents. Documents come in
--- order; a schema comes before those that it holds, and those by name or index ascending.
+-- identifiers of all documents, then the documents' URIs, then the references of all documents, then each `contains`
+-- that would evaluate. Documents come in order; a schema comes before those that it holds, and those by name or index
+-- ascending.
 use Rattle.std.specs.Prelude.{◌≡◌, ℕ, ◌+◌, List, [], ◌∷◌, Bool, true, false, Option, Some, None, codes, decimal, length}
-use Rattle.std.specs.Prelude.{is_none, nat_lt, bytes_eq, option_map, option_and_then, ◌⊎◌, ◌&&◌, if◌then◌else◌}
+use Rattle.std.specs.Prelude.{is_none, nat_lt, bytes_eq, option_map, option_and_then, not, ◌⊎◌, ◌&&◌, if◌then◌else◌}
 use Rattle.std.specs.List.{list_any}
 use Rattle.url.specs.Parts.{Parts}
 use Rattle.js_doc.specs.Members.{get, has_name}
@@ -10,7 +11,7 @@ use Rattle.js_doc.specs.Parts.{member_list, members_of}
 use Rattle.js_doc.specs.Pointer.{Tokens}
 use Rattle.js_doc.specs.Value.{Value, text, list, object, Items, no_items, item, Members, no_members, member}
 use Rattle.js_doc.specs.Value.{Text, Named}
-use Rattle.js_upgrade.specs.Dialect.{first_of}
+use Rattle.js_upgrade.specs.Dialect.{first_of, is_before}
 use Rattle.js_upgrade.specs.Documents.{Source, Sources, all_resources, source_dialect}
 use Rattle.js_upgrade.specs.Reference.{moved_in}
 use Rattle.js_upgrade.specs.Resource.{Resource, own_base, recurses, resource_named}
@@ -18,14 +19,14 @@ use Rattle.js_upgrade.specs.Schema.{hides, holder, is_uri}
 use Rattle.js_upgrade.specs.Upgrade.{dialect_in, holding_in, identifier, identifies, own_dialect}
 use Rattle.js_upgrade.specs.Url.{fragment_pointer, joined, longest_uri, printed, without_fragment}
 use Rattle.js_upgrade.specs.declared.dialect.Dialect.{Dialect}
-use Rattle.js_upgrade.specs.declared.dialect.Dialect.TheVariants.{Draft2019, Draft2020}
+use Rattle.js_upgrade.specs.declared.dialect.Dialect.TheVariants.{Draft06, Draft07, Draft2019, Draft2020}
 use Rattle.js_upgrade.specs.declared.fault.UpgradeFault.{UpgradeFault}
 use Rattle.js_upgrade.specs.declared.fault.UpgradeFaultKind.{UpgradeFaultKind}
 use Rattle.js_upgrade.specs.declared.fault.UpgradeFaultKind.TheVariants.{Memory, TooManyDocuments, UnknownDialect}
 use Rattle.js_upgrade.specs.declared.fault.UpgradeFaultKind.TheVariants.{BadKeyword, UriTooLong, BadId, DuplicateUri}
 use Rattle.js_upgrade.specs.declared.fault.UpgradeFaultKind.TheVariants.{BadReference, Unresolved}
 use Rattle.js_upgrade.specs.declared.fault.Pass.{Pass}
-use Rattle.js_upgrade.specs.declared.fault.Pass.TheVariants.{Names, References}
+use Rattle.js_upgrade.specs.declared.fault.Pass.TheVariants.{Names, References, Unevaluated, Contained}
 use Rattle.js_upgrade.specs.declared.fault.Stop.{Stop}
 use Rattle.js_upgrade.specs.declared.fault.Stop.TheVariants as stop
 use Rattle.js_upgrade.specs.declared.holding.Holding.{Holding}
@@ -133,6 +134,22 @@ anchor_kind all Draft2020 siblings =
     else None
 anchor_kind all _ siblings = None
 
+-- `unevaluatedItems` (2019-09 Core, 9.3.1.3; 2020-12 Core, 11.2)
+abbrev pub unevaluated_kind : Dialect → Named → Option Kind
+unevaluated_kind own siblings =
+    if has_name (codes "unevaluatedItems") siblings && not (is_before own Draft2019) then Some BadKeyword else None
+
+-- `contains` of draft-06 and draft-07 evaluates no items for it, and would in 2020-12 (Core, 10.3.1.3)
+abbrev pub contains_only : Dialect → Bool
+contains_only Draft06 = true
+contains_only Draft07 = true
+contains_only _ = false
+
+abbrev pub contained_kind : Dialect → Named → Option Kind
+contained_kind own siblings =
+    if has_name (codes "contains") siblings && (contains_only own && not (hides own siblings)) then Some BadKeyword
+    else None
+
 -- what isn't `$ref`, of a schema in its own dialect
 abbrev pub other_fault : List Resource → Dialect → Named → Option Found
 other_fault all own siblings =
@@ -149,6 +166,10 @@ schema_fault References all d base siblings =
     first_of (at_keyword (codes "$ref")
     (reference_kind all (own_base (own_dialect d siblings) base siblings) (get (codes "$ref") siblings)))
     (other_fault all (own_dialect d siblings) siblings)
+schema_fault Unevaluated all d base siblings =
+    at_keyword (codes "unevaluatedItems") (unevaluated_kind (own_dialect d siblings) siblings)
+schema_fault Contained all d base siblings =
+    at_keyword (codes "contains") (contained_kind (own_dialect d siblings) siblings)
 
 -- ---- in a value that holds schemas
 
@@ -226,8 +247,16 @@ repeated_fault seen n (s ∷ ss) =
 
 -- ---- the first fault of documents that are upgraded together
 
+-- a `contains` that would evaluate, where a schema has `unevaluatedItems`
+abbrev pub contained_fault : List Resource → Sources → Option UpgradeFault
+contained_fault all sources =
+    option_and_then (λ f. documents_fault Contained all 0 sources) (documents_fault Unevaluated all 0 sources)
+
+abbrev pub references_fault : List Resource → Sources → Option UpgradeFault
+references_fault all sources = first_of (documents_fault References all 0 sources) (contained_fault all sources)
+
 abbrev pub uris_fault : List Resource → Sources → Option UpgradeFault
-uris_fault all sources = first_of (repeated_fault [] 0 sources) (documents_fault References all 0 sources)
+uris_fault all sources = first_of (repeated_fault [] 0 sources) (references_fault all sources)
 
 abbrev pub names_fault : List Resource → Sources → Option UpgradeFault
 names_fault all sources = first_of (documents_fault Names all 0 sources) (uris_fault all sources)

@@ -1,8 +1,9 @@
 //! The first fault of documents that are upgraded together.
 ghost use Rattle.std.specs.Prelude.{◌≡◌, [], IfOk, map, option_map};
 ghost use Rattle.js_doc.specs.Seen.{value_of};
-ghost use Rattle.js_upgrade.specs.Fault.{documents_fault, fault_among, in_document, names_fault, number_fault};
-ghost use Rattle.js_upgrade.specs.Fault.{repeated_fault, root_fault, source_fault, uris_fault};
+ghost use Rattle.js_upgrade.specs.Fault.{contained_fault, documents_fault, fault_among, in_document, names_fault};
+ghost use Rattle.js_upgrade.specs.Fault.{number_fault, references_fault, repeated_fault, root_fault, source_fault};
+ghost use Rattle.js_upgrade.specs.Fault.{uris_fault};
 ghost use Rattle.js_upgrade.specs.Seen.{found_of, resource_of, source_of};
 
 use crate::documents::{Source, source_dialect};
@@ -58,7 +59,34 @@ fn uris_fault(
 {
     match repeated_fault(alloc, sources)? {
         Some(fault) => Ok(Some(fault)),
-        None => documents_fault(alloc, Pass::References, resources, sources),
+        None => references_fault(alloc, resources, sources),
+    }
+}
+
+fn references_fault(
+    alloc: Global,
+    resources: &[Resource],
+    sources: &[Source],
+) -> Result<Option<UpgradeFault>, Memory>
+    ensures { IfOk result (λ f. f ≡ references_fault (map resource_of resources.now) (map source_of sources.now)) }
+{
+    match documents_fault(alloc, Pass::References, resources, sources)? {
+        Some(fault) => Ok(Some(fault)),
+        None => contained_fault(alloc, resources, sources),
+    }
+}
+
+// Of each `contains` that would evaluate, where a schema has `unevaluatedItems`.
+fn contained_fault(
+    alloc: Global,
+    resources: &[Resource],
+    sources: &[Source],
+) -> Result<Option<UpgradeFault>, Memory>
+    ensures { IfOk result (λ f. f ≡ contained_fault (map resource_of resources.now) (map source_of sources.now)) }
+{
+    match documents_fault(alloc, Pass::Unevaluated, resources, sources)? {
+        Some(_) => documents_fault(alloc, Pass::Contained, resources, sources),
+        None => Ok(None),
     }
 }
 

@@ -24,8 +24,8 @@ pub enum UpgradeFaultKind {
     TooManyDocuments,
     /// A `$schema` names none of the dialects.
     UnknownDialect,
-    /// A `$schema`, an identifier or a reference isn't a text. Or `contains` of 2019-09 has no place, or a
-    /// `$dynamicAnchor` has the name that `$recursiveAnchor` gets.
+    /// A `$schema`, an identifier or a reference isn't a text. Or `contains` of 2019-09 has no place, one of an older
+    /// draft would evaluate items, or a `$dynamicAnchor` has the name that `$recursiveAnchor` gets.
     BadKeyword,
     /// An identifier or a reference has more than 65,536 bytes.
     UriTooLong,
@@ -46,6 +46,10 @@ pub(crate) enum Pass {
     Names,
     /// The references.
     References,
+    /// The schemas that have `unevaluatedItems`.
+    Unevaluated,
+    /// `contains` of draft-06 and draft-07.
+    Contained,
 }
 
 /// Why an upgrade stops.

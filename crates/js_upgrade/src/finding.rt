@@ -13,7 +13,8 @@ use crate::dialect::Dialect;
 use crate::fault::{Pass, UpgradeFaultKind};
 use crate::holding::{Holding, holding_of};
 use crate::kinds::{
-    anchor_kind, contains_kind, declared_kind, own_kind, recursive_kind, reference_kind,
+    anchor_kind, contained_kind, contains_kind, declared_kind, own_kind, recursive_kind,
+    reference_kind, unevaluated_kind,
 };
 use crate::resources::{Resource, identity};
 use crate::schema::{change_of, identifier, own_dialect};
@@ -109,6 +110,10 @@ fn schema_fault(
             }
             other_fault(alloc, resources, own, siblings)
         }
+        Pass::Unevaluated => {
+            at_keyword(alloc, "unevaluatedItems", unevaluated_kind(own, siblings))
+        }
+        Pass::Contained => at_keyword(alloc, "contains", contained_kind(own, siblings)),
     }
 }
 

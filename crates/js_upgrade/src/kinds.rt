@@ -2,7 +2,8 @@
 ghost use Rattle.std.specs.Prelude.{◌≡◌, IfOk, is_none, map, option_map, option_and_then};
 ghost use Rattle.js_doc.specs.Seen.{value_of};
 ghost use Rattle.std.specs.List.{list_any};
-ghost use Rattle.js_upgrade.specs.Fault.{anchor_kind, contains_kind, declared_kind, dialect_kind, has_recursive_name};
+ghost use Rattle.js_upgrade.specs.Fault.{anchor_kind, contained_kind, contains_kind, contains_only, declared_kind};
+ghost use Rattle.js_upgrade.specs.Fault.{dialect_kind, has_recursive_name, unevaluated_kind};
 ghost use Rattle.js_upgrade.specs.Fault.{identifier_kind, joined_kind, no_dialect, own_kind, part_at, recursion_kind};
 ghost use Rattle.js_upgrade.specs.Fault.{recursive_kind, reference_kind, target, target_kind, unnamed};
 ghost use Rattle.js_upgrade.specs.Resource.{recurses};
@@ -93,6 +94,34 @@ pub(crate) fn contains_kind(own: Dialect, siblings: &Members) -> Option<UpgradeF
         }
         _ => None,
     }
+}
+
+/// Of the schema's `unevaluatedItems`, where it is a keyword.
+pub(crate) fn unevaluated_kind(own: Dialect, siblings: &Members) -> Option<UpgradeFaultKind>
+    ensures { result ≡ unevaluated_kind own siblings.now }
+{
+    if siblings.get("unevaluatedItems").is_some() && !own.is_before(Dialect::Draft2019) {
+        Some(UpgradeFaultKind::BadKeyword)
+    } else {
+        None
+    }
+}
+
+/// Of the schema's `contains` in draft-06 and draft-07, which evaluates no items there.
+pub(crate) fn contained_kind(own: Dialect, siblings: &Members) -> Option<UpgradeFaultKind>
+    ensures { result ≡ contained_kind own siblings.now }
+{
+    if siblings.get("contains").is_some() && (contains_only(own) && !hides(own, siblings)) {
+        Some(UpgradeFaultKind::BadKeyword)
+    } else {
+        None
+    }
+}
+
+fn contains_only(own: Dialect) -> bool
+    ensures { result ≡ contains_only own }
+{
+    matches!(own, Dialect::Draft06 | Dialect::Draft07)
 }
 
 /// Of the schema's `$dynamicAnchor`, which may not have the name that `$recursiveAnchor` gets.
