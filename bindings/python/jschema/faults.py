@@ -1,0 +1,114 @@
+"""Where a text stops being JSON, as the validator reads it.
+
+Python's own reader says where it stops. What that reads and the validator doesn't is looked for beside it: bytes that
+aren't UTF-8, half a surrogate pair, arrays and objects that are nested too deep, NaN and Infinity, and numbers beyond a
+double's range.
+"""
+from __future__ import annotations
+
+import json
+import math
+import re
+from collections.abc import Iterable
+from itertools import accumulate, compress, count, islice
+from operator import itemgetter, not_
+from typing import Optional
+
+from .limits import DEEPEST
+
+#: A sign with which an array or an object begins or ends.
+BRACKET = re.compile(rb"[\[\]{}]")
+# What the brackets of a text are made of: steps to a deeper level and back, as signed bytes.
+_STEPS = bytes.maketrans(b"[]{}", b"\x01\xff\x01\xff")
+_OTHERS = bytes(set(range(256)).difference(b"[]{}"))
+# What Python's reader takes for a number, and what is written next to it.
+_NUMBER = re.compile(rb"-?(?:[0-9][-+.0-9eE]*|NaN|Infinity)")
+# Half a surrogate pair, without the other half behind it or before it.
+_LONE_SURROGATE = re.compile(
+    rb"\\u[dD](?:[89abAB]..(?!\\u[dD][c-fC-F])|[c-fC-F](?<!\\u[dD][89abAB]..\\u[dD].))", re.DOTALL)
+
+
+class NotJson(ValueError):
+    """The bytes are no JSON text; `offset` is where this shows, as `first_fault` says it."""
+
+    def __init__(self, offset: int) -> None:
+        super().__init__(offset)
+        self.offset = offset
+
+
+def first_fault(text: bytes, deepest: int = DEEPEST, any_number: bool = False) -> Optional[int]:
+    """Where a text stops being JSON: the first byte, from 0, of the string, number, word or sign that can't stand there
+    or is none; the end of the text, where it breaks off; or a byte that isn't UTF-8. What is before it could be the
+    beginning of a JSON text. None for a text that is JSON.
+
+    `deepest` says how many arrays and objects may be in one another. With `any_number` a number may be beyond a
+    double's range.
+    """
+    outside = outside_of_strings(text)
+    too_deep = _too_deep(outside, deepest)
+    faults = (_not_unicode(text), too_deep, _lone_surrogate(text, outside),
+              # (It calls itself for each level.)
+              _not_read(text[:too_deep], outside, any_number))
+    return min((it for it in faults if it is not None), default=None)
+
+
+def outside_of_strings(text: bytes) -> bytes:
+    """A JSON text with blanks in its strings. What is outside of them stays in its place."""
+    parts = text.replace(b"\\\\", b"  ").replace(b'\\"', b"  ").split(b'"')
+    parts[1::2] = map(b"".ljust, map(len, parts[1::2]))
+    return b'"'.join(parts)
+
+
+def place_of(error: json.JSONDecodeError) -> int:
+    """The character that an error of Python's own reader is about: the same with each version of Python."""
+    if "trailing comma" not in error.msg:
+        return error.pos
+    # (From 3.13 on the place is that of the comma, and not of the bracket that can't follow it.)
+    return len(error.doc) - len(error.doc[error.pos + 1:].lstrip(" \t\n\r"))
+
+
+def _not_unicode(text: bytes) -> Optional[int]:
+    """The first byte that isn't UTF-8."""
+    try:
+        text.decode()
+    except UnicodeDecodeError as error:
+        return error.start
+    return None
+
+
+def _too_deep(outside: bytes, deepest: int) -> Optional[int]:
+    """Where the first array or object begins that is in too many others."""
+    levels = accumulate(memoryview(outside.translate(_STEPS, _OTHERS)).cast("b"))
+    return _first_wrong(BRACKET, outside, map(deepest.__lt__, levels))
+
+
+def _lone_surrogate(text: bytes, outside: bytes) -> Optional[int]:
+    """Where the first string begins that has half a surrogate pair."""
+    found = _LONE_SURROGATE.search(text.replace(b"\\\\", b"  "))
+    return None if found is None else _begin(outside, found.start())
+
+
+def _not_read(text: bytes, outside: bytes, any_number: bool) -> Optional[int]:
+    """Where Python's reader stops, or reads a number that the validator doesn't."""
+    characters = text.decode(errors="replace")
+    numbers: list[str] = []
+    fault = None
+    try:
+        json.loads(characters, parse_int=numbers.append, parse_float=numbers.append, parse_constant=numbers.append)
+    except json.JSONDecodeError as error:
+        fault = _begin(outside, len(characters[:place_of(error)].encode()))
+    # (NaN and Infinity end with a letter.)
+    are_read = map(str.isdigit, map(itemgetter(-1), numbers)) if any_number else map(math.isfinite, map(float, numbers))
+    number = _first_wrong(_NUMBER, outside, map(not_, are_read))
+    return fault if number is None else number
+
+
+def _begin(outside: bytes, at: int) -> int:
+    """Where the string begins that has a byte in it; of a byte outside of strings itself."""
+    return outside.rfind(b'"', 0, at) if outside.count(b'"', 0, at) % 2 else at
+
+
+def _first_wrong(pattern: re.Pattern[bytes], outside: bytes, are_wrong: Iterable[bool]) -> Optional[int]:
+    """Where the first match of a pattern begins that is wrong."""
+    number = next(compress(count(), are_wrong), None)
+    return None if number is None else next(islice(pattern.finditer(outside), number, None)).start()
