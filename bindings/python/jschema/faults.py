@@ -15,13 +15,12 @@ from operator import itemgetter, not_
 from typing import Optional
 
 from .limits import DEEPEST
+from .outside import BRACKET, outside_of_strings
 
-#: A sign with which an array or an object begins or ends.
-BRACKET = re.compile(rb"[\[\]{}]")
-# What the brackets of a text are made of: steps to a deeper level and back, as signed bytes.
+# Makes steps of brackets, to a deeper level and back: signed bytes.
 _STEPS = bytes.maketrans(b"[]{}", b"\x01\xff\x01\xff")
 _OTHERS = bytes(set(range(256)).difference(b"[]{}"))
-# What Python's reader takes for a number, and what is written next to it.
+# A number, as Python's reader takes it, with the digits, signs and points that follow it in a text that isn't JSON.
 _NUMBER = re.compile(rb"-?(?:[0-9][-+.0-9eE]*|NaN|Infinity)")
 # Half a surrogate pair, without the other half behind it or before it.
 _LONE_SURROGATE = re.compile(
@@ -37,26 +36,21 @@ class NotJson(ValueError):
 
 
 def first_fault(text: bytes, deepest: int = DEEPEST, any_number: bool = False) -> Optional[int]:
-    """Where a text stops being JSON: the first byte, from 0, of the string, number, word or sign that can't stand there
-    or is none; the end of the text, where it breaks off; or a byte that isn't UTF-8. What is before it could be the
-    beginning of a JSON text. None for a text that is JSON.
+    """Where a text stops being JSON, as a byte from 0: where the first token begins that can't stand there or is none
+    (a string, a number, a word, a sign), the end of a text that breaks off, or a byte that isn't UTF-8. What is before
+    it can be completed to a JSON text. None for a text that is JSON.
 
     `deepest` says how many arrays and objects may be in one another. With `any_number` a number may be beyond a
     double's range.
+
+        first_fault(b'{"a": 01}')   # 7
     """
     outside = outside_of_strings(text)
     too_deep = _too_deep(outside, deepest)
+    # (Python's reader calls itself for each level, so it gets no more of them.)
     faults = (_not_unicode(text), too_deep, _lone_surrogate(text, outside),
-              # (It calls itself for each level.)
               _not_read(text[:too_deep], outside, any_number))
     return min((it for it in faults if it is not None), default=None)
-
-
-def outside_of_strings(text: bytes) -> bytes:
-    """A JSON text with blanks in its strings. What is outside of them stays in its place."""
-    parts = text.replace(b"\\\\", b"  ").replace(b'\\"', b"  ").split(b'"')
-    parts[1::2] = map(b"".ljust, map(len, parts[1::2]))
-    return b'"'.join(parts)
 
 
 def place_of(error: json.JSONDecodeError) -> int:

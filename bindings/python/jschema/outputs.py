@@ -5,7 +5,7 @@ import json
 from typing import Any
 
 from .errors import EngineError
-from .faults import BRACKET, outside_of_strings
+from .outside import BRACKET, outside_of_strings
 
 # How many levels of a text that nests deep are read at once.
 _LEVELS = 100

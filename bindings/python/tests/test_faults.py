@@ -11,7 +11,6 @@ import jschema
 from jschema.faults import first_fault
 from jschema.library import find_library, locate
 from jschema.limits import DEEPEST
-from jschema.outputs import without_recursion
 from random_faults import TEXTS, changed, compared, is_json
 
 JSON = (
@@ -155,31 +154,3 @@ class BesideTheLibrary(unittest.TestCase):
         for text in [*JSON, *NOT_JSON, *self.texts]:
             fault = first_fault(text, DEEPEST + 1, any_number=True)
             self.assertEqual(fault is not None, locate(text, [""]) is None, text)
-
-
-class Outputs(unittest.TestCase):
-    """What nests too deep for Python's own reader."""
-
-    def test_levels(self):
-        for levels in (1, 99, 100, 101, 250, 400):
-            for begin, end in (('[{"[": 1}, ', ', "]"]'), ('{"\\\\": [], "a": ', ', "b": [[0.5]], "c\\"": {}}')):
-                with self.subTest(levels, begin=begin):
-                    text = begin * levels + '"é"' + end * levels
-                    self.assertEqual(without_recursion(text.encode()), json.loads(text))
-
-    def test_siblings(self):
-        deep = "[" * 99 + "[1], [2, []], [[3]], {}" + "]" * 99
-        text = f'{{"a": {deep}, "b": [{deep}, {deep}], "a": {deep}}}'
-        self.assertEqual(without_recursion(text.encode()), json.loads(text))
-
-    def test_deep(self):
-        value, levels = without_recursion(b'{"a": [' * 50_000 + b"]}" * 50_000), 0
-        while value:
-            [value], levels = value.values() if isinstance(value, dict) else value, levels + 1
-        self.assertEqual(levels, 99_999)
-
-    def test_malformed(self):
-        for text in (b"[" * 1000, b"[" * 1000 + b"NaN" + b"]" * 1000, b"[" * 1000 + b"]" * 999, b"]" * 1000,
-                     b"[" * 99 + b"[NaN]" * 2, b"[" * 150 + b"]" * 50 + b"}" * 100, b"[" * 1000 + b"]" * 1001):
-            with self.subTest(text[:120]):
-                self.assertRaises(ValueError, without_recursion, text)
