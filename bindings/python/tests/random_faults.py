@@ -18,9 +18,10 @@ sys.path[:0] = [os.path.join(HOME, name) for name in ("../../..", "..")]
 from jschema.faults import first_fault  # noqa: E402
 from tests.reference import json_text  # noqa: E402
 
+SAMPLE = ('{"a\\u00e9" : [1, -20.5e+1,\n "\\ud83d\\ude00é", {}], "b/~": {"": null}, '
+          '"b/~": [true,\r\n\t[], false]}\n').encode()
 TEXTS = [
-    ('{"a\\u00e9" : [1, -20.5e+1,\n "\\ud83d\\ude00é", {}], "b/~": {"": null}, '
-     '"b/~": [true,\r\n\t[], false]}\n').encode(),
+    SAMPLE,
     b'[[1,2],{"a":"b\\\\"}]', b'"x\\"y"', b' [1e5, "1e400", "NaN", 0.25]', b'{"[": {"\\\\\\"": [[]]}, "b": "}"}', b"",
 ]
 PIECES = [

@@ -17,15 +17,13 @@ from jschema.lsp.diagnostics import Diagnoses
 from jschema.lsp.documents import Document
 from jschema.lsp.workspace import Workspace
 from jschema.sources import JsonSource
-from random_faults import is_json
+from random_faults import SAMPLE, is_json
 from test_faults import JSON, NOT_JSON
 from tests.reference import json_text
 from tests.support.rows import texts
 
 # Of the rows, two arrays of a million numbers are larger.
 LARGE = 100_000
-SAMPLE = ('{"a\\u00e9" : [1, -20.5e+1,\n "\\ud83d\\ude00é", {}], "b/~": {"": null}, '
-          '"b/~": [true,\r\n\t[], false]}\n').encode()
 
 
 def by_python(*_):

@@ -150,7 +150,7 @@ def _value(text: bytes) -> Any:
         offset = len(characters[:place_of(error)].encode("utf-8", "surrogatepass"))
         raise _Syntax(offset, error.msg[0].lower() + error.msg[1:]) from None
     except _Constant:
-        raise _Syntax(first_fault(text) or 0, "JSON has neither NaN nor Infinity") from None
+        raise _Syntax(first_fault(text, any_number=True) or 0, "JSON has neither NaN nor Infinity") from None
     except (ValueError, RecursionError):
         # An integer of thousands of digits, or thousands of arrays in one another.
         return None
