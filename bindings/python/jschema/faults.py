@@ -10,16 +10,16 @@ import json
 import math
 import re
 from collections.abc import Iterable
-from itertools import accumulate, compress, count, islice
-from operator import itemgetter, not_
+from itertools import accumulate, islice
+from operator import indexOf, itemgetter
 from typing import Optional
 
 from .limits import DEEPEST
-from .outside import BRACKET, outside_of_strings
+from .outside import BRACKET, outside_of_strings, without_escapes
 
 # Makes steps of brackets, to a deeper level and back: signed bytes.
 _STEPS = bytes.maketrans(b"[]{}", b"\x01\xff\x01\xff")
-_OTHERS = bytes(set(range(256)).difference(b"[]{}"))
+_OTHERS = bytes(set(range(256)).difference(b'[]{}"'))
 # A number, as Python's reader takes it, with the digits, signs and points that follow it in a text that isn't JSON.
 _NUMBER = re.compile(rb"-?(?:[0-9][-+.0-9eE]*|NaN|Infinity)")
 # Half a surrogate pair, without the other half behind it or before it.
@@ -45,11 +45,10 @@ def first_fault(text: bytes, deepest: int = DEEPEST, any_number: bool = False) -
 
         first_fault(b'{"a": 01}')   # 7
     """
-    outside = outside_of_strings(text)
-    too_deep = _too_deep(outside, deepest)
+    plain = without_escapes(text)
+    too_deep = _too_deep(plain, deepest)
     # (Python's reader calls itself for each level, so it gets no more of them.)
-    faults = (_not_unicode(text), too_deep, _lone_surrogate(text, outside),
-              _not_read(text[:too_deep], outside, any_number))
+    faults = _not_unicode(text), too_deep, _lone_surrogate(plain), _not_read(text[:too_deep], plain, any_number)
     return min((it for it in faults if it is not None), default=None)
 
 
@@ -70,19 +69,20 @@ def _not_unicode(text: bytes) -> Optional[int]:
     return None
 
 
-def _too_deep(outside: bytes, deepest: int) -> Optional[int]:
+def _too_deep(plain: bytes, deepest: int) -> Optional[int]:
     """Where the first array or object begins that is in too many others."""
-    levels = accumulate(memoryview(outside.translate(_STEPS, _OTHERS)).cast("b"))
-    return _first_wrong(BRACKET, outside, map(deepest.__lt__, levels))
+    brackets = b"".join(plain.translate(None, _OTHERS).split(b'"')[::2])
+    levels = accumulate(memoryview(brackets.translate(_STEPS)).cast("b"))
+    return _first(BRACKET, plain, levels, deepest + 1)
 
 
-def _lone_surrogate(text: bytes, outside: bytes) -> Optional[int]:
+def _lone_surrogate(plain: bytes) -> Optional[int]:
     """Where the first string begins that has half a surrogate pair."""
-    found = _LONE_SURROGATE.search(text.replace(b"\\\\", b"  "))
-    return None if found is None else _begin(outside, found.start())
+    found = _LONE_SURROGATE.search(plain)
+    return None if found is None else _begin(plain, found.start())
 
 
-def _not_read(text: bytes, outside: bytes, any_number: bool) -> Optional[int]:
+def _not_read(text: bytes, plain: bytes, any_number: bool) -> Optional[int]:
     """Where Python's reader stops, or reads a number that the validator doesn't."""
     characters = text.decode(errors="replace")
     numbers: list[str] = []
@@ -90,19 +90,22 @@ def _not_read(text: bytes, outside: bytes, any_number: bool) -> Optional[int]:
     try:
         json.loads(characters, parse_int=numbers.append, parse_float=numbers.append, parse_constant=numbers.append)
     except json.JSONDecodeError as error:
-        fault = _begin(outside, len(characters[:place_of(error)].encode()))
+        fault = _begin(plain, len(characters[:place_of(error)].encode()))
     # (NaN and Infinity end with a letter.)
     are_read = map(str.isdigit, map(itemgetter(-1), numbers)) if any_number else map(math.isfinite, map(float, numbers))
-    number = _first_wrong(_NUMBER, outside, map(not_, are_read))
+    number = _first(_NUMBER, plain, are_read, False)
     return fault if number is None else number
 
 
-def _begin(outside: bytes, at: int) -> int:
+def _begin(plain: bytes, at: int) -> int:
     """Where the string begins that has a byte in it; of a byte outside of strings itself."""
-    return outside.rfind(b'"', 0, at) if outside.count(b'"', 0, at) % 2 else at
+    return plain.rfind(b'"', 0, at) if plain.count(b'"', 0, at) % 2 else at
 
 
-def _first_wrong(pattern: re.Pattern[bytes], outside: bytes, are_wrong: Iterable[bool]) -> Optional[int]:
-    """Where the first match of a pattern begins that is wrong."""
-    number = next(compress(count(), are_wrong), None)
-    return None if number is None else next(islice(pattern.finditer(outside), number, None)).start()
+def _first(pattern: re.Pattern[bytes], plain: bytes, values: Iterable[int], value: int) -> Optional[int]:
+    """Where the first match of a pattern begins that has a value, among the values of those outside of strings."""
+    try:
+        number = indexOf(values, value)
+    except ValueError:
+        return None
+    return next(islice(pattern.finditer(outside_of_strings(plain)), number, None)).start()
