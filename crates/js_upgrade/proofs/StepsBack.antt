@@ -33,8 +33,8 @@ led_on out rest None s e = absurd (cc)
 led_on out rest (Some b) s e =
     joined_twice out b.into (original b.way b.dialect b.value rest) ∙ ap (onward_seen rest) (some_is (reached_by out b) s e)
   where
-  some_is : {A : Type 0} (a b : A) → Some a ≡ Some b → a ≡ b
-  some_is a b e = cc
+    some_is : {A : Type 0} (a b : A) → Some a ≡ Some b → a ≡ b
+    some_is a b e = cc
 
 here : (tokens : Tokens) (i : ℕ) (token : Text) → i < length tokens → token ≡ get_or tokens i token
     → drop i tokens ≡ token ∷ drop (i + 1) tokens

@@ -59,7 +59,11 @@ pub(crate) fn locate(
 ///
 /// # Errors
 /// `Memory`.
-pub(crate) fn parse_all(alloc: Global, bytes: &[u8], ends: &[usize]) -> Result<Option<Vec<Pointer>>, Memory>
+pub(crate) fn parse_all(
+    alloc: Global,
+    bytes: &[u8],
+    ends: &[usize],
+) -> Result<Option<Vec<Pointer>>, Memory>
     ensures some { IfOk result (λ o. IfSome o (λ v. ArePointers bytes.now 0 ends.now v.items
         × (length v.items ≡ length ends.now))) }
     ensures none { IfOk result (λ o. o ≡ None → (ps : List Tokens) → AreUtf8 ps
