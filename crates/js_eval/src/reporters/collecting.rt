@@ -24,17 +24,6 @@ pub(crate) struct Collecting<'a, C> {
 impl<'a, C: Collector<'a>> Reporter<FinishedSchemas<'a>, HeldText> for Collecting<'a, C> {
     ghost takes = { λ c e d. C.takes c.collector e d.collector };
 
-    // Written out, though they are the trait's: that is proved sooner.
-    #[inline(always)]
-    fn is_quiet(&self) -> bool {
-        false
-    }
-
-    #[inline(always)]
-    fn drops_silent(&self) -> bool {
-        false
-    }
-
     #[inline(never)]
     fn open_schema(
         &mut self,

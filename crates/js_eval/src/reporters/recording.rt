@@ -27,12 +27,6 @@ pub(crate) struct Recording<'a> {
 impl<'a> Reporter<FinishedSchemas<'a>, HeldText> for Recording<'a> {
     ghost takes = { λ c e d. relative_state d.rows ≡ relative_after (relative_state c.rows) e };
 
-    // Written out, though it is the trait's: that is proved sooner.
-    #[inline(always)]
-    fn is_quiet(&self) -> bool {
-        false
-    }
-
     #[inline(always)]
     fn drops_silent(&self) -> bool {
         self.rows.drops_silent()
