@@ -218,8 +218,8 @@ uint32_t jschema_positions(const uint8_t *text, size_t text_length, const uint8_
                            const size_t *ends, size_t ends_length,
                            jschema_position *positions, size_t positions_length);
 
-/* Where parts of an upgraded document come from in the document as it was: `document` is its text, and `dialect` the URI
-   that jschema_upgrade got. The texts of JSON Pointers in the upgraded document stand in `pointers` as those of
+/* Where parts of an upgraded document come from in the document as it was: `document` is its text, and `dialect` the
+   URI that jschema_upgrade got. The texts of JSON Pointers in the upgraded document stand in `pointers` as those of
    jschema_positions do. Leaves a JSON array and a line feed as the text: for each pointer that of the part which it
    comes from, or null where nothing stands there. What the upgrade made of a part by itself, such as `required` of the
    members of a draft-03 schema, comes from that part. The handle may hold anything, and stays as it is.

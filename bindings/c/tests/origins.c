@@ -29,9 +29,11 @@ static void expect_origins(const char *dialect, const char *document, const char
 
 /* By the sections that each keyword has in its draft (docs/MIGRATING.md). */
 static void test_drafts(void) {
-    expect_origins(SEVEN, "{\"definitions\": {\"a/b\": {\"items\": [true, {\"type\": \"null\"}], \"additionalItems\": {}}}}",
+    expect_origins(SEVEN, "{\"definitions\": {\"a/b\": {\"items\": [true, {\"type\": \"null\"}],"
+                   " \"additionalItems\": {}}}}",
                    "/$defs/a~1b/prefixItems/1/type\n/$defs/a~1b/items\n/$defs\n\n",
-                   "[\"/definitions/a~1b/items/1/type\",\"/definitions/a~1b/additionalItems\",\"/definitions\",\"\"]\n");
+                   "[\"/definitions/a~1b/items/1/type\",\"/definitions/a~1b/additionalItems\","
+                   "\"/definitions\",\"\"]\n");
     expect_origins(SEVEN, "{\"dependencies\": {\"a\": [\"b\"], \"c\": {\"minimum\": 1}}}",
                    "/dependentRequired/a\n/dependentRequired/a/0\n/dependentSchemas/c/minimum\n",
                    "[\"/dependencies/a\",\"/dependencies/a\",\"/dependencies/c/minimum\"]\n");

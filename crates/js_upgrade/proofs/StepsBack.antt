@@ -31,7 +31,8 @@ led_on : (out rest : Tokens) (found : Option Back) (s : Reached)
     → option_map (reached_by out) found ≡ Some s → joined out (onward rest found) ≡ onward_seen rest s
 led_on out rest None s e = absurd (cc)
 led_on out rest (Some b) s e =
-    joined_twice out b.into (original b.way b.dialect b.value rest) ∙ ap (onward_seen rest) (some_is (reached_by out b) s e)
+    joined_twice out b.into (original b.way b.dialect b.value rest)
+    ∙ ap (onward_seen rest) (some_is (reached_by out b) s e)
   where
     some_is : {A : Type 0} (a b : A) → Some a ≡ Some b → a ≡ b
     some_is a b e = cc
