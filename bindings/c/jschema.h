@@ -133,8 +133,8 @@ uint32_t jschema_add(jschema *handle, const uint8_t *uri, size_t uri_length,
                      const uint8_t *document, size_t document_length);
 
 /* Upgrades the documents that were added from the drafts that they name (draft-03 to 2019-09) to 2020-12, all together:
-   a reference of one may lead into another. The upgraded schema gives an instance the verdict of its own draft, except
-   where docs/MIGRATING.md says otherwise; that is tested, and not proved. `dialect` is the URI of the dialect of each
+   a reference of one may lead into another. The upgraded schema gives an instance the verdict of its own draft; that is
+   tested, and not proved. docs/MIGRATING.md says what can't be upgraded. `dialect` is the URI of the dialect of each
    document that names none, as `$schema` would have it; of length 0, that is 2020-12. Documents of 2020-12 stay as they
    are, so the call may be made whatever the documents are. Afterwards the places in refusals and in outputs are those
    of the upgraded documents. More documents can be added and upgraded.
