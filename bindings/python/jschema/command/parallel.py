@@ -1,0 +1,77 @@
+"""Lines that are checked in several processes."""
+from __future__ import annotations
+
+import time
+from collections.abc import Generator, Iterable, Iterator, Sequence
+from contextlib import closing
+from functools import partial
+from typing import NamedTuple, Optional
+
+from .inputs import Lines
+from .jobs import side_by_side
+from .problems import Problem
+from .results import Checker, Result, Status
+from .workers import Workers
+
+# The most lines that a process gets at once, and how many seconds it is meant to take for them.
+_MOST, _SOON = 256, 0.02
+
+# A result without its input.
+_Outcome = tuple[Status, Sequence[Problem], bytes]
+_VALID: _Outcome = (Status.VALID, (), b"")
+
+
+def results_of_lines(checker: Checker, given: Iterable[Lines], jobs: int) -> Generator[Result, None, None]:
+    """The results in the order of the lines, each soon after it is known. So many processes check them.
+
+    Raises `EngineError` if one of these ends.
+    """
+    with Workers(partial(_checked, checker), jobs) as workers:
+        pace = _Pace()
+
+        def ask(lines: Lines) -> list[Result]:
+            begin = time.monotonic()
+            checked = workers.ask(lines)
+            pace.took(len(lines.texts), time.monotonic() - begin)
+            checker.missing.update(checked.missing)
+            return [Result(it, *(outcome or _VALID)) for it, outcome in zip(lines.inputs(), checked.outcomes)]
+
+        with closing(side_by_side(ask, pace.portions(given), jobs)) as answers:
+            for results in answers:
+                yield from results
+
+
+class _Checked(NamedTuple):
+    """What came of lines: None for one that is valid, and of which nothing else is reported; and the formats that
+    couldn't be checked."""
+
+    outcomes: list[Optional[_Outcome]]
+    missing: dict[str, str]
+
+
+def _checked(checker: Checker, lines: Lines) -> _Checked:
+    """Checks lines in another process."""
+    outcomes = (result[1:] for result in map(checker.result, lines.inputs()))
+    return _Checked([None if it == _VALID else it for it in outcomes], checker.missing)
+
+
+class _Pace:
+    """How many lines a process gets at once. The answer to the first waits for that to the last, so there are few where
+    each takes long."""
+
+    def __init__(self) -> None:
+        self._count = 1
+
+    def portions(self, given: Iterable[Lines]) -> Iterator[Lines]:
+        """The same lines, as many at once as are checked soon."""
+        for lines in given:
+            begin, count = 0, self._count
+            while begin + count < len(lines.texts):
+                yield lines._replace(line=lines.line + begin, texts=lines.texts[begin:begin + count])
+                begin, count = begin + count, self._count
+            yield lines._replace(line=lines.line + begin, texts=lines.texts[begin:])
+
+    def took(self, count: int, seconds: float) -> None:
+        """Takes how long some lines took."""
+        if count >= self._count or seconds > _SOON:
+            self._count = max(1, min(_MOST, 2 * self._count, int(count * _SOON / max(seconds, _SOON / _MOST))))
