@@ -4,7 +4,6 @@ from __future__ import annotations
 import time
 from collections.abc import Generator, Iterable, Iterator, Sequence
 from contextlib import closing
-from functools import partial
 from typing import NamedTuple, Optional
 
 from .inputs import Lines
@@ -21,26 +20,6 @@ _Outcome = tuple[Status, Sequence[Problem], bytes]
 _VALID: _Outcome = (Status.VALID, (), b"")
 
 
-def results_of_lines(checker: Checker, given: Iterable[Lines], jobs: int) -> Generator[Result, None, None]:
-    """The results in the order of the lines, each soon after it is known. So many processes check them.
-
-    Raises `EngineError` if one of these ends.
-    """
-    with Workers(partial(_checked, checker), jobs) as workers:
-        pace = _Pace()
-
-        def ask(lines: Lines) -> list[Result]:
-            begin = time.monotonic()
-            checked = workers.ask(lines)
-            pace.took(len(lines.texts), time.monotonic() - begin)
-            checker.missing.update(checked.missing)
-            return [Result(it, *(outcome or _VALID)) for it, outcome in zip(lines.inputs(), checked.outcomes)]
-
-        with closing(side_by_side(ask, pace.portions(given), jobs)) as answers:
-            for results in answers:
-                yield from results
-
-
 class _Checked(NamedTuple):
     """What came of lines: None for one that is valid, and of which nothing else is reported; and the formats that
     couldn't be checked."""
@@ -49,10 +28,29 @@ class _Checked(NamedTuple):
     missing: dict[str, str]
 
 
-def _checked(checker: Checker, lines: Lines) -> _Checked:
-    """Checks lines in another process."""
-    outcomes = (result[1:] for result in map(checker.result, lines.inputs()))
-    return _Checked([None if it == _VALID else it for it in outcomes], checker.missing)
+def results_of_lines(checker: Checker, given: Iterable[Lines], jobs: int) -> Generator[Result, None, None]:
+    """The results in the order of the lines, each soon after it is known. So many processes check them.
+
+    Raises `EngineError` if one of these ends.
+    """
+    pace = _Pace()
+
+    def check(lines: Lines) -> _Checked:
+        """In each of the processes."""
+        outcomes = (result[1:] for result in map(checker.result, lines.inputs()))
+        return _Checked([None if it == _VALID else it for it in outcomes], checker.missing)
+
+    def ask(lines: Lines) -> list[Result]:
+        """In this one."""
+        begin = time.monotonic()
+        checked = workers.ask(lines)
+        pace.took(len(lines.texts), time.monotonic() - begin)
+        checker.missing.update(checked.missing)
+        return [Result(it, *(outcome or _VALID)) for it, outcome in zip(lines.inputs(), checked.outcomes)]
+
+    with Workers(check, jobs) as workers, closing(side_by_side(ask, pace.portions(given), jobs)) as answers:
+        for results in answers:
+            yield from results
 
 
 class _Pace:

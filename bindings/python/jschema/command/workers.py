@@ -108,7 +108,7 @@ def _work(call: Callable[[Any], Any], connection: Connection, others: Sequence[C
         while True:
             connection.send(_answer(call, connection.recv()))
     except BaseException:
-        # (Whatever it is, the other side notices. What waited to be written when this process was forked, isn't here.)
+        # (Whatever it is, the other side notices, and says so.)
         os._exit(1)
 
 
