@@ -21,11 +21,12 @@ _VALID: _Outcome = (Status.VALID, (), b"")
 
 
 class _Checked(NamedTuple):
-    """What came of lines: None for one that is valid, and of which nothing else is reported; and the formats that
-    couldn't be checked."""
+    """What came of lines: None for one that is valid, and of which nothing else is reported; the formats that couldn't
+    be checked; and how long it took, without the ways between the processes."""
 
     outcomes: list[Optional[_Outcome]]
     missing: dict[str, str]
+    seconds: float
 
 
 def results_of_lines(checker: Checker, given: Iterable[Lines], jobs: int) -> Generator[Result, None, None]:
@@ -37,14 +38,14 @@ def results_of_lines(checker: Checker, given: Iterable[Lines], jobs: int) -> Gen
 
     def check(lines: Lines) -> _Checked:
         """In each of the processes."""
-        outcomes = (result[1:] for result in map(checker.result, lines.inputs()))
-        return _Checked([None if it == _VALID else it for it in outcomes], checker.missing)
+        begin = time.monotonic()
+        outcomes = [None if (it := result[1:]) == _VALID else it for result in map(checker.result, lines.inputs())]
+        return _Checked(outcomes, checker.missing, time.monotonic() - begin)
 
     def ask(lines: Lines) -> list[Result]:
         """In this one."""
-        begin = time.monotonic()
         checked = workers.ask(lines)
-        pace.took(len(lines.texts), time.monotonic() - begin)
+        pace.took(len(lines.texts), checked.seconds)
         checker.missing.update(checked.missing)
         return [Result(it, *(outcome or _VALID)) for it, outcome in zip(lines.inputs(), checked.outcomes)]
 
