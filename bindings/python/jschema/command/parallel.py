@@ -24,7 +24,7 @@ class _Checked(NamedTuple):
     """What came of lines: None for one that is valid, and of which nothing else is reported; the formats that couldn't
     be checked; and how long it took, without the ways between the processes."""
 
-    outcomes: list[Optional[_Outcome]]
+    outcomes: Sequence[Optional[_Outcome]]
     missing: dict[str, str]
     seconds: float
 
