@@ -14,7 +14,7 @@ const MOST_CALLS = 1_000_000;
 const { documents, olderDocuments, entry, instance, call, seconds } = JSON.parse(readFileSync(0, "utf8"));
 const value = JSON.parse(instance);
 
-/** What is timed, by its name; each answers the verdict, but for `output`. */
+/** What is timed, by its name; each returns the verdict, but for `output`. */
 const CALLS = {
   "output flag": async () => outputIn("flag"),
   "output basic": async () => outputIn("basic"),

@@ -88,7 +88,7 @@ def aws_sam(items):
 
 
 def serverless(operation):
-    """A function that answers an operation."""
+    """A function that returns an operation."""
     http = operation["http"]
     errors = {it["shape"]: str(400 + number) for number, it in enumerate(operation.get("errors", []))}
     api = {"Type": "Api", "Properties": {"Path": http["requestUri"], "Method": http["method"].lower()}}

@@ -19,7 +19,7 @@ def faster_than_inside(found, inside):
 def in_turns(timers, inside, least=LEAST, most=MOST):
     """The least figures of each timer, of `least` turns or more: until no call is faster than the one inside it.
 
-    A timer answers microseconds, the least first; `inside` has pairs of timers, the second of a call that the first one
+    A timer returns microseconds, the least first; `inside` has pairs of timers, the second of a call that the first one
     makes. Raises `Noisy` after `most` turns.
     """
     found = dict.fromkeys(timers)

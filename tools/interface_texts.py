@@ -253,7 +253,7 @@ def javascript_tables(interface):
                        for it in sorted(interface["refusal"], key=lambda it: it["name"]))
     return ("/** The formats of the standard, and `merged`: `detailed` with each error once. */\n"
             f"export const FORMATS = Object.freeze([{formats}]);\n\n"
-            f"/** What a call of the module answers. */\nexport const {statuses};\n\n"
+            f"/** What a call of the module returns. */\nexport const {statuses};\n\n"
             "/** What is refused, by its number, and whether the refusal has a place in it. */\n"
             f"export const SUBJECTS = Object.freeze({{\n{subjects}}});\n\n"
             f"/** Each kind of refusal, by its number. */\nexport const KINDS = Object.freeze({{\n{kinds}}});\n\n"

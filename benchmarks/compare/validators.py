@@ -53,7 +53,7 @@ class Tool:
         return (done.stdout.splitlines() or [""])[0].partition(" ")[2].partition(" ")[2] or None
 
     def verdicts(self, mode, done):
-        """Whether each instance is valid; none where it answers no verdict on one of them."""
+        """Whether each instance is valid; none where it has no verdict on one of them."""
         words = [line.split(" ")[0] for line in done.stdout.removesuffix("\n").split("\n")]
         known = done.returncode == 0 and set(words) <= {"valid", "invalid"}
         return [word == "valid" for word in words] if known else None
@@ -147,7 +147,7 @@ def valijson(folder):
     built = ["g++", "-O2", "-std=c++14", "-o", program, os.path.join(DRIVERS, "valijson_driver.cpp")]
     if not os.path.isdir("/usr/include/valijson") or output_of(*built) is None:
         return "valijson: libvalijson-dev or rapidjson-dev isn't installed, or g++ fails"
-    asked = {"verdict": "the verdict alone", "errors": "all errors"}
+    asked = {"verdict": "the verdict alone, up to the first error", "errors": "all errors"}
     return Tool("valijson", package_version("libvalijson-dev"), 7, (program,), asked)
 
 

@@ -54,7 +54,7 @@ typedef struct {
 
 #define JSCHEMA_EMPTY {NULL, false}
 
-/* What a call answers: the same numbers as the exit statuses of the program `jschema`.
+/* What a call returns: the same numbers as the exit statuses of the program `jschema`.
    interface: statuses */
 enum {
     JSCHEMA_DONE = 0,    /* done; of a check: the instance is valid */
@@ -78,7 +78,7 @@ enum {
 /* Why an input is refused. interface: refusals */
 enum {
     JSCHEMA_NOT_JSON = 1,           /* not a JSON text, or nested deeper than 127 */
-    JSCHEMA_NOT_WHOLE = 2,          /* a number that isn't whole, or is beyond 64 bits */
+    JSCHEMA_NOT_WHOLE = 2,          /* not an integer in plain digits, as 0.5, 1.0, 1e2 and -0, or beyond 64 bits */
     JSCHEMA_BAD_URI = 3,            /* not an absolute URI, or its fragment can't be used here */
     JSCHEMA_TOO_MANY_DOCUMENTS = 4, /* more than 1,000 schema documents */
     JSCHEMA_URI_TOO_LONG = 5,       /* a URI of more than 65,536 bytes */
@@ -133,15 +133,16 @@ uint32_t jschema_add(jschema *handle, const uint8_t *uri, size_t uri_length,
                      const uint8_t *document, size_t document_length);
 
 /* Upgrades the documents that were added from the drafts that they name (draft-03 to 2019-09) to 2020-12, all together:
-   a reference of one may lead into another. The schema of each gives every instance the verdict of its own draft.
-   `dialect` is the URI of the dialect of each document that names none, as `$schema` would have it; of length 0, that
-   is 2020-12. Documents of 2020-12 stay as they are, so the call may be made whatever the documents are. Afterwards
-   the places in refusals and in outputs are those of the upgraded documents. More documents can be added and upgraded.
+   a reference of one may lead into another. The upgraded schema gives an instance the verdict of its own draft, except
+   where docs/MIGRATING.md says otherwise; that is tested, and not proved. `dialect` is the URI of the dialect of each
+   document that names none, as `$schema` would have it; of length 0, that is 2020-12. Documents of 2020-12 stay as they
+   are, so the call may be made whatever the documents are. Afterwards the places in refusals and in outputs are those
+   of the upgraded documents. More documents can be added and upgraded.
    JSCHEMA_MISUSED: the handle is empty or finished, or `dialect` isn't the URI of a dialect.
-   JSCHEMA_REFUSED: a document can't be upgraded. jschema_refusal tells the document's number and the place in it, and
-   the kind: JSCHEMA_UNKNOWN_DIALECT, for a `$schema` that names none of the six drafts; JSCHEMA_BAD_KEYWORD, for a
-   `$schema`, an identifier or a reference that is no text; JSCHEMA_URI_TOO_LONG; JSCHEMA_BAD_ID; JSCHEMA_DUPLICATE_URI,
-   for two documents under one URI; JSCHEMA_BAD_REFERENCE; or JSCHEMA_UNRESOLVED.
+   JSCHEMA_REFUSED: a document can't be upgraded. jschema_refusal has the document's number and the place in it, and the
+   kind: JSCHEMA_UNKNOWN_DIALECT, for a `$schema` that names none of the six drafts; JSCHEMA_BAD_KEYWORD, for a
+   `$schema`, an identifier or a reference that is no text, or a keyword that can't be upgraded; JSCHEMA_URI_TOO_LONG;
+   JSCHEMA_BAD_ID; JSCHEMA_DUPLICATE_URI, for two documents under one URI; JSCHEMA_BAD_REFERENCE; or JSCHEMA_UNRESOLVED.
    JSCHEMA_FAILED: out of memory.
    After anything but JSCHEMA_DONE the documents are as before. */
 uint32_t jschema_upgrade(jschema *handle, const uint8_t *dialect, size_t dialect_length);
@@ -184,12 +185,12 @@ uint32_t jschema_check(jschema *handle, size_t entry, const uint8_t *instance, s
    The handle keeps the text, so the call can be repeated with more room. An empty handle has no text: 0. */
 size_t jschema_text(jschema *handle, uint8_t *out, size_t out_length);
 
-/* What the last call refused, if it answered JSCHEMA_REFUSED: why and what, as numbers of the enumerations above; of a
+/* What the last call refused, if it returned JSCHEMA_REFUSED: why and what, as numbers of the enumerations above; of a
    document its number in the order of adding, 0 for the first (one that jschema_add refuses has the number that it
    would have had), else JSCHEMA_NO_DOCUMENT; and the place in the document or in the instance, the text of a JSON
    Pointer ("", the root, for other subjects). As many bytes of the place as fit are copied into `place`; *place_length
    is the length of the whole. The handle keeps all this and its text, so the call can be repeated with more room.
-   JSCHEMA_MISUSED: the last call answered something else. What the pointers name is as before. */
+   JSCHEMA_MISUSED: the last call returned something else. What the pointers name is as before. */
 uint32_t jschema_refusal(jschema *handle, uint32_t *kind, uint32_t *subject, size_t *document, uint8_t *place,
                          size_t place_room, size_t *place_length);
 

@@ -218,7 +218,7 @@ LOCATIONS = "https://a.example/x#\nhttps://a.example/y#\nhttps://a.example/y#/no
 
 
 def of_runs():
-    """Whole runs over devices in memory: their name, documents, entry and input; what they answer and write."""
+    """Whole runs over devices in memory: their name, documents, entry and input; what they return and write."""
     yield run_table("pair", {}, "", "true\nnull", "true", '{"valid":true}\n')
     yield run_table("suite", {}, "", SUITE, "Counts { passed: 1, failed: 1, skipped: 1 }", SUITE_LINES)
     yield run_table("places", {cases.U: EMBEDDED}, "", "", "4", LOCATIONS)
@@ -296,7 +296,7 @@ def of_commands():
 
 
 def asked_of_command(words, given, fails_read, answer, step=1, fails_write=0):
-    """A command whose output takes `step` bytes a call. What it answers: its status, how often its output was called,
+    """A command whose output takes `step` bytes a call. What it returns: its status, how often its output was called,
     what that took, and what went to standard error."""
     status, calls, written, line = answer
     return Question(("command", given, str(fails_read), str(step), str(fails_write), *words),

@@ -91,7 +91,7 @@ def refused_pair(device):
 
 
 class Device:
-    """A run over devices that fail, and what it answers over those that don't."""
+    """A run over devices that fail, and what it returns over those that don't."""
 
     def __init__(self, room, case):
         self.room, self.case, self.own = room, case, case.wanted()
@@ -100,12 +100,12 @@ class Device:
         return preloaded(self.room, self.room.program, self.case.words, self.case.given, **how)
 
     def reads(self, what, **how):
-        """Fails each read in turn: nothing is out then. Answers how many there are."""
+        """Fails each read in turn: nothing is out then. Returns how many there are."""
         return in_turn(self.room, f"{self.case.name}, {what}", lambda number: self.run(FAIL_READ=number, **how),
                        lambda got, reported: self.judge((b"", NO_READ, 4), got, reported))
 
     def writes(self, what, **how):
-        """Fails each write in turn: what is out is a beginning of the text. Answers how many there are."""
+        """Fails each write in turn: what is out is a prefix of the text. Returns how many there are."""
         return in_turn(self.room, f"{self.case.name}, {what}",
                        lambda number: self.run(FAIL_WRITE=number, WRITE_ON=1, **how),
                        lambda got, reported: self.judge((self.own[0][:len(got[0])], NO_WRITE, 4), got, reported))

@@ -118,7 +118,7 @@ def kit():
 
 
 def preloaded(room, program, words, given=b"", executable=None, **env):
-    """What the program answers with the library of preload.c loaded before it, and what that reports."""
+    """What the program writes with the library of preload.c loaded before it, and what that reports."""
     if not os.path.exists("preload.so"):
         subprocess.run([f"{kit()}/toolchain/bin/clang", "-O1", "-fPIC", "-shared", "-nostdlib", "-o", "preload.so",
                         os.path.join(HERE, "preload.c")], check=True)

@@ -1,4 +1,4 @@
-/* Each call in each state of a handle: what it answers, and the text afterwards. Prints a line for each that differs;
+/* Each call in each state of a handle: what it returns, and the text afterwards. Prints a line for each that differs;
    the last line is 'N passed, M failed'. */
 #include "expecting.h"
 

@@ -1,4 +1,4 @@
-/* What the tests of calls share: each counts a call, and prints a line for one that answers otherwise. */
+/* What the tests of calls share: each counts a call, and prints a line for one that differs. */
 #ifndef EXPECTING_H
 #define EXPECTING_H
 
@@ -6,7 +6,7 @@
 
 static int passed, failed;
 
-/* Counts a call that answers `status` and leaves this text. */
+/* Counts a call that returns `status` and leaves this text. */
 static inline void expect(const char *what, jschema *handle, uint32_t got, uint32_t wanted, const char *said) {
     text is = text_of(handle);
     if (got == wanted && is.length == strlen(said) && memcmp(is.bytes, said, is.length) == 0) {
@@ -59,7 +59,7 @@ static inline void expect_no_refusal(const char *what, jschema *handle) {
     expect_that(what, holds);
 }
 
-/* Prints the counts, and answers the program's status. */
+/* Prints the counts, and returns the program's status. */
 static inline int counted(void) {
     printf("%d passed, %d failed\n", passed, failed);
     return failed != 0;

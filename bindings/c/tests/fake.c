@@ -1,4 +1,4 @@
-/* A library that is wrong, for the tests of ../test: each call does ACT and answers STATUS, and every text is ANSWER,
+/* A library that is wrong, for the tests of ../test: each call does ACT and returns STATUS, and every text is ANSWER,
    or with RIGHT_SHAPE 'valid' in the format of the last check. */
 #include "jschema.h"
 #include <stdlib.h>

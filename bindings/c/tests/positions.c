@@ -1,4 +1,4 @@
-/* Where values stand in a text: what jschema_positions answers. Prints a line for each call that differs; the last line
+/* Where values stand in a text: what jschema_positions returns. Prints a line for each call that differs; the last line
    is 'N passed, M failed'. */
 #include "common.h"
 
@@ -15,7 +15,7 @@ static void expect_that(const char *what, int holds) {
 #define NOTHING {NOWHERE, NOWHERE, NOWHERE, NOWHERE, NO_NAME}
 #define MOST_POINTERS 16
 
-/* Counts a call that answers `status` and gives these positions; unless that is JSCHEMA_DONE, they have to stay. */
+/* Counts a call that returns `status` and gives these positions; unless that is JSCHEMA_DONE, they have to stay. */
 static void expect_positions(const char *what, const uint8_t *text, size_t length, const char *const *pointers,
                              size_t count, uint32_t status, const jschema_position *wanted) {
     jschema_position found[MOST_POINTERS], before[MOST_POINTERS];

@@ -1,5 +1,5 @@
 /* Checks on a thread whose stack has as many KB as the argument says, under the limits that fit it. Each schema is as a
-   stranger could send it: the thread answers or refuses, and never ends the process. Prints 'ended'. */
+   stranger could send it: the thread's check ends or is refused, and never ends the process. Prints 'ended'. */
 #include "common.h"
 #include <pthread.h>
 

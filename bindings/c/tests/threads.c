@@ -1,4 +1,4 @@
-/* Eight threads, each with a handle on the same schemas: the answers are those of one thread. */
+/* Eight threads, each with a handle on the same schemas: the results are those of one thread. */
 #include "common.h"
 #include <pthread.h>
 
@@ -6,7 +6,7 @@ enum { THREADS = 8, CHECKS = 400 };
 
 #define SCHEMA "{\"properties\": {\"age\": {\"minimum\": 0}}, \"additionalProperties\": {\"pattern\": \"^a+$\"}}"
 
-/* Instances, and what a check of each answers. */
+/* Instances, and what a check of each returns. */
 static const struct {
     const char *text;
     uint32_t status;

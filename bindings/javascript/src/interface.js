@@ -4,7 +4,7 @@
 /** The formats of the standard, and `merged`: `detailed` with each error once. */
 export const FORMATS = Object.freeze(["flag", "basic", "detailed", "verbose", "merged"]);
 
-/** What a call of the module answers. */
+/** What a call of the module returns. */
 export const DONE = 0, INVALID = 1, REFUSED = 3, FAILED = 4;
 
 /** What is refused, by its number, and whether the refusal has a place in it. */

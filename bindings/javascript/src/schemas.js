@@ -155,7 +155,7 @@ export class Schemas {
     return this.#handle;
   }
 
-  /** What the module answers about an instance. */
+  /** What the module returns about an instance. */
   #asked(entry, text, ask) {
     const handle = this.#open();
     try {

@@ -34,7 +34,7 @@ def digest(text):
 
 def write_rows(path, program, answer_of):
     """Each check of the rows in every format, as rows.test.js reads it: the row's own format with what the row has, the
-    others with what the program answers; of the texts the SHA-256. `own` says how many are the row's. Returns how many
+    others with what the program writes; of the texts the SHA-256. `own` says how many are the row's. Returns how many
     cases there are."""
     words = {f"{row}/{run}": words for row, run, words in runs()}
     asked = {}

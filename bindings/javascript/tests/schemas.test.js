@@ -1,4 +1,4 @@
-/** What Schemas answers and throws, and how it goes on after a fault. */
+/** What Schemas returns and throws, and how it goes on after a fault. */
 import assert from "node:assert/strict";
 import { readFileSync } from "node:fs";
 import { test } from "node:test";

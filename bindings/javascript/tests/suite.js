@@ -11,7 +11,7 @@ function refusal({ subject, index, kind }) {
   return { subject, index, kind };
 }
 
-/** What a call answers, or the refusal that it throws. */
+/** What a call returns, or the refusal that it throws. */
 function told(call) {
   try {
     return call();

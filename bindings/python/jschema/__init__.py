@@ -6,11 +6,11 @@
 """
 from .engine import FORMATS, Answer, Engine
 from .errors import EngineError, EngineNotFound, Refused, ValidationError, best_first
+from .faults import NotJson
 from .interface import VERSION as __version__
 from .library import LibraryEngine
 from .positions import Position, Text
 from .program import ProgramEngine
-from .scanner import NotJson
 from .schemas import Schemas
 from .upgrading import upgrade
 from .validators import DetailedError, SchemaError, Validator, best_match, validate, validator_for

@@ -5,7 +5,10 @@ import json
 from typing import Any
 
 from .errors import EngineError
-from .scanner import Node, scan
+from .outside import BRACKET, outside_of_strings
+
+# How many levels of a text that nests deep are read at once.
+_LEVELS = 100
 
 
 def parse(text: bytes) -> Any:
@@ -34,28 +37,42 @@ def _value(text: bytes) -> Any:
         return without_recursion(text)
 
 
+class _Piece:
+    """A value whose inner values of a certain level have been read before it: their values, and the text around
+    them."""
+
+    def __init__(self) -> None:
+        self.values: list[Any] = []
+        self.around: list[bytes] = []
+
+    def read(self, last: bytes) -> Any:
+        """The value, whose text ends with this. What stands for a value that was read is NaN, which JSON hasn't."""
+        rest = self.values[::-1]
+
+        def known(name: str) -> Any:
+            if not rest:
+                raise ValueError(f"{name} in an output")
+            return rest.pop()
+
+        return json.loads(b"NaN".join([*self.around, last]), parse_constant=known)
+
+
 def without_recursion(text: bytes) -> Any:
-    """The value of a JSON text, however deep it nests."""
-    root = scan(text, deepest=None)
-    value = _begun(text, root)
-    open_holders = [(root, value)]
-    while open_holders:
-        node, holder = open_holders.pop()
-        for key, child in _children(node):
-            begun = _begun(text, child)
-            if isinstance(holder, list):
-                holder.append(begun)
+    """The value of a JSON text, however deep it nests: read in pieces of some levels, the innermost first. Raises
+    `ValueError` for what isn't JSON."""
+    pieces = [_Piece()]
+    at = level = 0
+    for bracket in BRACKET.finditer(outside_of_strings(text)):
+        begins = bracket[0] in b"[{"
+        level -= not begins
+        if level > 0 and level % _LEVELS == 0:
+            if begins:
+                pieces[-1].around.append(text[at:bracket.start()])
+                pieces.append(_Piece())
+                at = bracket.start()
             else:
-                holder[key] = begun
-            if child.children is not None:
-                open_holders.append((child, begun))
-    return value
-
-
-def _begun(text: bytes, node: Node) -> Any:
-    """A scalar's value, or an empty array or object."""
-    return json.loads(text[node.offset:node.end]) if node.children is None else type(node.children)()
-
-
-def _children(node: Node) -> list[tuple[Any, Node]]:
-    return list(node.children.items() if isinstance(node.children, dict) else enumerate(node.children or ()))
+                value = pieces.pop().read(text[at:bracket.end()])
+                pieces[-1].values.append(value)
+                at = bracket.end()
+        level += begins
+    return pieces[0].read(text[at:])

@@ -13,10 +13,10 @@ from collections.abc import Iterable, Sequence
 from operator import add
 from typing import Callable, NamedTuple, Optional
 
+from .faults import NotJson, first_fault
 from .finder import Value, end_of_text, end_of_value, root
 from .limits import DEEPEST
 from .locations import steps
-from .scanner import scan
 
 # The bytes of UTF-8 that begin no character, and how many bytes are counted at a time.
 _CONTINUATION = bytes(range(0x80, 0xC0))
@@ -136,7 +136,9 @@ class Text:
         if self._root is None:
             if not self._is_json:
                 # (As the library takes it: with any number, and a level more than a text that is validated.)
-                scan(self.data, DEEPEST + 1, any_number=True)
+                fault = first_fault(self.data, DEEPEST + 1, any_number=True)
+                if fault is not None:
+                    raise NotJson(fault)
             self._root = root(self.data)
         return map(self._by_python, itertools.repeat(self._root), pointers)
 

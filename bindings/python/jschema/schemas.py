@@ -152,7 +152,7 @@ class Schemas:
         raise TypeError("Schemas can't be pickled: send the documents, and make one Schemas in each process")
 
     def _judge(self, call: Callable[..., _Judged], entry: str, text: bytes, *more: str) -> _Judged:
-        """What a call of the engine answers about an instance. One that isn't refused has no number to rewrite."""
+        """What a call of the engine returns for an instance. One that isn't refused has no number to rewrite."""
         uri = self._rewriting.entry(entry)
         try:
             try:

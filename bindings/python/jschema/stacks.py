@@ -57,7 +57,7 @@ os.register_at_fork(after_in_child=_after_fork)
 
 
 def on_large_stack(call: Callable[..., _Result], *arguments: Any) -> _Result:
-    """What a call answers. It is made on a thread of its own where the stack of this one is small or unknown."""
+    """What a call returns. It is made on a thread of its own where the stack of this one is small or unknown."""
     return call(*arguments) if _stack.is_large else _on_own_thread(call, arguments)
 
 

@@ -68,9 +68,9 @@ class Instances(Session):
     def test_not_json(self):
         """What only the validator refuses, and what Python reads beyond JSON."""
         self.start()
-        for text, at in (('["a",\n NaN]', (1, 1, 2)), ('["a", "\\ud800"]', (0, 6, 7)),
-                         ("[" * 200 + "]" * 200, (0, 127, 128)), ("[1e999]", (0, 1, 2)), ('"\x01"', (0, 1, 2)),
-                         ("{} x", (0, 3, 4)), ("[1,]", (0, 3, 4))):
+        for text, at in (('["a",\n NaN]', (1, 1, 2)), ("[1e999, -Infinity]", (0, 8, 9)),
+                         ('["a", "\\ud800"]', (0, 6, 7)), ("[" * 200 + "]" * 200, (0, 127, 128)),
+                         ("[1e999]", (0, 1, 2)), ('"\x01"', (0, 1, 2)), ("{} x", (0, 3, 4)), ("[1,]", (0, 3, 4))):
             with self.subTest(text[:20]):
                 self.assertEqual(shown(self.open(f"{len(text)}.person.json", text)), [(*at, "syntax")])
 

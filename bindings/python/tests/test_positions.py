@@ -1,4 +1,5 @@
 """Positions in JSON texts, against the reference's reader."""
+import itertools
 import json
 import re
 import unittest
@@ -7,31 +8,22 @@ from unittest import mock
 import jschema
 from commands import Case
 from jschema import NotJson, Text, positions, sources
+from jschema.faults import first_fault
 from jschema.library import find_library
+from jschema.limits import DEEPEST
 from jschema.lint import lint
 from jschema.locations import pointer
 from jschema.lsp.diagnostics import Diagnoses
 from jschema.lsp.documents import Document
 from jschema.lsp.workspace import Workspace
-from jschema.scanner import scan
 from jschema.sources import JsonSource
+from random_faults import SAMPLE, is_json
+from test_faults import JSON, NOT_JSON
 from tests.reference import json_text
 from tests.support.rows import texts
 
 # Of the rows, two arrays of a million numbers are larger.
 LARGE = 100_000
-SAMPLE = ('{"a\\u00e9" : [1, -20.5e+1,\n "\\ud83d\\ude00é", {}], "b/~": {"": null}, '
-          '"b/~": [true,\r\n\t[], false]}\n').encode()
-JSON = (
-    b"-0", b"1E-5", b"1e308", b'"\\u0000"', b"\r\n1\r\n", b"[[], {}]", b'"\\/\\b"', b'{"": 1, "": 2}',
-    b"123456789012345678901234567890", b"-1.5e-999", b'"\x7f"', b"\t\n[]", b'{"a":{"a":{}}}',
-)
-NOT_JSON = (
-    b"", b" ", b"01", b"-", b"1.", b"1e", b"+1", b".5", b"1e400", b"1" * 400, b"\xef\xbb\xbf1", b"NaN", b"-Infinity",
-    b'"\\ud800"', b'"\t"', b'"\\udc00\\ud800"', b'"\\ud800\\u0041"', b'"\\x41"', b'"\\u12g4"', b'"a', b"'a'",
-    b"[1,]", b'{"a":1,}', b"[,1]", b"[1 2]", b'{"a" 1}', b"{1:1}", b"[}", b"{]", b"[1]]", b"nul", b"True", b"1 1",
-    b"\x0b1",
-)
 
 
 def by_python(*_):
@@ -59,13 +51,55 @@ def naive(data, offset):
     return before.count("\n") + 1, len(before) - before.rfind("\n")
 
 
+class Node:
+    """A value that the reference read: its first byte, the byte after it, that of its member's name, what it holds."""
+
+    def __init__(self, offset, name):
+        self.offset, self.name, self.end = offset, name, None
+        self.children = {}
+
+
+class Placing(json_text.Reader):
+    """The reference's reader, which notes where the values stand."""
+
+    def __init__(self, data):
+        super().__init__(data.decode())
+        # Where each character begins.
+        self.bytes = [*itertools.accumulate((len(it.encode()) for it in self.text), initial=0)]
+        # The last string that is the name of a member, and where it begins.
+        self.name = None, None
+        self.root = Node(None, None)
+        self.holder = self.root
+        self.value(0)
+
+    def string(self):
+        begin = self.bytes[self.at]
+        self.name = super().string(), begin
+        return self.name[0]
+
+    def value(self, depth):
+        self.space()
+        name, begin = self.name
+        node, holder = Node(self.bytes[self.at], begin), self.holder
+        holder.children[str(len(holder.children)) if name is None else name] = node
+        self.name, self.holder = (None, None), node
+        value = super().value(depth)
+        self.name, self.holder = (None, None), holder
+        node.end = self.bytes[self.at]
+        return value
+
+
 def nodes(node, tokens=()):
     """Each node below this one, with its tokens."""
-    yield tokens, node
-    children = node.children
-    pairs = children.items() if isinstance(children, dict) else enumerate(children or ())
-    for token, child in pairs:
-        yield from nodes(child, (*tokens, str(token)))
+    for token, child in node.children.items():
+        yield (*tokens, token), child
+        yield from nodes(child, (*tokens, token))
+
+
+def placed(data):
+    """Where each value of a text stands, with its tokens."""
+    root = Placing(data).root.children["0"]
+    return [((), root), *nodes(root)]
 
 
 def value_at(value, tokens):
@@ -74,16 +108,8 @@ def value_at(value, tokens):
     return value
 
 
-def is_json(data):
-    try:
-        json_text.any_value(data)
-    except json_text.NotJson:
-        return False
-    return True
-
-
 def no_json_at(text):
-    """Where a text ceases to be JSON; None if it is JSON."""
+    """Where a text stops being JSON; None if it is JSON."""
     try:
         text.value("")
     except NotJson as error:
@@ -105,14 +131,12 @@ class Positions(unittest.TestCase):
         """A text is read as the reference reads it, and every value and name is where the text has it."""
         text, *known = every_text(data)
         if not is_json(data):
-            with self.assertRaises(NotJson) as raised:
-                scan(data)
-            self.assertLessEqual(raised.exception.offset, len(data))
-            expected = None if is_beyond(data) else raised.exception.offset
+            expected = first_fault(data, DEEPEST + 1, any_number=True)
+            self.assertEqual(expected is None, is_beyond(data))
             self.assertEqual([no_json_at(it) for it in (text, Text(data))], [expected, expected])
             return
         value = json_text.any_value(data)
-        found = list(nodes(scan(data)))
+        found = placed(data)
         self.assertEqual(self.leaves(value), len(found))
         # The values of a text that is known to be JSON are found too, those in the middle of it first.
         for other in known:
@@ -133,7 +157,7 @@ class Positions(unittest.TestCase):
 
     def judge_node(self, text, node, tokens, value):
         if isinstance(value, (dict, list)):
-            self.assertIs(type(node.children), type(value))
+            self.assertEqual(len(node.children), len(value))
             self.assertIn(text.data[node.offset:node.offset + 1] + text.data[node.end - 1:node.end], (b"[]", b"{}"))
         else:
             found = json_text.any_value(text.data[node.offset:node.end])
@@ -157,38 +181,34 @@ class Positions(unittest.TestCase):
                     if len(data) < 3000:
                         self.judge(data)
                     else:
-                        self.assertEqual(self.is_scanned(data), is_json(data))
+                        self.assertEqual(self.is_read(data), is_json(data))
 
     def test_large_row(self):
         """The largest row, by Python's reader: the reference takes long."""
         data = max((data for _, data in texts()), key=len)
         self.assertGreater(len(data), LARGE)
         length = len(json.loads(data))
-        self.assertEqual(len(scan(data).children), length)
+        self.assertIsNone(first_fault(data))
         text = Text(data, is_json=True)
         self.assertEqual(data[text.value(f"/{length - 1}").offset - 1:][:1], b",")
         with self.assertRaises(LookupError):
             text.value(f"/{length}")
 
-    def is_scanned(self, data):
-        try:
-            Text(data).value("")
-        except NotJson:
-            return False
-        return True
+    def is_read(self, data):
+        return no_json_at(Text(data)) is None
 
     def test_sample(self):
         self.judge(SAMPLE)
 
     def test_torn(self):
         for end in range(len(SAMPLE)):
-            self.assertEqual(self.is_scanned(SAMPLE[:end]), is_json(SAMPLE[:end]), SAMPLE[:end])
+            self.assertEqual(self.is_read(SAMPLE[:end]), is_json(SAMPLE[:end]), SAMPLE[:end])
 
     def test_other_bytes(self):
         for at in range(len(SAMPLE)):
             for byte in b'\x00\x1f "\\[]{},:0-.eEtun\x80\xc3\xff':
                 data = SAMPLE[:at] + bytes([byte]) + SAMPLE[at + 1:]
-                self.assertEqual(self.is_scanned(data), is_json(data), data)
+                self.assertEqual(self.is_read(data), is_json(data), data)
 
     def test_texts(self):
         for data in (*JSON, *NOT_JSON):
@@ -206,13 +226,6 @@ class Positions(unittest.TestCase):
         for levels in (128, 129):
             for text in (Text(b"[" * levels + b"]" * levels), Text(b"[" * levels + b"]" * levels, locate=by_python)):
                 self.assertEqual(no_json_at(text), None if levels == 128 else 128)
-        for data, accepted in ((b"[" * 127 + b"]" * 127, True), (b"[" * 128 + b"]" * 128, False), (b"[" * 10**6, False),
-                               (b'{"a":' * 127 + b"1" + b"}" * 127, True), (b'{"a":' * 10**5, False)):
-            with self.subTest(data[:9]):
-                if not accepted:
-                    self.assertRaises(NotJson, scan, data)
-                else:
-                    self.assertEqual(scan(data).end, len(data))
         for text in every_text(b"[" * 127 + b"]" * 127):
             self.assertEqual((text.value("/0" * 126).column, text.span("/0" * 126)), (127, (126, 128)))
 
@@ -304,8 +317,8 @@ class ByTheLibrary(Case):
     def setUp(self):
         if find_library() is None:
             self.skipTest("no library")
-        for module, name in ((positions, "scan"), (positions, "root"), (positions, "end_of_value"),
-                             (positions, "end_of_text"), (sources.source, "scan")):
+        for module, name in ((positions, "first_fault"), (positions, "root"), (positions, "end_of_value"),
+                             (positions, "end_of_text"), (sources.source, "first_fault")):
             patched = mock.patch.object(module, name, side_effect=AssertionError("a pass by Python"))
             patched.start()
             self.addCleanup(patched.stop)
@@ -402,10 +415,10 @@ class ByTheLibrary(Case):
 
 
 class WithoutAPass(unittest.TestCase):
-    """The positions that the engine's answer is enough for: the text isn't scanned again."""
+    """The positions that the engine's answer is enough for: whether the text is JSON isn't looked at again."""
 
     def setUp(self):
-        patched = mock.patch.object(positions, "scan", side_effect=AssertionError("a pass over the whole text"))
+        patched = mock.patch.object(positions, "first_fault", side_effect=AssertionError("a pass over the whole text"))
         patched.start()
         self.addCleanup(patched.stop)
 

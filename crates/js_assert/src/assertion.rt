@@ -192,7 +192,7 @@ impl Assertion {
         }
     }
 
-    /// The text of the error for a value that doesn't meet the assertion. It isn't checked whether the value does.
+    /// The text of the error for a value that doesn't meet the assertion. Whether it does isn't checked.
     ///
     /// # Errors
     /// `Memory`.

@@ -78,7 +78,7 @@ impl Pattern {
         self.regex.as_str()
     }
 
-    /// What searches with the pattern: for many texts, make it once.
+    /// A searcher for the pattern. Make it once for many texts.
     ///
     /// # Errors
     /// `Memory`.

@@ -31,7 +31,7 @@ pub fn patterns_cross()
     crosses::<Option<usize>>();
 }
 
-/// So may an assertion.
+/// Assertions may be sent to another thread and shared by several.
 pub fn assertions_cross()
     ensures send { IsSend Assertions.the_row }
     ensures sync { IsSync Assertions.the_row }

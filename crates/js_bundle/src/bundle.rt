@@ -66,13 +66,13 @@ impl Bundle {
         }
     }
 
-    /// Adds the document that the bytes are the text of, under the URI, after the others. An empty fragment of
+    /// Adds the document with this JSON text under the URI, after the others. An empty fragment of
     /// the URI is dropped.
     ///
     /// # Errors
     /// In this order: `TooManyDocuments`, if there are 1,000 already; `UriTooLong`, if the URI has more than
     /// 65,536 bytes; `BadUri`, if it is no absolute URL, or has a fragment that isn't empty; `NotJson`;
-    /// `NotWhole`, at the first number that isn't whole; `Memory` at any point. The refusal's document is the
+    /// `NotWhole`, at the first number that isn't taken; `Memory` at any point. The refusal's document is the
     /// number of documents added before. The bundle is as it was.
     pub fn add(&mut self, uri: &str, bytes: &[u8]) -> Result<(), Refusal>
         ensures ok { OnOk result (IsAdded self.old uri.now bytes.now self.new) }
@@ -87,7 +87,7 @@ impl Bundle {
         Ok(())
     }
 
-    /// Adds the value under the URI, after the others, as `add` adds the one that it reads.
+    /// Adds a document that was read, under the URI, after the others.
     ///
     /// # Errors
     /// In this order: `TooManyDocuments`, `UriTooLong` and `BadUri`, as of `add`; `Memory` at any point. The value is

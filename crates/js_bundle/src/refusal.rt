@@ -18,7 +18,7 @@ pub enum RefusalKind {
     Memory,
     /// `serde_json` reads no value.
     NotJson,
-    /// A number isn't a whole one from -2^63 to 2^64 - 1.
+    /// A number isn't an integer in plain digits (`0.5`, `1.0`, `1e2` and `-0` aren't) from -2^63 to 2^64 - 1.
     NotWhole,
     /// The document's URI is no absolute URL, or has a fragment that isn't empty.
     BadUri,

@@ -48,7 +48,7 @@ impl Model for Schemas {
 }
 
 impl Schemas {
-    /// Whether the place is one of these schemas'. Each place that a call of these schemas returns is.
+    /// Whether the place is in these schemas. Each place that a call of these schemas returns is.
     pub fn has(&self, place: Place) -> bool
         ensures { result ≡ is_place self.now place }
     {

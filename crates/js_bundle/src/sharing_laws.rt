@@ -29,7 +29,7 @@ pub fn schemas_cross()
     crosses::<Vec<Edges>>();
 }
 
-/// So may a handle on them.
+/// An `Arc` of finished schemas may be sent to another thread and shared by several.
 pub fn handles_cross() {
     schemas_cross();
     crosses::<Arc<Schemas>>();

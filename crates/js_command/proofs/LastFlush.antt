@@ -11,7 +11,7 @@ use Rattle.js_output.specs.declared.fault.Fault.TheVariants as fault
 use Rattle.js_command.specs.Answer.{Performs, IsReported, IsReason}
 use Rattle.js_command.specs.code.Tasks.{first_fault}
 
--- a text that went out whole is a beginning of itself
+-- a text that went out whole is a prefix of itself
 pub whole_begins : (old between new : Option (List ℕ)) (text : List ℕ) → Appends old between text → Keeps between new
     → AppendsBeginning old new text
 whole_begins old between new text sent kept =

@@ -75,7 +75,7 @@ RequestOutcome contents input failed (places pairs) answer =
     × AreContents contents pairs documents
     × PlacesOutcome documents reported) answer
 
--- The verdict is returned if the output's text was written, and `Write` if the sink has failed after a beginning of
+-- The verdict is returned if the output's text was written, and `Write` if the sink has failed after a prefix of
 -- it; any other fault, except lack of memory, if it comes.
 abbrev pub Performs : {D : Type 0} → (Result Output Fault → Type 0) → (D → Option (List ℕ)) → Tracked D → Tracked D
     → Result Bool Fault → Type 0
@@ -86,7 +86,7 @@ Performs Expected taken old new (Err fault.Write) = (output : Output) × Expecte
     × SendsBeginning taken old new output.text
 Performs Expected taken old new (Err f) = Expected (Err f)
 
--- a text was written; or the device has failed, after a beginning of it
+-- a text was written; or the device has failed, after a prefix of it
 abbrev pub IsWrittenOrFailed : Option (List ℕ) → Option (List ℕ) → Bool → List ℕ → Type 0
 IsWrittenOrFailed old new failed text = Appends old new text ⊎ ((failed ≡ true) × AppendsBeginning old new text)
 
@@ -95,11 +95,11 @@ abbrev pub IsReported : (Result Output Fault → Type 0) → Bool → Option (Li
 IsReported Expected valid old new = (output : Output) × Expected (Ok output) × (output.valid ≡ valid)
     × Appends old new output.text
 
--- it comes to an output, and a beginning of its text was written
+-- it comes to an output, and a prefix of its text was written
 abbrev pub IsPartlyReported : (Result Output Fault → Type 0) → Option (List ℕ) → Option (List ℕ) → Type 0
 IsPartlyReported Expected old new = (output : Output) × Expected (Ok output) × AppendsBeginning old new output.text
 
--- why a fault is reported: memory ran out; or the output has failed, after a beginning of a text; or this fault comes
+-- why a fault is reported: memory ran out; or the output has failed, after a prefix of a text; or this fault comes
 abbrev pub IsReason : (Result Output Fault → Type 0) → Option (List ℕ) → Option (List ℕ) → Bool → Fault → Type 0
 IsReason Expected old new failed fault.Memory = ⊤
 IsReason Expected old new failed fault.Write = (failed ≡ true) × IsPartlyReported Expected old new

@@ -6,7 +6,7 @@ ghost use Rattle.js_command.specs.Files.{IsFileFault};
 use js_output::Fault;
 use std::alloc::Global;
 
-/// Files by their paths.
+/// The files that a command may read, by their paths.
 pub trait Files {
     // What a file holds, by its path, if that is known. Such a file can be read. Of a disk nothing
     // is known.

@@ -67,7 +67,7 @@ pub fn command<'a, F: Files, R: Read, W: Write, V: Write>(
     ensures nothing { (result ≡ 2) ⊎ (result ≡ 3)
         → Keeps (W.contents out.old.device) (W.contents out.new.device) }
 
-    // Nothing was written; or the output has failed, after a beginning of such a text.
+    // Nothing was written; or the output has failed, after a prefix of such a text.
     ensures beginning { result ≡ 4
         → Keeps (W.contents out.old.device) (W.contents out.new.device)
         ⊎ ((out.new.failed ≡ true) × IsPartlyReported
@@ -76,7 +76,7 @@ pub fn command<'a, F: Files, R: Read, W: Write, V: Write>(
         (W.contents out.old.device) (W.contents out.new.device)) }
 
     // What went to standard error, and its reason: a usage text whole, unless standard error has
-    // failed; of a line maybe only a beginning. After any fault but `Write` nothing was written to
+    // failed; of a line maybe only a prefix. After any fault but `Write` nothing was written to
     // the output.
     ensures quiet { result < 2 → faults.new ≡ faults.old }
     ensures misused { OnErr (request_of (words_of words.entry.now)) ((result ≡ 2) ⊎ ((result ≡ 4)

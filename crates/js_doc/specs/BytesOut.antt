@@ -19,7 +19,7 @@ CallsOnce old new bytes = (old.calls ≤ new.calls) × (new.calls ≤ old.calls 
 abbrev pub Goes : Progress → Progress → List ℕ → Type 0
 Goes old new bytes = Appends old.gone new.gone bytes × CallsOnce old new bytes × (new.stopped ≡ old.stopped)
 
--- a beginning of the bytes has gone out, and it has stopped
+-- a prefix of the bytes has gone out, and it has stopped
 abbrev pub Stops : Progress → Progress → List ℕ → Type 0
 Stops old new bytes =
     (part : List ℕ) × (left : List ℕ) × (part ++ left ≡ bytes) × Appends old.gone new.gone part

@@ -1,4 +1,5 @@
--- The whole numbers of this profile: those that 64 bits hold, with or without a sign.
+-- The whole numbers of this profile: integers in plain digits (`1.0`, `1e2` and `-0` aren't) that 64 bits hold, with or
+-- without a sign.
 use Rattle.std.specs.Prelude.{◌≡◌, ◌<◌, ◌^◌, ℕ, ℤ, pos, negsuc, Bool, true, false, refl}
 
 -- from -2^63 to 2^64 - 1

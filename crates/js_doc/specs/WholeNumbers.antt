@@ -1,5 +1,5 @@
--- What a text that `serde_json` reads is in this profile: a value, if each of its numbers is whole; else the
--- place of the first number that isn't, in preorder, the members of an object by name ascending.
+-- What a text that `serde_json` reads is in this profile: a value, if each of its numbers is whole (`1.0` isn't); else
+-- the place of the first number that isn't, in preorder, the members of an object by name ascending.
 use Rattle.std.specs.Prelude.{ℕ, ◌+◌, pos, List, [], ◌∷◌, Result, Ok, Err, decimal}
 use Rattle.serde_json.specs.Data as json
 use Rattle.serde_json.specs.Data.{Num, unsigned, negative, float, Data}

@@ -20,7 +20,7 @@ impl From<Utf8Error> for Stopped {
     }
 }
 
-/// What takes bytes piece by piece, until it stops.
+/// An output, which takes bytes piece by piece until it stops.
 pub trait Out {
     // How far the bytes have come. A type that doesn't know whether it has stopped always says that it has.
     ghost progress: { Self → Progress };
@@ -28,7 +28,7 @@ pub trait Out {
     /// Puts the bytes out, all of them, with at most one call of a device for each.
     ///
     /// # Errors
-    /// `Stopped`; then a beginning of the bytes has gone out.
+    /// `Stopped`; then a prefix of the bytes has gone out.
     fn put(&mut self, bytes: &[u8]) -> Result<(), Stopped>
         ensures { Puts (progress self.old) (progress self.new) bytes.now result };
 }

@@ -6,7 +6,7 @@ use crate::members::Members;
 use crate::string::Text;
 use crate::whole::Whole;
 
-/// A JSON value whose numbers are whole (RFC 8259, section 3; JSON Schema Core, section 4.2.1).
+/// A JSON value whose numbers are those of [`Whole`] (RFC 8259, section 3; JSON Schema Core, section 4.2.1).
 /// `specs/Value.antt` has what it means: contracts compare values, and never memory.
 #[cycle(doc)]
 #[derive(Debug, Drop)]

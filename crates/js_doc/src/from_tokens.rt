@@ -28,7 +28,7 @@ const MAX_DEPTH: usize = 127;
 /// How many members `put` may move for a name that comes out of order.
 const MOST_MOVED: usize = 256;
 
-/// The value that the bytes are the text of.
+/// The value of a JSON text.
 ///
 /// # Errors
 /// `Memory`.

@@ -9,7 +9,7 @@ use crate::pointer::Pointer;
 use crate::pointer_reading::PointerFault;
 use std::alloc::Global;
 
-/// A value that was put under a name is got under it, and under each other name what was there before.
+/// `get` returns a value that was `put` under the name, and under each other name what was there before.
 pub fn what_is_put_is_got()
     ensures same { (k : List ℕ) (v : Value) (ms : Named) → get k (put k v ms) ≡ Some v }
     ensures others { (k : List ℕ) (l : List ℕ) (v : Value) (ms : Named) → ¬ (l ≡ k)

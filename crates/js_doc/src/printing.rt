@@ -30,7 +30,7 @@ pub fn text(alloc: Global, doc: &Doc) -> Result<String, Memory>
 /// Puts the bytes of the value's compact text. It takes no memory.
 ///
 /// # Errors
-/// `Stopped`; then a beginning of the text has gone out.
+/// `Stopped`; then a prefix of the text has gone out.
 #[cycle(put_text)]
 pub fn put_text<O: Out>(doc: &Doc, out: &mut O) -> Result<(), Stopped>
     ensures { Puts (O.progress out.old) (O.progress out.new) (compact (value_of doc.now)) result }
@@ -49,7 +49,7 @@ pub fn put_text<O: Out>(doc: &Doc, out: &mut O) -> Result<(), Stopped>
 /// Puts the number in plain decimals. It takes no memory.
 ///
 /// # Errors
-/// `Stopped`; then a beginning has gone out.
+/// `Stopped`; then a prefix has gone out.
 pub fn put_number<O: Out>(number: Whole, out: &mut O) -> Result<(), Stopped>
     ensures { Puts (O.progress out.old) (O.progress out.new) (signed_decimal number) result }
 {

@@ -13,7 +13,7 @@ use crate::runs::run_end;
 /// no memory.
 ///
 /// # Errors
-/// `Stopped`; then a beginning has gone out.
+/// `Stopped`; then a prefix has gone out.
 pub fn put_string<O: Out>(text: &str, out: &mut O) -> Result<(), Stopped>
     ensures { Puts (O.progress out.old) (O.progress out.new) (quoted text.now) result }
 {
@@ -40,7 +40,7 @@ pub fn push_string(out: &mut String, text: &str) -> Result<(), Memory>
 /// Writes the text with these bytes between quotation marks, with its escapes. It allocates nothing.
 ///
 /// # Errors
-/// `Stopped`; then a beginning has gone out.
+/// `Stopped`; then a prefix has gone out.
 pub fn put_quoted<O: Out>(bytes: &[u8], out: &mut O) -> Result<(), Stopped>
     ensures { Puts (O.progress out.old) (O.progress out.new) (quoted bytes.now) result }
 {
@@ -53,7 +53,7 @@ pub fn put_quoted<O: Out>(bytes: &[u8], out: &mut O) -> Result<(), Stopped>
 /// allocates nothing.
 ///
 /// # Errors
-/// `Stopped`; then a beginning has gone out.
+/// `Stopped`; then a prefix has gone out.
 pub fn put_escaped<O: Out>(bytes: &[u8], out: &mut O) -> Result<(), Stopped>
     ensures { Puts (O.progress out.old) (O.progress out.new) (escape bytes.now) result }
 {

@@ -24,8 +24,8 @@ pub enum ReadFault {
     Memory,
     /// 2: `serde_json` reads no value. Nesting above 127 is refused so too.
     NotJson,
-    /// 3: a number isn't a whole one from -2^63 to 2^64 - 1. The pointer leads to the first such number in
-    /// preorder, an object's members by name ascending.
+    /// 3: a number isn't an integer in plain digits (`0.5`, `1.0`, `1e2` and `-0` aren't) from -2^63 to 2^64 - 1. The
+    /// pointer leads to the first such number in preorder, an object's members by name ascending.
     NotWhole(Pointer),
 }
 
@@ -52,7 +52,7 @@ impl ReadFault {
     }
 }
 
-/// The value that the bytes are the text of. The names of each of its objects ascend by their bytes, each once, and
+/// The value of a JSON text. The names of each of its objects ascend by their bytes, each once, and
 /// each of its lists has fewer than 2^64 items.
 ///
 /// # Errors
@@ -93,7 +93,7 @@ fn read_tree(alloc: Global, bytes: &[u8]) -> Result<Doc, ReadFault>
     }
 }
 
-/// The value that one of `serde_json`'s is, whose texts are copied.
+/// The same value as one of `serde_json`. Its texts are copied.
 ///
 /// # Errors
 /// `Memory`, or `NotWhole`; `NotJson` never comes.

@@ -3,7 +3,7 @@ ghost use Rattle.js_doc.specs.Whole.{IsWhole};
 
 use std::marker::Model;
 
-/// A whole number from -2^63 to 2^64 - 1: the numbers of this profile.
+/// A whole number of this profile: an integer from -2^63 to 2^64 - 1, written in plain digits (`1.0` isn't).
 #[derive(Clone, Copy, Debug, Drop)]
 pub struct Whole {
     // Of a number below 0, -1 less the number.

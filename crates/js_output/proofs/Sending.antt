@@ -10,7 +10,7 @@ module _ {D : Type 0} (taken : D → Option (List ℕ)) (old new : Tracked D) (b
       → Sends taken old new bytes
   sent-whole stood (went, calls, same) = (went, same ∙ stood, calls.1)
 
-  -- a beginning of it was
+  -- a prefix of it was
   pub sent-part : Stops (progress_of taken old) (progress_of taken new) bytes → SendsBeginning taken old new bytes
   sent-part (part, left, e, went, calls, stopped) = ((part, left, sym e, went), stopped, calls.1)
 

@@ -32,7 +32,7 @@ abbrev pub IsLeft : Option (List ℕ) → List ℕ → Type 0
 IsLeft None bytes = ⊤
 IsLeft (Some known) bytes = known ≡ bytes
 
--- a beginning of `bytes` was written
+-- a prefix of `bytes` was written
 abbrev pub AppendsBeginning : Option (List ℕ) → Option (List ℕ) → List ℕ → Type 0
 AppendsBeginning old new bytes = (sent : List ℕ) × (unsent : List ℕ) × (bytes ≡ sent ++ unsent) × Appends old new sent
 
@@ -43,7 +43,7 @@ abbrev pub Sends : {D : Type 0} → (D → Option (List ℕ)) → Tracked D → 
 Sends taken old new text = Appends (taken old.device) (taken new.device) text × (new.failed ≡ false)
     × (new.calls ≤ old.calls + length text)
 
--- the sink has failed, and a beginning was written
+-- the sink has failed, and a prefix was written
 abbrev pub SendsBeginning : {D : Type 0} → (D → Option (List ℕ)) → Tracked D → Tracked D → List ℕ → Type 0
 SendsBeginning taken old new text = AppendsBeginning (taken old.device) (taken new.device) text × (new.failed ≡ true)
     × (new.calls ≤ old.calls + length text)

@@ -29,7 +29,7 @@ pub record Report (O A : Type 0) : Type 0 where
   pub answer : O → A
   pub text : O → List ℕ
 
--- An expected output is returned if its text was written, and `Write` if a beginning of it was.
+-- An expected output is returned if its text was written, and `Write` if a prefix of it was.
 abbrev pub Reports : {O A D : Type 0} → Report O A → (Result O Fault → Type 0) → (D → Option (List ℕ)) → Tracked D
     → Tracked D → Result A Fault → Type 0
 Reports {O} report Expected taken old new (Ok answer) = (output : O) × Expected (Ok output)

@@ -28,7 +28,7 @@ use std::io::Write;
 /// The first that applies, of: `Entry`, if the entry is refused; `InputTooLarge`, if the instance has
 /// more than 16,777,216 bytes; `Instance`, if its text is refused; `TooLarge`, if no result is within
 /// the standard limits of `js_eval`; `Write`, if the sink has failed. `Memory` can come at any point before
-/// the first write. After `Write` a beginning of the text has been written, and after any other fault
+/// the first write. After `Write` a prefix of the text has been written, and after any other fault
 /// nothing. `Read`, `Refused` and `Suite` never come.
 pub fn run_finished<W: Write>(
     alloc: Global,

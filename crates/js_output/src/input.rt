@@ -12,7 +12,7 @@ use std::io::Read;
 /// The most bytes that an input may have.
 pub(crate) const LIMIT: usize = 16_777_216;
 
-/// All bytes up to the source's end, at most 16,777,216. Each turn reads at least one byte or is the last.
+/// All bytes up to the source's end, at most 16,777,216. Each call of the device but the last reads a byte or more.
 ///
 /// # Errors
 /// `Fault::InputTooLarge`, if there are more; `Fault::Read`, if the source has failed, before this call or in it;

@@ -22,7 +22,7 @@ use std::io::Write;
 ///
 /// # Errors
 /// The first that applies, of: the refusal of a document, in their order; the first refusal of all;
-/// `Write`. `Memory` can come at any point before the first write. After `Write` a beginning of the
+/// `Write`. `Memory` can come at any point before the first write. After `Write` a prefix of the
 /// text has been written, and after any other fault nothing.
 pub fn run_places<W: Write>(
     alloc: Global,

@@ -30,7 +30,7 @@ use std::io::{Read, Write};
 /// The first that applies, of: the refusal of a document, in their order, and the first refusal of
 /// all; that of the entry; `Read` and `InputTooLarge` of the instance's source; the refusal of the
 /// instance's text; `TooLarge`, if no result is within the limits of `js_eval`; `Write`. `Memory` can
-/// come at any point before the first write. After `Write` a beginning of the text has been written,
+/// come at any point before the first write. After `Write` a prefix of the text has been written,
 /// and after any other fault nothing.
 pub fn run<R: Read, W: Write>(
     alloc: Global,

@@ -95,7 +95,7 @@ impl<W: Write> Sink<W> {
     /// Writes all of the bytes, one write after another, and stops at the first that fails.
     ///
     /// # Errors
-    /// `Fault::Write`, after a beginning of them. A sink that has failed returns it at once.
+    /// `Fault::Write`, after a prefix of them. A sink that has failed returns it at once.
     pub fn write_all(&mut self, bytes: &[u8]) -> Result<(), Fault>
         ensures ok { OnOk result
             (Appends (W.contents self.old.device) (W.contents self.new.device) bytes.now) }

@@ -35,7 +35,7 @@ use std::io::{Read, Write};
 /// all, of these documents alone; `Read` and `InputTooLarge` of the suite's source; `Suite`, if its
 /// text isn't JSON, or at the first value that is missing or of the wrong kind: groups in order, the
 /// members of each ascending by name, its tests in order; `Write`. `Memory` can come at any point
-/// before the first write. After `Write` a beginning of the text has been written, and after any
+/// before the first write. After `Write` a prefix of the text has been written, and after any
 /// other fault nothing.
 pub fn run_suite<R: Read, W: Write>(
     alloc: Global,

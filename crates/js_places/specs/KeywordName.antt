@@ -1,4 +1,5 @@
--- Which keyword of the standard a name is (JSON Schema Core, sections 8, 10 and 11; Validation, section 6).
+-- Which keyword of the standard a name is (JSON Schema Core, sections 8, 10 and 11; Validation, section 6); the
+-- assertions share two values, and so do all other names.
 use Rattle.std.specs.Prelude.{List, [], ◌∷◌, Bool, Option, Some, None, is_some, codes, bytes_eq, map, if◌then◌else◌}
 use Rattle.std.specs.Ordering.{is_gt}
 use Rattle.js_doc.specs.Members.{name_cmp}

@@ -15,7 +15,7 @@ pub fn argument<'a>(schema: &'a Doc, keyword: &str) -> Option<&'a Doc>
     }
 }
 
-/// The text that a value is.
+/// The text, if the value is one.
 pub fn as_text(value: &Doc) -> Option<&str>
     ensures { option_copied result ≡ as_text (value_of value.now) }
 {

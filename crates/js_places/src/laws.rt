@@ -8,7 +8,7 @@ pub fn the_list_has_the_places()
     ensures { ListsThePlaces }
 {}
 
-/// It has each once.
+/// The list of a document's places has each place once.
 pub fn the_list_has_each_once()
     ensures { ListsEachOnce }
 {}
@@ -18,7 +18,7 @@ pub fn the_list_has_the_places_of_all()
     ensures { ListsTheirPlaces }
 {}
 
-/// It has each once: no two stand at one pointer of one document.
+/// The list of a bundle's places has each place once: no two are at one pointer of one document.
 pub fn the_list_has_each_of_all_once()
     ensures { ListsTheirsOnce }
 {}

@@ -29,7 +29,7 @@ use js_tree::parts::{put_closed_annotation, put_units_start};
 /// nothing.
 ///
 /// # Errors
-/// `Stopped` if the output stops; then a beginning of the text was written.
+/// `Stopped` if the output stops; then a prefix of the text was written.
 pub fn put_basic<O: Out>(
     rows: &RelativeRows,
     locations: Locations,

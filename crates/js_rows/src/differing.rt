@@ -20,7 +20,7 @@ const MOST_OTHERS: usize = 30;
 // The rank of what begins with no digit. An index has fewer digits.
 const NO_INDEX: usize = 100;
 
-/// Whether it is seen at once that no two siblings stand at the same places. Takes linear time.
+/// True only if no two siblings are at the same places. Takes linear time.
 #[cycle(siblings_differ)]
 pub(crate) fn siblings_differ(rows: &[RelativeRow]) -> bool
     requires { AreTrees rows.now }

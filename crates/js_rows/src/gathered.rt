@@ -16,7 +16,7 @@ pub(crate) struct Gathered {
 const CAPACITY: usize = 8192;
 
 impl Gathered {
-    /// No text, and all the memory that it will need.
+    /// No text, with all the memory that is ever needed.
     ///
     /// # Errors
     /// `Memory` if an allocation fails.
@@ -56,7 +56,7 @@ impl Gathered {
     /// Puts the first bytes out, and forgets the others.
     ///
     /// # Errors
-    /// `Stopped` if the output stops; then a beginning of them was written.
+    /// `Stopped` if the output stops; then a prefix of them was written.
     pub fn put_out<O: Out>(&mut self, count: usize, out: &mut O) -> Result<(), Stopped>
         ensures text { Puts (O.progress out.old) (O.progress out.new) (take count self.old.text.items) result }
         ensures empty { OnOk result (self.new.text.items ≡ []) }

@@ -23,7 +23,7 @@ pub fn merged_tree<'a>(alloc: Global, rows: RelativeRows<'a>) -> Result<Tree<'a>
     Ok(merge_condense(tree))
 }
 
-/// Whether it is seen at once that merging leaves the rows' tree as it is, if that is normal: no two siblings have the
+/// True only if merging leaves the rows' tree as it is, where that is normal: no two siblings have the
 /// same instance location and the same absolute keyword location, so none are alike. False says nothing. Takes linear
 /// time, makes no tree and allocates nothing.
 pub fn is_surely_merged(rows: &RelativeRows) -> bool

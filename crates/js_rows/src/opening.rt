@@ -50,7 +50,7 @@ impl Opening {
         self.keep(schema)
     }
 
-    /// Writes what is kept: with the comma before it if the node isn't the first in its list, and with the slash if
+    /// Writes the stored text: with the comma before it if the node isn't the first in its list, and with the slash if
     /// there is one.
     ///
     /// # Errors

@@ -32,7 +32,7 @@ use js_tree::parts::{put_closed_annotation, put_error_behind, put_list_start};
 /// locations. It allocates nothing.
 ///
 /// # Errors
-/// `Stopped` if the output stops; then a beginning of the text was written.
+/// `Stopped` if the output stops; then a prefix of the text was written.
 pub fn put_verbose<O: Out>(
     rows: &RelativeRows,
     locations: Locations,

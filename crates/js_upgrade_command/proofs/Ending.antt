@@ -74,7 +74,7 @@ module _ (contents : ContentsByPath) (request : Request) (texts : DocumentTexts)
       (refl, (texts, holds, outcome_there request.assumed texts sources (Err r) e h))
   refused_stops sources _ e h = absurd h
 
--- ---- with nothing written, and with a beginning
+-- ---- with nothing written, and with a prefix
 
 pub stops_before : (contents : ContentsByPath) (request : Request) (out : Option (List ℕ)) (failed : Bool)
     (files : Option Written) (d : Option ℕ) (f : Fault) → StopsBy contents request d f

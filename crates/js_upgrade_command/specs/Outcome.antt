@@ -102,7 +102,7 @@ abbrev pub IsAllDone : List (List ℕ) → ContentsByPath → Option (List ℕ) 
 IsAllDone words contents old new before after =
     (request : Request) × (request_of words ≡ Ok request) × IsDone contents request old new before after
 
--- they weren't upgraded, and nothing was written; or a beginning was, and the output has failed, or a file of the
+-- they weren't upgraded, and nothing was written; or a prefix was, and the output has failed, or a file of the
 -- folder. Memory may run out at any point.
 abbrev pub IsStopped : ContentsByPath → Request → Option (List ℕ) → Option (List ℕ) → Bool → Option Written
     → Option Written → Option ℕ → Fault → Type 0

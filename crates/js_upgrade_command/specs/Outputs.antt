@@ -35,13 +35,13 @@ IsWritten None pairs values old new before after = Appends old new (lines_of val
 IsWritten (Some folder) pairs values old new before after =
     Keeps old new × HasPut before after (files_in folder pairs values)
 
--- a beginning of these files was written, and the next one, with this number, isn't
+-- a prefix of these files was written, and the next one, with this number, isn't
 abbrev pub IsPartlyPut : Option Written → Option Written → Written → Option ℕ → Type 0
 IsPartlyPut before after files number =
     (done : Written) × (rest : Written) × (files ≡ done ++ rest) × HasPut before after done
     × (number ≡ Some (length done))
 
--- a beginning of them was: the output has failed, or the file of the document with this number isn't written
+-- a prefix of them was: the output has failed, or the file of the document with this number isn't written
 abbrev pub IsBegun : Option Text → DocumentPairs → Values → Option (List ℕ) → Option (List ℕ) → Bool
     → Option Written → Option Written → Option ℕ → Type 0
 IsBegun None pairs values old new failed before after document =

@@ -12,7 +12,7 @@ pub trait Folder {
     /// Writes a file, in the place of one that there is.
     ///
     /// # Errors
-    /// `Write`. The file may hold a beginning of the bytes.
+    /// `Write`. The file may hold a prefix of the bytes.
     fn put(&mut self, path: &str, bytes: &[u8]) -> Result<(), Fault>
         ensures ok { OnOk result (HasPut (written self.old) (written self.new) ((path.now, bytes.now) ∷ [])) }
         ensures stays { OnErr result (written self.new ≡ written self.old) }

@@ -23,7 +23,7 @@ use std::io::Write;
 /// Writes the documents where the request wants them.
 ///
 /// # Errors
-/// `Write`, after a beginning; `Memory` at any point.
+/// `Write`, after a prefix; `Memory` at any point.
 pub(crate) fn write_all<P: Folder, W: Write>(
     alloc: Global,
     request: &Request,

@@ -60,7 +60,7 @@ pub fn command<'a, F: Files, P: Folder, W: Write, V: Write>(
         (usage_line m) }
     ensures nothing { result ≡ 2 → (out.new ≡ out.old) × (P.written folder.new ≡ P.written folder.old) }
 
-    // 3 and 4: the line of the reason was written, or a beginning of it.
+    // 3 and 4: the line of the reason was written, or a prefix of it.
     ensures reported { 2 < result → (line : List ℕ)
         × IsReason (words_of words.entry.now) (F.contents files.old) (W.contents out.old.device)
         (W.contents out.new.device) out.new.failed (P.written folder.old) (P.written folder.new) result line

@@ -81,7 +81,7 @@ pub fn object_in(doc: &Doc) -> Option<&Members>
     }
 }
 
-/// The names of members ascend.
+/// Shows the prover that the names of members ascend. It does nothing.
 pub fn names_ascend(members: &Members)
     ensures { IsAscending members.now }
 {

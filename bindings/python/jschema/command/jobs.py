@@ -15,7 +15,7 @@ _AHEAD = 4
 
 def side_by_side(call: Callable[[_Given], _Result], given: Iterable[_Given],
                  jobs: int) -> Generator[_Result, None, None]:
-    """What a call answers for each of the given, in their order, each as soon as it is known. Up to `jobs` calls run at
+    """What a call returns for each of the given, in their order, each as soon as it is known. Up to `jobs` calls run at
     once.
 
     Where the iterator is closed, what waits is dropped, and nobody waits for what runs.
@@ -31,7 +31,7 @@ def side_by_side(call: Callable[[_Given], _Result], given: Iterable[_Given],
 
 
 class _Answer(Generic[_Result]):
-    """What a call answers or raises. (A `Future` does the same, and takes longer than a small check.)"""
+    """What a call returns or raises. (A `Future` does the same, and takes longer than a small check.)"""
 
     __slots__ = ("_done", "_result", "_error")
 

@@ -22,7 +22,7 @@ _VALID: _Outcome = (Status.VALID, (), b"")
 
 class _Checked(NamedTuple):
     """What came of lines: None for one that is valid, and of which nothing else is reported; the formats that couldn't
-    be checked; and how long it took, without the ways between the processes."""
+    be checked; and how long the checks took."""
 
     outcomes: Sequence[Optional[_Outcome]]
     missing: dict[str, str]
@@ -55,7 +55,7 @@ def results_of_lines(checker: Checker, given: Iterable[Lines], jobs: int) -> Gen
 
 
 class _Pace:
-    """How many lines a process gets at once. The answer to the first waits for that to the last, so there are few where
+    """How many lines a process gets at once. The result of the first waits for that of the last, so there are few where
     each takes long."""
 
     def __init__(self) -> None:

@@ -5,10 +5,10 @@ import threading
 from collections.abc import Iterable, Sequence
 from typing import Optional
 
+from ..faults import NotJson
 from ..locations import pointer
 from ..lookup import SchemaFile, walked
 from ..resources import Document, Target, expect, target
-from ..scanner import NotJson
 from .problems import SchemaPlace
 
 # How many places are kept.

@@ -21,7 +21,7 @@ _PROCESSES = multiprocessing.get_context("fork")
 class Workers(Generic[_Given, _Answer]):
     """Processes that make the same call, each for one at a time. At the end of the context they are killed.
 
-    What is given and what is answered must be picklable.
+    What is passed in and what the call returns must be picklable.
     """
 
     def __init__(self, call: Callable[[_Given], _Answer], count: int) -> None:
@@ -30,7 +30,7 @@ class Workers(Generic[_Given, _Answer]):
         self._free: SimpleQueue[_Worker] = SimpleQueue()
 
     def ask(self, given: _Given) -> _Answer:
-        """What the call answers in a process that is free; of as many threads as there are processes each finds one.
+        """What the call returns in a process that is free; of as many threads as there are processes each finds one.
 
         Raises what the call raises, and `EngineError` if the process has ended.
         """
@@ -84,7 +84,7 @@ class _Worker:
         theirs.close()
 
     def ask(self, given: Any) -> Any:
-        """What the call answers. Raises what it raises."""
+        """What the call returns. Raises what it raises."""
         try:
             self.connection.send(given)
             answer, error = self.connection.recv()
@@ -101,14 +101,14 @@ class _Worker:
 
 
 def _work(call: Callable[[Any], Any], connection: Connection, others: Sequence[Connection]) -> None:
-    """What a process does: it answers until it is killed, or nobody is there."""
+    """What a process does until it is killed, or the connection is closed: one call after another."""
     try:
         for it in others:
             it.close()
         while True:
             connection.send(_answer(call, connection.recv()))
     except BaseException:
-        # (Whatever it is, the other side notices, and says so.)
+        # (Whatever it is, the process at the other end reports that this one has ended.)
         os._exit(1)
 
 

@@ -14,7 +14,7 @@ RULES = {
     "refused": "the validator refuses the document, for what no other rule names",
     "unresolved-reference": "a reference leads nowhere",
     "pattern": "a pattern isn't one that the validator reads",
-    "number": "a number isn't whole, or is out of range",
+    "number": "a number has a fraction, an exponent or a minus before zero, or is beyond 64 bits",
     "unknown-keyword": "no dialect knows a keyword",
     "inactive-keyword": "a keyword can't act",
     "format": "a format isn't asserted",

@@ -5,8 +5,8 @@ import json
 from typing import Any, NamedTuple, NoReturn, Optional
 
 from ..errors import Refused
+from ..faults import first_fault, place_of
 from ..positions import Text, starts_of
-from ..scanner import NotJson, scan
 from ..sources import Member, Source, Unreadable
 from ..sources import read as read_sources
 from ..sources.source import JsonSource
@@ -124,6 +124,10 @@ def _is_holder(source: Source, pointer: str, begin: int) -> bool:
     return not isinstance((at.value if isinstance(at, Member) else at).content, str)
 
 
+class _Constant(Exception):
+    """A text has NaN or Infinity."""
+
+
 class _Syntax(Exception):
     """A text ceases to be JSON at a byte."""
 
@@ -133,7 +137,7 @@ class _Syntax(Exception):
 
 
 def _no_constant(name: str) -> NoReturn:
-    raise NotJson(0)
+    raise _Constant
 
 
 def _value(text: bytes) -> Any:
@@ -143,14 +147,10 @@ def _value(text: bytes) -> Any:
     try:
         return json.loads(characters, parse_constant=_no_constant)
     except json.JSONDecodeError as error:
-        offset = len(characters[:error.pos].encode("utf-8", "surrogatepass"))
+        offset = len(characters[:place_of(error)].encode("utf-8", "surrogatepass"))
         raise _Syntax(offset, error.msg[0].lower() + error.msg[1:]) from None
-    except NotJson:
-        try:
-            scan(text)
-        except NotJson as error:
-            raise _Syntax(error.offset, "JSON has neither NaN nor Infinity") from None
-        return None
+    except _Constant:
+        raise _Syntax(first_fault(text, any_number=True) or 0, "JSON has neither NaN nor Infinity") from None
     except (ValueError, RecursionError):
         # An integer of thousands of digits, or thousands of arrays in one another.
         return None

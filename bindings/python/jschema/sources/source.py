@@ -5,8 +5,8 @@ from collections.abc import Iterable
 from typing import NamedTuple, Optional
 
 from ..errors import Refused
+from ..faults import NotJson, first_fault
 from ..positions import Position, Text
-from ..scanner import NotJson, scan
 from .tree import Member, Node, found
 
 
@@ -124,8 +124,10 @@ class JsonSource(Source):
 
     def _place(self, refused: Refused) -> Range:
         if refused.kind == "NotJson":
-            # (Raises where it ceases to be JSON, which the library doesn't say.)
-            scan(self.json)
+            # (The library doesn't say where it stops being JSON.)
+            fault = first_fault(self.json)
+            if fault is not None:
+                raise NotJson(fault)
         self.trust()
         if refused.place:
             return super()._place(refused)

@@ -15,7 +15,7 @@ pub(crate) struct CheckedSite {
     pub(crate) pointer: Arc<Pointer>,
     /// The base scope that the place is in.
     pub(crate) above: Arc<BaseScope>,
-    /// Its own.
+    /// The base scope of the schemas in it: of its own `$id`, if that makes a base, else `above`.
     pub(crate) own: Arc<BaseScope>,
     /// Whether its `$id` makes a base.
     pub(crate) identifies: bool,

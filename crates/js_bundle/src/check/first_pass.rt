@@ -172,7 +172,7 @@ pub(crate) struct Passed {
 }
 
 impl Passed {
-    // The same for no places, with room for this many.
+    // What the pass has of no places, with memory for this many.
     fn with_capacity(alloc: Global, places: usize) -> Result<Passed, Memory>
         ensures assertions { IfOk result (λ p. p.built.all.assertions.items ≡ []) }
         ensures assertion_ends { IfOk result (λ p. p.built.assertion_ends.items ≡ []) }

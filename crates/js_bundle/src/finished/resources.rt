@@ -42,7 +42,7 @@ impl Schemas {
         self.checked.resources.numbers[place.number]
     }
 
-    /// How many resources there are. Each number is below.
+    /// How many resources there are. The number of each is less than this.
     pub fn resource_count(&self) -> usize
         ensures { result ≡ count_of_resources (sites self.now) }
     {

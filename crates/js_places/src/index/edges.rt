@@ -35,7 +35,7 @@ impl Drop for Edges {
     }
 }
 
-/// Those of each place of the documents, in scan order.
+/// The edges of each place of the documents, in scan order.
 ///
 /// # Errors
 /// `Memory`.

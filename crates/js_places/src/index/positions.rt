@@ -17,7 +17,7 @@ use std::alloc::Global;
 #[derive(Drop)]
 pub struct Positions {
     pub index: Index,
-    /// Of each, whether it is the root of its own resource.
+    /// Of each place, whether it is the root of its resource.
     pub roots: Vec<bool>,
     /// The absolute location of each.
     pub locations: Vec<StoredLocation>,
@@ -48,7 +48,7 @@ impl TextPrefixes {
 }
 
 impl Positions {
-    /// The same for no places, with room for this many.
+    /// The positions of no places, with memory for this many.
     ///
     /// # Errors
     /// `Memory`.

@@ -15,7 +15,7 @@ pub struct Site<'a> {
     pub pointer: Arc<Pointer>,
     /// The base scope that the place is in.
     pub above: Arc<BaseScope>,
-    /// Its own.
+    /// The base scope of the schemas in it: of its own `$id`, if that makes a base, else `above`.
     pub own: Arc<BaseScope>,
     /// Whether its `$id` makes a base.
     pub identifies: bool,

@@ -90,7 +90,7 @@ fn found_at(rt: &HostRuntime, doc: &Doc, pointer: &Pointer, answers: &mut String
     }
 }
 
-/// An object after `true` is put under a name; or the value under a name, and the first name of all.
+/// Writes an object after `true` is put under a name; or the value under a name, and the object's first name.
 pub fn answer_on_members(rt: &HostRuntime, words: &[&str], answers: &mut String) {
     let name = word_at(words, 2);
     match read(rt.alloc(), word_at(words, 1).as_bytes()) {

@@ -17,7 +17,7 @@ use js_doc::{Out, Stopped};
 /// The rows must be those of a whole tree. Allocates nothing.
 ///
 /// # Errors
-/// `Stopped` if the output takes no more; then a beginning of the text has been written.
+/// `Stopped` if the output takes no more; then a prefix of the text has been written.
 pub fn put_flat<O: Out>(flat: &Flat, format: Format, out: &mut O) -> Result<(), Stopped>
     requires { IsWholeTree (flat_state flat.now) }
     ensures { (t : ResultTree) → flat_state flat.now ≡ whole_tree t
@@ -45,7 +45,7 @@ fn put_rows<O: Out>(rows: &[Row], format: Format, out: &mut O) -> Result<(), Sto
 /// Writes the compact JSON text of the flag format (Core, section 12.4.1). Allocates nothing.
 ///
 /// # Errors
-/// `Stopped` if the output takes no more; then a beginning of the text has been written.
+/// `Stopped` if the output takes no more; then a prefix of the text has been written.
 pub fn put_flag<O: Out>(valid: bool, out: &mut O) -> Result<(), Stopped>
     ensures { Puts (O.progress out.old) (O.progress out.new) (compact (flag valid)) result }
 {

@@ -51,7 +51,7 @@ fn put_head<O: Out>(unit: &Unit, out: &mut O) -> Result<(), Stopped>
 /// Writes the beginning of the list of children, and the error if it stands before them. Allocates nothing.
 ///
 /// # Errors
-/// `Stopped` if the output takes no more; then a beginning of the text has been written.
+/// `Stopped` if the output takes no more; then a prefix of the text has been written.
 pub fn put_list_start<O: Out>(note: &Note, valid: bool, out: &mut O) -> Result<(), Stopped>
     ensures { Puts (O.progress out.old) (O.progress out.new) (children_start (note_of note.now) valid) result }
 {
@@ -65,7 +65,7 @@ pub fn put_list_start<O: Out>(note: &Note, valid: bool, out: &mut O) -> Result<(
 /// Writes the error if it stands after the children. Allocates nothing.
 ///
 /// # Errors
-/// `Stopped` if the output takes no more; then a beginning of the text has been written.
+/// `Stopped` if the output takes no more; then a prefix of the text has been written.
 pub fn put_error_behind<O: Out>(note: &Note, valid: bool, out: &mut O) -> Result<(), Stopped>
     ensures { Puts (O.progress out.old) (O.progress out.new) (error_behind (note_of note.now) valid) result }
 {
@@ -110,7 +110,7 @@ pub(crate) fn put_error<O: Out>(note: &Note, out: &mut O) -> Result<(), Stopped>
 /// Writes the closing quotation mark of the text before it, and the annotation, if the note is one. Allocates nothing.
 ///
 /// # Errors
-/// `Stopped` if the output takes no more; then a beginning of the text has been written.
+/// `Stopped` if the output takes no more; then a prefix of the text has been written.
 #[inline(always)]
 pub fn put_closed_annotation<O: Out>(note: &Note, out: &mut O) -> Result<(), Stopped>
     ensures { Puts (O.progress out.old) (O.progress out.new) (34 ∷ annotation_part (note_of note.now)) result }

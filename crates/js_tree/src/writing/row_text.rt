@@ -68,7 +68,7 @@ pub(crate) fn put_units<O: Out>(rows: &[Row], out: &mut O) -> Result<(), Stopped
 /// Writes the beginning of an object with the verdict and units, up to the bracket before the units. Allocates nothing.
 ///
 /// # Errors
-/// `Stopped` if the output takes no more; then a beginning of the text has been written.
+/// `Stopped` if the output takes no more; then a prefix of the text has been written.
 pub fn put_units_start<O: Out>(valid: bool, out: &mut O) -> Result<(), Stopped>
     ensures { Puts (O.progress out.old) (O.progress out.new) (list_start valid ++ codes "[") result }
 {

@@ -13,7 +13,7 @@ use js_doc::{Out, Stopped};
 /// Writes the compact JSON text of a tree (Core, section 12.4.4), which is that of `tree_doc`. Allocates nothing.
 ///
 /// # Errors
-/// `Stopped` if the output takes no more; then a beginning of the text has been written.
+/// `Stopped` if the output takes no more; then a prefix of the text has been written.
 #[cycle(put_tree)]
 pub fn put_tree<O: Out>(tree: &Tree, out: &mut O) -> Result<(), Stopped>
     ensures { Puts (O.progress out.old) (O.progress out.new) (compact (verbose tree.now)) result }

@@ -24,7 +24,7 @@ pub(crate) struct Applying<'a> {
 }
 
 impl<'a> Applying<'a> {
-    /// Starts with all members.
+    /// Before the first of the members.
     pub fn new(names: &'a [KeywordName], members: &'a Members) -> Applying<'a>
         requires { names.now ≡ keyword_names_of members.now }
         ensures { applicators_from result.members.now result.rank ≡ filter (is_visited true) members.now }

@@ -24,7 +24,7 @@ impl<'a> Every<'a> {
     ghost use Rattle.js_walk.specs.Seen.{keyword_of};
     ghost use Rattle.js_walk.specs.code.Turns.{turn_of};
 
-    /// Starts with all members.
+    /// Before the first of the members.
     pub fn new(names: &'a [KeywordName], members: &'a Members) -> Every<'a>
         requires { names.now ≡ keyword_names_of members.now }
         ensures all { map pair_of result.left ≡ members.now }

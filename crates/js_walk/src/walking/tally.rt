@@ -76,7 +76,7 @@ impl Tally {
 }
 
 impl Together {
-    /// They aren't judged yet.
+    /// None of these keywords is judged yet.
     pub fn unknown() -> Together
         ensures { result.known ≡ false }
     {

@@ -2,7 +2,7 @@ use Rattle.std.proofs.Common.{◌≡◌, ◌++◌, ◌+◌, ◌-◌, ◌^◌, �
 use Rattle.std.specs.Io.KnownBytes.{Appends}
 use Rattle.js_output.proofs.sink.Writing.write_all.Given as goal
 
--- what has gone out is a beginning of the bytes, and the rest is still to go
+-- what has gone out is a prefix of the bytes, and the rest is still to go
 abbrev pub invariant-loop-rest : goal.invariant-loop-rest
 invariant-loop-rest g l =
     (l.self.failed ≡ false)
