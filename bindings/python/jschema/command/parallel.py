@@ -49,8 +49,8 @@ def results_of_lines(checker: Checker, given: Iterable[Lines], jobs: int) -> Gen
         checker.missing.update(checked.missing)
         return [Result(it, *(outcome or _VALID)) for it, outcome in zip(lines.inputs(), checked.outcomes)]
 
-    with Workers(check, jobs) as workers, closing(side_by_side(ask, pace.portions(given), jobs)) as answers:
-        for results in answers:
+    with Workers(check, jobs) as workers, closing(side_by_side(ask, pace.portions(given), jobs)) as found:
+        for results in found:
             yield from results
 
 
