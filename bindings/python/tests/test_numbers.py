@@ -169,6 +169,40 @@ class Schemas(unittest.TestCase):
             jschema.Schemas({URI: {"minimum": 0.5, "x": {1: 2}}}, numbers="exact")
 
 
+class Recording:
+    """An engine that takes integers as the validator does, and says which texts it was asked about."""
+
+    def __init__(self):
+        self.asked = []
+
+    add = finish = close = lambda self, *_: None
+
+    def is_valid(self, entry, instance):
+        self.asked.append(instance)
+        if not instance.strip(b"-").isdigit() or instance == b"-0":
+            raise jschema.Refused("instance", "NotWhole", "")
+        return True
+
+    def check(self, entry, instance, format):
+        return jschema.Answer(self.is_valid(entry, instance), b'{"valid":true}\n')
+
+
+class Rewritten(unittest.TestCase):
+    def test_only_what_is_refused(self):
+        """A text that the validator takes has no number to rewrite, so nothing looks for one."""
+        for text, asked in (("12", [b"12"]), ("1.0", [b"1.0", b"1"]), ("-0", [b"-0", b"0"])):
+            engine = Recording()
+            with self.subTest(text), jschema.Schemas({}, engine=engine, numbers="exact") as schemas:
+                self.assertTrue(schemas.is_valid(URI, text))
+                self.assertEqual(schemas.output_text(URI, text), b'{"valid":true}\n')
+                self.assertEqual(engine.asked, asked * 2)
+        for text, asked in (("0.5", [b"0.5"]), ("[1.0", [b"[1.0", b"[1"])):
+            engine = Recording()
+            with self.subTest(text), jschema.Schemas({}, engine=engine, numbers="exact") as schemas:
+                self.assertEqual(refused(schemas.is_valid, URI, text), ("NotWhole", ""))
+                self.assertEqual(engine.asked, asked)
+
+
 class Errors(unittest.TestCase):
     def test_errors(self):
         """They have the keyword and the number of the schema, and positions in the instance as it is written."""

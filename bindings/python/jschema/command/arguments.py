@@ -139,7 +139,8 @@ def _validate(name: str) -> _Parser:
                         help="the numbers that are read: exact, fractions in schemas, and 1.0 as the integer 1 (the "
                              "default), texts, where fractions in a schema's annotations become texts too, or whole, "
                              "those of the validator")
-    parser.add_argument("--jobs", type=_jobs, default=1, metavar="N", help="how many checks run at once (default: 1)")
+    parser.add_argument("--jobs", type=_jobs, default=1, metavar="N",
+                        help="how many checks run at once, with --lines each in a process of its own (default: 1)")
     parser.add_argument("files", nargs="*", metavar="INSTANCE",
                         help="a file; a folder, for the files in it, at any depth, whose suffix is of a kind (with "
                              "--lines .jsonl and .ndjson); or -, standard input")
