@@ -76,6 +76,11 @@ def _in_reach(value: int) -> int:
     return min(max(value, LEAST - 1), GREATEST + 1)
 
 
+def is_taken(digits: str) -> bool:
+    """Whether the validator takes a number as it is written."""
+    return digits.lstrip("-").isdigit() and digits != "-0" and len(digits) < 21 and LEAST <= int(digits) <= GREATEST
+
+
 def number(text: str) -> Read:
     """The number that a text of JSON is. Raises `ValueError` for more digits than are computed with."""
     found = _NUMBER.fullmatch(text)

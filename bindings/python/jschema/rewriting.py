@@ -7,20 +7,19 @@ from __future__ import annotations
 
 import json
 import re
-from collections.abc import Sequence
+from collections.abc import Mapping, Sequence
 from typing import Any, NamedTuple, Optional, Union
 
 from .changes import Change
+from .interface import REWRITING
 from .limits import LARGEST_TEXT
-from .numbers import Number, exact_text, exact_value, number, without_floats, written
+from .numbers import Number, exact_text, exact_value, is_taken, number, without_floats, written
 from .numbers_keywords import exact, texts
 from .resources import Document, Schema, document_with, target
 from .restoring import Place, Restoring
 from .sources import JsonSource
 from .uris import fragment_of, joined, with_pointer
-from .values import GREATEST, LEAST, text_of
-
-PATTERNS, NUMBERS = ("ecma",), ("exact", "texts")
+from .values import text_of
 
 # What a document has that may change.
 _PATTERN = re.compile(rb"pattern|\\u00")
@@ -30,6 +29,24 @@ _NAMES = "patternProperties"
 _SIX = 2
 _STRICT = re.compile(rb"json-schema\.org\\?/draft-0[34]")
 _Tokens = tuple[str, ...]
+
+
+class Options(NamedTuple):
+    """What is rewritten, as `Schemas` has it: `patterns` is `ecma` or None, `numbers` is `exact`, `texts` or None."""
+
+    patterns: Optional[str] = None
+    numbers: Optional[str] = None
+
+
+def options_of(words: Mapping[str, Optional[str]]) -> Options:
+    """What words of `REWRITING` ask for, by the names of the options. Each has its default where there is none."""
+    return Options(_asked("patterns", words), _asked("numbers", words))
+
+
+def _asked(name: str, words: Mapping[str, Optional[str]]) -> Optional[str]:
+    default, *_, last = REWRITING[name][1]
+    word = words.get(name) or default
+    return None if word == last else word
 
 
 class Rewritten(NamedTuple):
@@ -59,9 +76,10 @@ class Rewriting:
     """
 
     def __init__(self, patterns: Optional[str], numbers: Optional[str]) -> None:
-        for name, given, known in (("patterns", patterns, PATTERNS), ("numbers", numbers, NUMBERS)):
+        for name, given in (("patterns", patterns), ("numbers", numbers)):
+            known = [*REWRITING[name][1]][:-1]
             if given is not None and given not in known:
-                raise ValueError(f"{name}={given!r}: it is one of {', '.join(known)}, or None")
+                raise ValueError(f"{name}={given!r}: it is {' or '.join(known)}, or None")
         self._patterns, self.numbers = patterns is not None, numbers is not None
         self._has_texts = numbers == "texts"
         # Whether a document of such a draft asks for integers.
@@ -130,7 +148,7 @@ class Rewriting:
         odd: list[str] = []
 
         def exactly(digits: str) -> Union[int, Number]:
-            if not _is_taken(digits):
+            if not is_taken(digits):
                 odd.append(digits)
             return number(digits)
 
@@ -201,14 +219,9 @@ class Rewriting:
             return text
 
 
-def _is_taken(digits: str) -> bool:
-    """Whether the validator takes a number as it is written."""
-    return digits.lstrip("-").isdigit() and digits != "-0" and len(digits) < 21 and LEAST <= int(digits) <= GREATEST
-
-
 def _within(digits: str) -> int:
     """An integer as the validator takes it."""
-    if not _is_taken(digits):
+    if not is_taken(digits):
         raise ValueError(f"{digits} is no integer in the range")
     return int(digits)
 

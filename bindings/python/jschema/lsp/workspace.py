@@ -7,6 +7,7 @@ from collections.abc import Iterable
 from typing import NamedTuple, Optional
 from urllib.parse import unquote
 
+from ..rewriting import options_of
 from .documents import Document
 from .ranges import Span, path_of
 from .schemas import SchemaSet, Store
@@ -53,7 +54,8 @@ class Workspace:
         for it in given:
             self.settings.associations += it.associations
             self.settings.references += it.references
-        self.store.refer_to(self.settings.references)
+            self.settings.rewriting = {**it.rewriting, **self.settings.rewriting}
+        self.store.configure(self.settings.references, options_of(self.settings.rewriting))
 
     def open(self, document: Document) -> None:
         """Takes a document that was opened."""

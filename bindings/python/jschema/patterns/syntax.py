@@ -29,15 +29,22 @@ _DEEPEST = 100
 class NotRead(ValueError):
     """A pattern that isn't read here: it is malformed, has a back-reference, or is read in several ways."""
 
+    #: Up to which character it was read.
+    at = 0
+
 
 class Read:
     """A pattern that was read, and whether `regex` reads the same text otherwise, or not at all."""
 
     def __init__(self, pattern: str) -> None:
         reader = _Reader(pattern)
-        self.alternatives = reader.alternatives(0)
-        if reader.at < len(pattern) or reader.has_single_bracket and reader.has_bracket_in_class:
-            raise NotRead
+        try:
+            self.alternatives = reader.alternatives(0)
+            if reader.at < len(pattern) or reader.has_single_bracket and reader.has_bracket_in_class:
+                raise NotRead
+        except NotRead as error:
+            error.at = reader.at
+            raise
         self.differs = reader.differs
 
 
@@ -112,7 +119,7 @@ class _Reader:
         return least, most
 
     def _group(self, depth: int) -> Node:
-        folded = self.is_folded
+        folded, begin = self.is_folded, self.at
         look = self._take(_LOOK)
         if look is not None:
             self.differs = True
@@ -129,7 +136,7 @@ class _Reader:
         self.is_folded = folded
         if not self._skip(")"):
             raise NotRead
-        return Group(body) if look is None else Look(not look[1], look[2] == "!", body)
+        return Group(body) if look is None else Look(not look[1], look[2] == "!", body, begin)
 
     def _atom(self, sign: str) -> Node:
         if sign == "\\":
