@@ -25,6 +25,7 @@ WRITTEN = [
     (r"\uD83D\uDE00", r"\x{1F600}"),
     (r"[\uD800-\uDFFF]", r"[^\x{0}-\x{10FFFF}]"),
     (r"[\w-.]", r"[\-.0-9A-Z_a-z]"),
+    (r"[\p{L}-_]", r"[\-_\p{L}]"),
     (r"a{", r"a\{"),
     (r"\<", "<"),
     (r"a\Z", "a$"),
@@ -33,7 +34,8 @@ WRITTEN = [
     (r"(?i:a\d)b", "(?:(?i:[a][0-9]))b"),
 ]
 THE_SAME = ["^abc$", r"\t\x41A\/\-\_", r"\p{Lu}", "[a-z_-]", "(?<n>a)|b{2,3}?", "(?i)a", r"\Aa\z", "]"]
-LEFT = [r"(a)\1", r"(?<n>a)\k<n>", r"(?!\s*$).+", "x*(?<=ab*c)d", "a**", "[b-a]", "(?s).", "[[:alpha:]]", "(", r"\q",
+LEFT = [r"(a)\1", r"(?<n>a)\k<n>", "(?=.{1,1024}$)a[^/]+/b", "^a*(?!.*bc)[a-z]+$", "(?:(?=.*b)[ab])*c", "a**",
+        "[b-a]", "(?s).", "[[:alpha:]]", "(", r"\q",
         "a{,2}", r"\b{start}a", r"\x{41}", r"\pL"]
 
 # The forms of look-around that are rewritten, each with texts that match, and texts that don't.
@@ -58,6 +60,12 @@ FORMS = [
     ("of a word, anywhere", r"foo(?!bar)", ["foo", "foobaz", "foobarfoo"], ["foobar"]),
     ("behind a word, anywhere", r"(?<!\$)\b[0-9]+", ["1", "a 1"], ["$1", "a"]),
     ("of a word that must be there", r"a(?=bc)", ["abc", "xabcd"], ["ab", "a"]),
+    ("of any length", r"^a*(?=.*:)[a-z:]+$", ["a:", ":", "ab:c"], ["ab", "a:B", "", "a\n:"]),
+    ("of any length, which isn't there", r"(?!\s*$).+", ["a", " a", "a "], ["", " ", "\n \n"]),
+    ("of any length, which isn't there before a sign", r"^a*(?!b+c)[abc]+$", ["bb", "aca", "abbcc"], ["bc", "bbcb"]),
+    ("of any length, behind", r"^[a-z:]+(?<=:.*)a*$", [":a", "b:ba"], ["ab", "a", ""]),
+    ("of a bounded length, anywhere", r"(?=.{1,4}$)[a-z](-*[a-z])*", ["a-b", "abcdef"], ["", "a----", "-"]),
+    ("beyond its group", r"^(x+(?=.*1)[a-z]+|y)[0-9]+$", ["xa1", "xxb01", "y2"], ["xa2", "y", "x1"]),
     ("repeated, which isn't of the flag u", r"^(\/(?!\.)+[^\/]+){1,2}$", ["/a", "/a/b"], ["/.a", "/a/.", "/"]),
 ]
 

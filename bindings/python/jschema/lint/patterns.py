@@ -81,20 +81,21 @@ def _why(pattern: _Pattern, refused: Refused, is_rewritten: bool, judge: Judge) 
     try:
         places = looks(Read(text).alternatives)
     except NotRead as error:
-        return _part(text, "look") or f"it isn't a regular expression of ECMA-262 from character {error.at + 1} on"
+        return _part(text, has_looks=False) or f"it isn't a regular expression of ECMA-262 (see character {error.at + 1})"
     place = left(text)
     if place is not None:
         return f"{_look(text, place)}, which can't be rewritten exactly"
     if places and pattern.given == [text]:
-        condition = "unless it is the only name and `additionalProperties` is false" if pattern.is_name else "here"
-        return f"{_look(text, places[0])}, which can't be rewritten {condition}"
+        if pattern.is_name:
+            return f"{_look(text, places[0])}, which needs a name alone, with `additionalProperties: false`"
+        return f"{_look(text, places[0])}, which can't be rewritten in this schema"
     return _property(text, judge) or _NONE
 
 
-def _part(pattern: str, *others: str) -> Optional[str]:
-    """The first part that `regex` doesn't have, but for these others."""
+def _part(pattern: str, has_looks: bool = True) -> Optional[str]:
+    """The first part that `regex` doesn't have; a look-around may be one."""
     for found in _PART.finditer(pattern):
-        if found["look"] and "look" not in others:
+        if found["look"] and has_looks:
             return f"{_look(pattern, found.start())}, which `regex` doesn't have"
         for name, what in _PARTS.items():
             if found[name]:

@@ -11,7 +11,7 @@ from functools import lru_cache
 from typing import Any, Optional
 
 from . import looking
-from .looking import Combination, Every, Not, Plain
+from .combinations import Combination, Every, Not, Plain
 from .nodes import Alternatives, has_look, looks, with_look
 from .pushing import NotExact
 from .syntax import NotRead, Read

@@ -15,7 +15,8 @@ Word = tuple[Union[Characters, Assertion], ...]
 _ANYTHING: Sequence = (Repeat(ANY, 0, None), END)
 _MOST_WORDS = 64
 _DEEPEST = 60
-_LARGEST = 20_000
+#: The most that sequences may come to, as `size` counts.
+LARGEST = 20_000
 
 
 class NotExact(Exception):
@@ -108,14 +109,14 @@ class Pusher:
         self._depth += 1
         found = self._by_first(wanted, rest[0], rest[1:])
         self._depth -= 1
-        if sum(map(size, found)) > _LARGEST:
+        if sum(map(size, found)) > LARGEST:
             raise NotExact
         return found
 
     def _by_first(self, wanted: Several[Word], first: Node, rest: Sequence) -> list[Sequence]:
         if isinstance(first, Characters):
-            return [joined for region, left in _regions(first, wanted)
-                    for joined in _joined(region, self.pushed(left, rest))]
+            return [it for region, left in _regions(first, wanted)
+                    for it in preceded((region,), self.pushed(left, rest))]
         if isinstance(first, Group):
             return [it for body in first.body for it in self.pushed(wanted, body + rest)]
         if isinstance(first, Repeat):
@@ -137,10 +138,11 @@ class Pusher:
         return found
 
 
-def _joined(region: Characters, found: list[Sequence]) -> list[Sequence]:
+def preceded(before: Sequence, found: list[Sequence]) -> list[Sequence]:
+    """Sequences with something before each: of several one, with a group of them."""
     if len(found) < 2:
-        return [(region, *it) for it in found]
-    return [(region, Group(tuple(found)))]
+        return [before + it for it in found]
+    return [(*before, Group(tuple(found)))]
 
 
 def _regions(given: Characters, wanted: Several[Word]) -> list[tuple[Characters, list[Word]]]:

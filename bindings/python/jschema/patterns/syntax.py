@@ -227,6 +227,7 @@ class _Reader:
                 self.at += 1
                 high = self._class_member()
                 given += self._range(low, high)
+                properties += high.properties
             else:
                 given += low.ranges
             properties += low.properties
@@ -251,13 +252,12 @@ class _Reader:
         return _member(ord(sign))
 
     def _range(self, low: _Member, high: _Member) -> Ranges:
-        """The characters from one to another. Beside a class the hyphen stands for itself, as before the flag `u`."""
+        """The characters from one to another. Beside a class the hyphen stands for itself, as before the flag `u`, and
+        so it does beside a property for those who read that."""
         if low.code is not None and high.code is not None:
             if high.code < low.code:
                 raise NotRead
             return ranges([(low.code, high.code)])
-        if low.properties or high.properties:
-            raise NotRead
         self.differs = True
         return (*low.ranges, *high.ranges, (0x2D, 0x2D))
 
