@@ -95,6 +95,11 @@ class Workspace:
         association = None if document.path is None else self.settings.schema_of(document.path)
         return None if association is None else self.schema_of(association.schema, association.folder)
 
+    def known_choice_of(self, document: Document) -> Optional[Choice]:
+        """The same; None also where that schema isn't there."""
+        choice = self.choice_of(document)
+        return choice if isinstance(choice, Choice) else None
+
     def schema_of(self, named: Named, folder: str) -> Choice | Unknown:
         """The schema with a name: a URL, or a path from a folder; or the schema that stands in a setting."""
         if not isinstance(named, str):

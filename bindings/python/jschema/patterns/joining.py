@@ -3,8 +3,8 @@
 from __future__ import annotations
 
 from .characters import Characters
-from .nodes import END, Alternatives, Assertion, Group, Look, Repeat, Sequence, least_width, repeated, size
-from .pushing import LARGEST, NotExact, preceded, shortened
+from .nodes import END, Alternatives, Assertion, Group, Look, Repeat, Sequence, least_width, repeated
+from .pushing import NotExact, Walk, preceded, shortened
 
 _MOST_STEPS, _DEEPEST, _MOST_TIMES = 4000, 100, 8
 
@@ -34,11 +34,11 @@ def _opposite(body: Alternatives) -> Alternatives:
     return tuple(found)
 
 
-class Joiner:
+class Joiner(Walk):
     """Takes what look-aheads want and what follows them, node by node; of one pattern so often in all."""
 
     def __init__(self) -> None:
-        self._steps, self._depth = _MOST_STEPS, 0
+        super().__init__(_MOST_STEPS, _DEEPEST)
 
     def joined(self, look: Look, rest: Sequence) -> list[Sequence]:
         """The sequences that together match what a look-ahead and the rest of the pattern do. Raises `NotExact`."""
@@ -49,19 +49,8 @@ class Joiner:
         return [*found]
 
     def _joined(self, wanted: Sequence, rest: Sequence) -> list[Sequence]:
-        self._steps -= 1
-        if self._steps < 0 or self._depth > _DEEPEST:
-            raise NotExact
-        if not wanted or not rest:
-            return [wanted or rest]
-        self._depth += 1
-        try:
-            found = self._by_first(wanted, rest)
-        finally:
-            self._depth -= 1
-        if sum(map(size, found)) > LARGEST:
-            raise NotExact
-        return found
+        self.step()
+        return self.below(self._by_first, wanted, rest) if wanted and rest else [wanted or rest]
 
     def _by_first(self, wanted: Sequence, rest: Sequence) -> list[Sequence]:
         begin, others = wanted[0], wanted[1:]

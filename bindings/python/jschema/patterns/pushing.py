@@ -1,22 +1,23 @@
 """Look-arounds of a bounded length, taken into the characters beside them: `(?!-)[a-z-]+` is `[a-z][a-z-]*`."""
 from __future__ import annotations
 
-from collections.abc import Iterator, Sequence as Several
+from collections.abc import Callable, Iterator, Sequence as Several
 from itertools import product
-from typing import Union
+from typing import TypeVar, Union
 
 from .characters import ANY, Characters
 from .nodes import END, START, Alternatives, Assertion, Group, Look, Node, Repeat, Sequence, least_width, repeated, size
 
 #: What a look-around finds: characters, or the end of the text.
 Word = tuple[Union[Characters, Assertion], ...]
+_Wanted = TypeVar("_Wanted")
 
 # What stands behind a pattern in a text.
 _ANYTHING: Sequence = (Repeat(ANY, 0, None), END)
 _MOST_WORDS = 64
 _DEEPEST = 60
-#: The most that sequences may come to, as `size` counts.
-LARGEST = 20_000
+# The most that sequences may come to, as `size` counts.
+_LARGEST = 20_000
 
 
 class NotExact(Exception):
@@ -87,18 +88,43 @@ def _mirrored(node: Node) -> Node:
     return {START: END, END: START}.get(node, node) if isinstance(node, Assertion) else node
 
 
-class Pusher:
+class Walk:
+    """A walk through a pattern, of so many steps, and so deep at most."""
+
+    def __init__(self, steps: int, deepest: int) -> None:
+        self._steps, self._levels = steps, deepest
+
+    def step(self) -> None:
+        """Counts a step. Raises `NotExact` for one too many."""
+        self._steps -= 1
+        if self._steps < 0:
+            raise NotExact
+
+    def below(self, walked: Callable[[_Wanted, Sequence], list[Sequence]], wanted: _Wanted,
+              rest: Sequence) -> list[Sequence]:
+        """What is found a level deeper. Raises `NotExact` where that is too deep, or too much."""
+        if self._levels == 0:
+            raise NotExact
+        self._levels -= 1
+        try:
+            found = walked(wanted, rest)
+        finally:
+            self._levels += 1
+        if sum(map(size, found)) > _LARGEST:
+            raise NotExact
+        return found
+
+
+class Pusher(Walk):
     """Takes a look-ahead into what follows. `is_whole` says that the pattern ends where that ends."""
 
     def __init__(self, is_negated: bool, is_whole: bool, steps: int) -> None:
-        self._is_negated, self._is_whole, self._steps = is_negated, is_whole, steps
-        self._depth = 0
+        super().__init__(steps, _DEEPEST)
+        self._is_negated, self._is_whole = is_negated, is_whole
 
     def pushed(self, wanted: Several[Word], rest: Sequence) -> list[Sequence]:
         """The sequences that together match what the look-ahead and the rest do. Raises `NotExact`."""
-        self._steps -= 1
-        if self._steps < 0 or self._depth > _DEEPEST:
-            raise NotExact
+        self.step()
         if () in wanted or not wanted:
             is_met = (() in wanted) != self._is_negated
             return [() if self._is_whole and rest == _ANYTHING else rest] if is_met else []
@@ -106,14 +132,10 @@ class Pusher:
             if not self._is_whole:
                 raise NotExact
             rest = _ANYTHING
-        self._depth += 1
-        found = self._by_first(wanted, rest[0], rest[1:])
-        self._depth -= 1
-        if sum(map(size, found)) > LARGEST:
-            raise NotExact
-        return found
+        return self.below(self._by_first, wanted, rest)
 
-    def _by_first(self, wanted: Several[Word], first: Node, rest: Sequence) -> list[Sequence]:
+    def _by_first(self, wanted: Several[Word], given: Sequence) -> list[Sequence]:
+        first, rest = given[0], given[1:]
         if isinstance(first, Characters):
             return [it for region, left in _regions(first, wanted)
                     for it in preceded((region,), self.pushed(left, rest))]
