@@ -86,7 +86,7 @@ FOUND = (
 )
 
 OPTIONS = {"patterns": "ecma", "numbers": "exact"}
-ALONE = "^(?!.*--)[a-z-]+$"
+ALONE = "^(?=.{3,500}$)[a-z]+(?:-[a-z]+)*$"
 TEXTS = "without `.` and `e`; `--numbers texts` makes a text of it"
 # The same where patterns and numbers are rewritten.
 REWRITTEN = (
@@ -102,12 +102,12 @@ REWRITTEN = (
     ({"pattern": r"^(?!a)\p{L}\p{Graph}"}, ("pattern", "error", r"`\p{Graph}` at 12 is a property", "/pattern")),
     ({"pattern": r"^(?:\p{L}{1000}){1000}$"}, ("pattern", "error", "takes too much memory", "/pattern")),
     ({"patternProperties": {ALONE: {}}},
-     ("pattern", "error", "`(?!` at 2 is a negative look-ahead, which needs a name", f"/patternProperties/{ALONE}")),
-    ({"patternProperties": {r"^\d$": {"pattern": "("}, r"^(?!.*\p{Graph})x$": {}}, "additionalProperties": False},
+     ("pattern", "error", "`(?=` at 2 is a look-ahead, which needs a name alone", f"/patternProperties/{ALONE}")),
+    ({"patternProperties": {r"^\d$": {"pattern": "("}, ALONE: {}}, "additionalProperties": False},
      ("pattern", "error", "(see character 2)", r"/patternProperties/^\d$/pattern"),
-     ("pattern", "error", "needs a name alone", r"/patternProperties/^(?!.*\p{Graph})x$")),
-    ({"patternProperties": {r"^(?!.*\p{Graph})x$": {}}, "additionalProperties": False},
-     ("pattern", "error", "is a property", r"/patternProperties/^(?!.*\p{Graph})x$")),
+     ("pattern", "error", "needs a name alone", f"/patternProperties/{ALONE}")),
+    ({"patternProperties": {r"^(?=.{3,500}$)\p{L}+\p{Graph}": {}}, "additionalProperties": False},
+     ("pattern", "error", "is a property", r"/patternProperties/^(?=.{3,500}$)\p{L}+\p{Graph}")),
     ({"default": 0.5}, ("number", "error", TEXTS, "/default")),
     ({"properties": {"a": {"minLength": 1.5, "examples": [1.0, {"b": -2.5}]}}},
      ("number", "error", "without `.` and `e`, and this can't be rewritten", "/properties/a/minLength"),

@@ -81,7 +81,7 @@ def _why(pattern: _Pattern, refused: Refused, is_rewritten: bool, judge: Judge) 
     try:
         places = looks(Read(text).alternatives)
     except NotRead as error:
-        return _part(text, has_looks=False) or f"it isn't a regular expression of ECMA-262 (see character {error.at + 1})"
+        return _part(text, False) or f"it isn't a regular expression of ECMA-262 (see character {error.at + 1})"
     place = left(text)
     if place is not None:
         return f"{_look(text, place)}, which can't be rewritten exactly"
@@ -92,10 +92,10 @@ def _why(pattern: _Pattern, refused: Refused, is_rewritten: bool, judge: Judge) 
     return _property(text, judge) or _NONE
 
 
-def _part(pattern: str, has_looks: bool = True) -> Optional[str]:
+def _part(pattern: str, has_look: bool = True) -> Optional[str]:
     """The first part that `regex` doesn't have; a look-around may be one."""
     for found in _PART.finditer(pattern):
-        if found["look"] and has_looks:
+        if found["look"] and has_look:
             return f"{_look(pattern, found.start())}, which `regex` doesn't have"
         for name, what in _PARTS.items():
             if found[name]:

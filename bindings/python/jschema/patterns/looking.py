@@ -4,11 +4,12 @@
 """
 from __future__ import annotations
 
+from collections.abc import Iterable
 from typing import Callable, Optional, Union
 
+from .automata import taken
 from .characters import ANY, Characters
 from .combinations import NEVER, Combination, Not, Plain, every, some
-from .joining import Joiner
 from .nodes import (END, START, Alternatives, Group, Look, Node, Repeat, Sequence, has_look, least_width, repeated,
                     width)
 from .pushing import NotExact, Pusher, mirrored, shortened, words
@@ -21,13 +22,13 @@ _MOST_NODES = 5000
 def combination(body: Alternatives) -> Combination:
     """The combination that matches the same texts. Raises `NotExact`."""
     return _Rewriter((_Rewriter.from_start_alone, _Rewriter.short, _Rewriter.at_start, _Rewriter.at_end,
-                      _Rewriter.in_all_places, _Rewriter.long, _Rewriter.joined, _Rewriter.distributed)).combined(body)
+                      _Rewriter.in_all_places, *_ALONE)).combined(body)
 
 
 def single(body: Alternatives) -> Optional[Plain]:
     """One pattern without look-around that matches the same texts, if there is one that isn't much larger."""
     try:
-        found = _Rewriter((_Rewriter.short, _Rewriter.long, _Rewriter.joined, _Rewriter.distributed)).combined(body)
+        found = _Rewriter((_Rewriter.short, *_ALONE)).combined(body)
     except NotExact:
         return None
     return found if isinstance(found, Plain) else None
@@ -50,7 +51,6 @@ class _Rewriter:
     def __init__(self, rules: tuple[_Rule, ...]) -> None:
         self._rules = rules
         self._nodes = 0
-        self._joiner = Joiner()
 
     def combined(self, body: Alternatives) -> Combination:
         """The combination of alternatives: those without look-around are one pattern."""
@@ -148,11 +148,11 @@ class _Rewriter:
                     return self._sequence((*sequence[:index], inside, *sequence[index + 1:]))
         return None
 
-    def joined(self, sequence: Sequence) -> Optional[Combination]:
-        """A look-around that asks for something of any length."""
+    def of_any_length(self, sequence: Sequence) -> Optional[Combination]:
+        """A look-around, and what stands beside it up to the end, read side by side."""
         for index, node in enumerate(sequence):
-            if isinstance(node, Look):
-                found = _turned(sequence, index, self._joiner.joined)
+            if isinstance(node, Look) and not has_look(sequence[index + 1:] if node.is_ahead else sequence[:index]):
+                found = _turned(sequence, index, lambda look, rest: taken(look.is_negated, look.body, rest))
                 if found is not None:
                     return self.combined(tuple(found))
         return None
@@ -173,6 +173,8 @@ class _Rewriter:
 
 
 _Rule = Callable[[_Rewriter, Sequence], Optional[Combination]]
+# The rules that make patterns alone, after that for one character.
+_ALONE: tuple[_Rule, ...] = (_Rewriter.long, _Rewriter.of_any_length, _Rewriter.distributed)
 
 
 def _anchor(sequence: Sequence) -> Optional[int]:
@@ -249,7 +251,7 @@ def _beside(sequence: Sequence, index: int, is_whole: bool, longest: int, steps:
 
 
 def _turned(sequence: Sequence, index: int,
-            join: Callable[[Look, Sequence], list[Sequence]]) -> Optional[list[Sequence]]:
+            join: Callable[[Look, Sequence], Iterable[Sequence]]) -> Optional[list[Sequence]]:
     """The sequences with what becomes of the look-around at an index and what follows it; a look-behind is turned for
     that, with what stands before it. None where that can't be."""
     look, before, after = sequence[index], sequence[:index], sequence[index + 1:]

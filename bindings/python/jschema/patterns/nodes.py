@@ -132,3 +132,8 @@ def repeated(node: Union[Characters, Group], least: int, most: Optional[int]) ->
     """A node so many times, as short as that can be written."""
     if most != 0:
         yield node if least == most == 1 else Repeat(node, least, most)
+
+
+def fewer(given: Repeat) -> Iterator[Node]:
+    """What is repeated, once less."""
+    return repeated(given.node, max(given.least - 1, 0), None if given.most is None else given.most - 1)

@@ -1,23 +1,24 @@
 """Look-arounds of a bounded length, taken into the characters beside them: `(?!-)[a-z-]+` is `[a-z][a-z-]*`."""
 from __future__ import annotations
 
-from collections.abc import Callable, Iterator, Sequence as Several
+from collections.abc import Iterator, Sequence as Several
 from itertools import product
 from typing import TypeVar, Union
 
 from .characters import ANY, Characters
-from .nodes import END, START, Alternatives, Assertion, Group, Look, Node, Repeat, Sequence, least_width, repeated, size
+from .nodes import (END, START, Alternatives, Assertion, Group, Look, Node, Repeat, Sequence, fewer, least_width,
+                    repeated, size)
 
 #: What a look-around finds: characters, or the end of the text.
 Word = tuple[Union[Characters, Assertion], ...]
-_Wanted = TypeVar("_Wanted")
 
-# What stands behind a pattern in a text.
-_ANYTHING: Sequence = (Repeat(ANY, 0, None), END)
+_Left = TypeVar("_Left")
+#: What stands behind a pattern in a text.
+ANYTHING: Sequence = (Repeat(ANY, 0, None), END)
+#: The most that sequences may come to, as `size` counts.
+LARGEST = 20_000
 _MOST_WORDS = 64
 _DEEPEST = 60
-# The most that sequences may come to, as `size` counts.
-_LARGEST = 20_000
 
 
 class NotExact(Exception):
@@ -88,57 +89,37 @@ def _mirrored(node: Node) -> Node:
     return {START: END, END: START}.get(node, node) if isinstance(node, Assertion) else node
 
 
-class Walk:
-    """A walk through a pattern, of so many steps, and so deep at most."""
-
-    def __init__(self, steps: int, deepest: int) -> None:
-        self._steps, self._levels = steps, deepest
-
-    def step(self) -> None:
-        """Counts a step. Raises `NotExact` for one too many."""
-        self._steps -= 1
-        if self._steps < 0:
-            raise NotExact
-
-    def below(self, walked: Callable[[_Wanted, Sequence], list[Sequence]], wanted: _Wanted,
-              rest: Sequence) -> list[Sequence]:
-        """What is found a level deeper. Raises `NotExact` where that is too deep, or too much."""
-        if self._levels == 0:
-            raise NotExact
-        self._levels -= 1
-        try:
-            found = walked(wanted, rest)
-        finally:
-            self._levels += 1
-        if sum(map(size, found)) > _LARGEST:
-            raise NotExact
-        return found
-
-
-class Pusher(Walk):
+class Pusher:
     """Takes a look-ahead into what follows. `is_whole` says that the pattern ends where that ends."""
 
     def __init__(self, is_negated: bool, is_whole: bool, steps: int) -> None:
-        super().__init__(steps, _DEEPEST)
-        self._is_negated, self._is_whole = is_negated, is_whole
+        self._is_negated, self._is_whole, self._steps = is_negated, is_whole, steps
+        self._depth = 0
 
     def pushed(self, wanted: Several[Word], rest: Sequence) -> list[Sequence]:
         """The sequences that together match what the look-ahead and the rest do. Raises `NotExact`."""
-        self.step()
+        self._steps -= 1
+        if self._steps < 0 or self._depth > _DEEPEST:
+            raise NotExact
         if () in wanted or not wanted:
             is_met = (() in wanted) != self._is_negated
-            return [() if self._is_whole and rest == _ANYTHING else rest] if is_met else []
+            return [() if self._is_whole and rest == ANYTHING else rest] if is_met else []
         if not rest:
             if not self._is_whole:
                 raise NotExact
-            rest = _ANYTHING
-        return self.below(self._by_first, wanted, rest)
+            rest = ANYTHING
+        self._depth += 1
+        found = self._by_first(wanted, rest[0], rest[1:])
+        self._depth -= 1
+        if sum(map(size, found)) > LARGEST:
+            raise NotExact
+        return found
 
-    def _by_first(self, wanted: Several[Word], given: Sequence) -> list[Sequence]:
-        first, rest = given[0], given[1:]
+    def _by_first(self, wanted: Several[Word], first: Node, rest: Sequence) -> list[Sequence]:
         if isinstance(first, Characters):
-            return [it for region, left in _regions(first, wanted)
-                    for it in preceded((region,), self.pushed(left, rest))]
+            begins = [(begin, word[1:]) for word in wanted if isinstance(begin := word[0], Characters)]
+            return [joined for region, left in regions(first, begins)
+                    for joined in _joined(region, self.pushed(left, rest))]
         if isinstance(first, Group):
             return [it for body in first.body for it in self.pushed(wanted, body + rest)]
         if isinstance(first, Repeat):
@@ -154,31 +135,25 @@ class Pusher(Walk):
             raise NotExact
         found = self.pushed(wanted, rest) if first.least == 0 else []
         if first.most != 0:
-            most = None if first.most is None else first.most - 1
-            more = repeated(first.node, max(first.least - 1, 0), most)
-            found += self.pushed(wanted, (first.node, *more, *rest))
+            found += self.pushed(wanted, (first.node, *fewer(first), *rest))
         return found
 
 
-def preceded(before: Sequence, found: list[Sequence]) -> list[Sequence]:
-    """Sequences with something before each: of several one, with a group of them."""
+def _joined(region: Characters, found: list[Sequence]) -> list[Sequence]:
     if len(found) < 2:
-        return [before + it for it in found]
-    return [(*before, Group(tuple(found)))]
+        return [(region, *it) for it in found]
+    return [(region, Group(tuple(found)))]
 
 
-def _regions(given: Characters, wanted: Several[Word]) -> list[tuple[Characters, list[Word]]]:
+def regions(given: Characters, begins: Several[tuple[Characters, _Left]]) -> list[tuple[Characters, list[_Left]]]:
     """The parts of a set by the words that begin with their characters, with what is left of these words."""
-    regions: list[tuple[Characters, list[Word]]] = [(given, [])]
-    for word in wanted:
-        begin = word[0]
-        if not isinstance(begin, Characters):
-            continue
+    found: list[tuple[Characters, list[_Left]]] = [(given, [])]
+    for begin, rest in begins:
         if begin.is_folded != given.is_folded:
             raise NotExact
-        split = [it for region, left in regions
-                 for it in ((region.both(begin), [*left, word[1:]]), (region.minus(begin), left))]
-        regions = [it for it in split if not it[0].is_empty]
-        if len(regions) > _MOST_WORDS:
+        split = [it for region, left in found
+                 for it in ((region.both(begin), [*left, rest]), (region.minus(begin), left))]
+        found = [it for it in split if not it[0].is_empty]
+        if len(found) > _MOST_WORDS:
             raise NotExact
-    return regions
+    return found
