@@ -90,7 +90,7 @@ class Maker:
         return "".join(self.look(is_ahead)[0] for _ in range(self.random.choice([0, 0, 1, 1, 2])))
 
     def look(self, is_ahead):
-        body = self.alternatives(2, 0)[0]
+        body = self.alternatives(2, 0.03)[0]
         if self.chance(0.3):
             body = f".*{body}" if is_ahead else f"{body}.*"
         if self.chance(0.2):

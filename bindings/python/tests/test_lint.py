@@ -95,8 +95,10 @@ REWRITTEN = (
     ({"patternProperties": {r"^\d+$": {"properties": {"a": {"maxLength": 2.0}}}, "^(?!x-)": {}}},),
     ({"pattern": "(?!b)b*(?=.{1,1024}$)c+d"},
      ("pattern", "error", "`(?=` at 8 is a look-ahead, which can't be rewritten exactly", "/pattern")),
-    ({"pattern": "^(?!a)b*(?!c*d(?!e))f"},
-     ("pattern", "error", "`(?!` at 15 is a negative look-ahead, which can't be rewritten exactly", "/pattern")),
+    ({"pattern": "^(?!a)x+(?!c*(?=.{1,900}$)d+)[cd]+$"},
+     ("pattern", "error", "`(?=` at 14 is a look-ahead, which can't be rewritten exactly", "/pattern")),
+    ({"pattern": "(?<!(a|b+)c)(?<!.*d{900})e"},
+     ("pattern", "error", "`(?<!` at 13 is a negative look-behind, which can't be rewritten exactly", "/pattern")),
     ({"pattern": r"^(?!a)(b)\1$"}, ("pattern", "error", r"`\1` at 10 is a back-reference", "/pattern")),
     ({"pattern": "^(?!a)x[b-a]"}, ("pattern", "error", "of ECMA-262 (see character 12)", "/pattern")),
     ({"pattern": r"^(?!a)\p{L}\p{Graph}"}, ("pattern", "error", r"`\p{Graph}` at 12 is a property", "/pattern")),
@@ -202,6 +204,22 @@ class Rules(unittest.TestCase):
         self.assertEqual((typed.range.begin[1:], typed.range.end[1:]), ((2, 10), (2, 20)))
         self.assertEqual((reference.range.begin[1:], reference.range.end[1:]), ((3, 31), (3, 37)))
         self.assertEqual(typed.suggestion, "required")
+
+    def test_parts(self):
+        """Of a pattern the part is meant that isn't read, as it is written."""
+        for text, kind, line, begin, end in (
+                (r'{"pattern": "é\u00e9\ud83d\ude00(a)\\1b"}', "json", 1, 36, 39),
+                (r'{"patternProperties": {"(?>é)": {}}}', "json", 1, 25, 28),
+                ("patternProperties:\n  '(a)\\1':\n    title: a", "yaml", 2, 7, 9),
+                ("pattern: é(a)\\1", "yaml", 1, 14, 16),
+                (r'pattern: "\x41(a)\\1"', "yaml", 1, 10, 22), ('{"pattern": "(b"}', "json", 1, 13, 17),
+                (r'{"pattern": "b\"[b-a]a"}', "json", 1, 21, 22), (r'{"pattern": "\\p{Graph}"}', "json", 1, 14, 24)):
+            with self.subTest(text):
+                try:
+                    [finding] = lint(text.encode(), URI, kind=kind, **OPTIONS)
+                except ImportError as error:
+                    self.skipTest(str(error))
+                self.assertEqual((finding.range.begin[1:], finding.range.end[1:]), ((line, begin), (line, end)))
 
     def test_broken(self):
         for text, kind, line, column in ((b'{"a":\n }', "json", 2, 2), (b"a: [", "yaml", 1, 5), (b"a =", "toml", 1, 4),

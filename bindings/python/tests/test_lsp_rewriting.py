@@ -33,9 +33,9 @@ class Rewriting(Session):
         self.start_with()
         self.assertEqual(self.open("a.schema.json", SCHEMA), [])
         found = self.open("b.schema.json", LEFT)
-        self.assertEqual(shown(found), [(1, 33, 41, "pattern"), (1, 72, 105, "pattern"), (2, 12, 15, "number")])
+        self.assertEqual(shown(found), [(1, 37, 40, "pattern"), (1, 74, 77, "pattern"), (2, 12, 15, "number")])
         self.assertEqual([it["severity"] for it in found], [1, 1, 1])
-        [message] = [it["message"] for it in found if it["range"]["start"]["character"] == 33]
+        [message] = [it["message"] for it in found if it["range"]["start"]["character"] == 37]
         self.assertEqual(message, "the validator doesn't read this pattern: `\\1` at 4 is a back-reference, which "
                                   "`regex` doesn't have")
 

@@ -65,6 +65,7 @@ FORMS = [
     ("of any length, which isn't there before a sign", r"^a*(?!b+c)[abc]+$", ["bb", "aca", "abbcc"], ["bc", "bbcb"]),
     ("of any length, which is nowhere", r"^[a-z]+\.(?!.*--)[a-z-]+$", ["a.b", "a.-b-"], ["a.b--", "a.", "a--.b"]),
     ("of any length, and in a name", r"^(?!.*--)[a-z-]+$", ["a", "-a-b-"], ["a--b", "--", ""]),
+    ("of any length, with another in it", r"^a*(?!b*(?!c+d))[bcd]+$", ["cd", "acd", "ccdb"], ["ab", "bc", "d"]),
     ("of any length, behind", r"^[a-z:]+(?<=:.*)a*$", [":a", "b:ba"], ["ab", "a", ""]),
     ("of a bounded length, anywhere", r"(?=.{1,4}$)[a-z](-*[a-z])*", ["a-b", "abcdef"], ["", "a----", "-"]),
     ("beyond its group", r"^(x+(?=.*1)[a-z]+|y)[0-9]+$", ["xa1", "xxb01", "y2"], ["xa2", "y", "x1"]),

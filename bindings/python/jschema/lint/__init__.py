@@ -13,12 +13,13 @@ from ..errors import Refused, UpgraderNotFound
 from ..limits import LARGEST_TEXT
 from ..locations import pointer
 from ..meanings import explain
-from ..resources import Document, document
+from ..resources import Document, Target, document, value_of
 from ..rewriting import Options
 from ..schemas import Schemas
 from ..sources import Source, Unreadable, read
 from . import bounds, keywords, numbers, patterns, references
 from .finding import ERROR, NOTE, RULES, WARNING, Finding, Found
+from .parts import part_of
 
 __all__ = ["ERROR", "NOTE", "RULES", "WARNING", "Finding", "broken", "lint", "lint_all", "lint_documents",
            "second_document", "unreadable"]
@@ -154,4 +155,7 @@ def _pattern_judge(schema: Any) -> Optional[Refused]:
 def _finding(given: Document, it: Found) -> Finding:
     place = pointer([*it.tokens])
     where = given.source.name(place) if it.is_name else given.source.value(place)
+    if it.part is not None:
+        string = it.tokens[-1] if it.is_name else value_of(Target(given, it.tokens))
+        where = part_of(given.source, where, string, *it.part)
     return Finding(it.rule, it.severity, it.message, place, where, it.suggestion)

@@ -21,8 +21,8 @@ _PART = re.compile(r"(?P<escaped>\\(?:(?P<named>k<\w+>|g\{?\w+)|(?P<number>[1-9]
                    r"|(?P<class>\[\^?\]?(?:\\.|[^\]\\])*\])|(?P<look>\(\?<?[=!])|(?P<atomic>\(\?>)", re.DOTALL)
 _PARTS = {"named": "a back-reference", "number": "a back-reference", "control": "a control character",
           "atomic": "an atomic group"}
+_LOOK = re.compile(r"\(\?<?[=!]")
 _LOOKS = {"(?=": "look-ahead", "(?!": "negative look-ahead", "(?<=": "look-behind", "(?<!": "negative look-behind"}
-_NONE = "it isn't a regular expression of `regex`"
 _PROPERTY = re.compile(r"\\[pP](?:\{[^}]*\}|[A-Za-z])")
 
 
@@ -35,11 +35,22 @@ class _Pattern(NamedTuple):
     given: list[str]
 
 
+class _Fault(NamedTuple):
+    """Why a pattern isn't read, and from which of its characters to which one; None for the whole."""
+
+    message: str
+    part: Optional[tuple[int, int]] = None
+
+
+_NONE = _Fault("it isn't a regular expression of `regex`")
+
+
 def unread(document: Document, is_rewritten: bool, judge: Judge) -> Iterator[Found]:
     """The patterns that the validator refuses; where they are rewritten, those that it refuses then."""
     for pattern, refused in _refused(list(_patterns(document, is_rewritten)), judge):
+        fault = _fault(pattern, refused, is_rewritten, judge)
         yield Found("pattern", ERROR, pattern.tokens, pattern.is_name,
-                    f"the validator doesn't read this pattern: {_why(pattern, refused, is_rewritten, judge)}")
+                    f"the validator doesn't read this pattern: {fault.message}", part=fault.part)
 
 
 def _patterns(document: Document, is_rewritten: bool) -> Iterator[_Pattern]:
@@ -71,46 +82,51 @@ def _refused(patterns: Sequence[_Pattern], judge: Judge) -> Iterator[tuple[_Patt
         patterns = patterns[index + 1:]
 
 
-def _why(pattern: _Pattern, refused: Refused, is_rewritten: bool, judge: Judge) -> str:
+def _fault(pattern: _Pattern, refused: Refused, is_rewritten: bool, judge: Judge) -> _Fault:
     """What the validator doesn't read in a pattern, or what can't be rewritten."""
     text = pattern.text
     if refused.kind != "BadPattern":
-        return refused.meaning
+        return _Fault(refused.meaning)
     if not is_rewritten:
         return _part(text) or _NONE
     try:
         places = looks(Read(text).alternatives)
     except NotRead as error:
-        return _part(text, False) or f"it isn't a regular expression of ECMA-262 (see character {error.at + 1})"
+        return _part(text, False) or _Fault(f"it isn't a regular expression of ECMA-262 (see character {error.at + 1})",
+                                            (error.at, error.at + 1) if error.at < len(text) else None)
     place = left(text)
     if place is not None:
-        return f"{_look(text, place)}, which can't be rewritten exactly"
+        return _look(text, place, "can't be rewritten exactly")
     if places and pattern.given == [text]:
-        if pattern.is_name:
-            return f"{_look(text, places[0])}, which needs a name alone, with `additionalProperties: false`"
-        return f"{_look(text, places[0])}, which can't be rewritten in this schema"
+        return _look(text, places[0], "needs a name alone, with `additionalProperties: false`" if pattern.is_name
+                     else "can't be rewritten in this schema")
     return _property(text, judge) or _NONE
 
 
-def _part(pattern: str, has_look: bool = True) -> Optional[str]:
+def _part(pattern: str, has_look: bool = True) -> Optional[_Fault]:
     """The first part that `regex` doesn't have; a look-around may be one."""
     for found in _PART.finditer(pattern):
         if found["look"] and has_look:
-            return f"{_look(pattern, found.start())}, which `regex` doesn't have"
+            return _look(pattern, found.start(), "`regex` doesn't have")
         for name, what in _PARTS.items():
             if found[name]:
-                return f"`{found[0]}` at {found.start() + 1} is {what}, which `regex` doesn't have"
+                return _at(found, f"{what}, which `regex` doesn't have")
     return None
 
 
-def _look(pattern: str, at: int) -> str:
-    sign = next(it for it in _LOOKS if pattern.startswith(it, at))
-    return f"`{sign}` at {at + 1} is a {_LOOKS[sign]}"
+def _look(pattern: str, at: int, why: str) -> _Fault:
+    found = _LOOK.match(pattern, at)
+    assert found is not None
+    return _at(found, f"a {_LOOKS[found[0]]}, which {why}")
 
 
-def _property(pattern: str, judge: Judge) -> Optional[str]:
+def _property(pattern: str, judge: Judge) -> Optional[_Fault]:
     """The first property of characters that `regex` doesn't know."""
     for found in _PROPERTY.finditer(pattern):
         if judge({"pattern": found[0]}) is not None:
-            return f"`{found[0]}` at {found.start() + 1} is a property of characters that `regex` doesn't have"
+            return _at(found, "a property of characters that `regex` doesn't have")
     return None
+
+
+def _at(found: re.Match[str], what: str) -> _Fault:
+    return _Fault(f"`{found[0]}` at {found.start() + 1} is {what}", found.span())

@@ -152,7 +152,8 @@ class _Rewriter:
         """A look-around, and what stands beside it up to the end, read side by side."""
         for index, node in enumerate(sequence):
             if isinstance(node, Look) and not has_look(sequence[index + 1:] if node.is_ahead else sequence[:index]):
-                found = _turned(sequence, index, lambda look, rest: taken(look.is_negated, look.body, rest))
+                found = _turned(sequence, index,
+                                lambda look, rest: taken(look.is_negated, _without_look(look.body), rest))
                 if found is not None:
                     return self.combined(tuple(found))
         return None
@@ -263,6 +264,22 @@ def _turned(sequence: Sequence, index: int,
         return [mirrored(it) + after for it in join(ahead, mirrored(before))]
     except NotExact:
         return None
+
+
+def _without_look(body: Alternatives) -> Alternatives:
+    """The same as what a look-ahead wants without the look-aheads in it."""
+    if not any(map(has_look, body)):
+        return body
+    found = None if any(map(_has_look_behind, body)) else single(body)
+    if found is None:
+        raise NotExact
+    return found.body
+
+
+def _has_look_behind(sequence: Sequence) -> bool:
+    inner = (node.node if isinstance(node, Repeat) else node for node in sequence)
+    return any(isinstance(it, Look) and not it.is_ahead or any(map(_has_look_behind, it.body))
+               for it in inner if isinstance(it, (Look, Group)))
 
 
 def _inside(node: Node, longest: int, steps: int) -> Optional[Node]:
