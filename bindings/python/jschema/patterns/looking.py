@@ -15,8 +15,8 @@ from .nodes import (END, START, Alternatives, Group, Look, Node, Repeat, Sequenc
 from .pushing import NotExact, Pusher, mirrored, shortened, words
 
 _MOST_SEQUENCES = 40
-# The most nodes that are looked at, each time that they are.
-_MOST_NODES = 5000
+# The most nodes that are looked at, each time that they are; and how many an automaton counts as.
+_MOST_NODES, _AUTOMATON = 5000, 250
 
 
 def combination(body: Alternatives) -> Combination:
@@ -152,6 +152,7 @@ class _Rewriter:
         """A look-around, and what stands beside it up to the end, read side by side."""
         for index, node in enumerate(sequence):
             if isinstance(node, Look) and not has_look(sequence[index + 1:] if node.is_ahead else sequence[:index]):
+                self._nodes += _AUTOMATON
                 found = _turned(sequence, index,
                                 lambda look, rest: taken(look.is_negated, _without_look(look.body), rest))
                 if found is not None:
