@@ -1,24 +1,25 @@
 """Look-aheads of any length, taken into what follows them up to the end of the pattern: `(?=.*[0-9])[a-z0-9]*$` is
 `[a-z]*[0-9][0-9a-z]*$`.
 
-What is looked for and what follows are read side by side, a character at a time. The states of this automaton are what
-is left of both; they are taken out one by one, until its first one leads to the end alone.
+What is looked for and what follows are read side by side, a character at a time. What is left of both is a state of an
+automaton, whose states are taken out one by one until the first one leads to the end alone.
 """
 from __future__ import annotations
 
-from collections.abc import Iterator
+from collections.abc import Iterator, Sequence as Several
 from typing import Optional
 
 from .characters import Characters, ranges
 from .nodes import END, Alternatives, Assertion, Group, Node, Repeat, Sequence, fewer, size
-from .pushing import ANYTHING, LARGEST, NotExact, regions, shortened
+from .pushing import ANYTHING, NotExact, regions, shortened
 
 # What is left of what follows, and of all that may be looked for.
-_State = tuple[Sequence, tuple[Sequence, ...]]
-# What leads from a state to others, and to the end of the pattern, which is None.
-_Edges = dict[Optional[_State], Alternatives]
+_Left = tuple[Sequence, tuple[Sequence, ...]]
+# What leads from a state to others by their numbers, and to the end of the pattern.
+_Edges = dict[int, Alternatives]
 
-_MOST_STATES = 100
+_FIRST, _END = 0, -1
+_MOST_STATES, _MOST_EDGES, _LARGEST = 100, 500, 5000
 
 
 def taken(is_negated: bool, body: Alternatives, rest: Sequence) -> Alternatives:
@@ -27,69 +28,72 @@ def taken(is_negated: bool, body: Alternatives, rest: Sequence) -> Alternatives:
 
 
 class _Automaton:
-    """The edges of each state. States with the same sequences are one, whatever their order is."""
+    """What is left in each state, and its edges. States with the same sequences are one, whatever their order is."""
 
     def __init__(self, is_negated: bool) -> None:
         self._is_negated = is_negated
-        self._known: dict[tuple[Sequence, frozenset[Sequence]], _State] = {}
-        self._edges: dict[_State, _Edges] = {}
+        self._numbers: dict[tuple[Sequence, frozenset[Sequence]], int] = {}
+        self._left: list[_Left] = []
+        self._edges: dict[int, _Edges] = {}
+        self._count = 0
 
     def alternatives(self, rest: Sequence, wanted: list[Sequence]) -> Alternatives:
         """What leads to the end from the first state, which has all."""
-        first = self._one(rest, wanted)
-        at_once = self._ends(first)
+        at_once = self._ends(rest, wanted)
         if at_once is not None:
             return at_once
-        waiting = [first]
-        while waiting:
-            state = waiting.pop()
-            if state not in self._edges:
-                if len(self._edges) == _MOST_STATES:
-                    raise NotExact
-                self._edges[state] = self._read(*state)
-                waiting += [it for it in self._edges[state] if it is not None]
+        self._number(rest, wanted)
+        # (The list grows on the way.)
+        for number, left in enumerate(self._left):
+            self._edges[number] = self._read(*left)
         while len(self._edges) > 1:
-            self._take_out(min((it for it in self._edges if it != first), key=self._cost))
-        edges = self._edges[first]
-        loop, ends = edges.get(first, ()), edges.get(None, ())
-        return ends if not loop or not ends else (_joined(_repeated(loop), ends),)
+            self._take_out(min((it for it in self._edges if it != _FIRST), key=self._cost))
+        edges = self._edges[_FIRST]
+        ends = edges.get(_END, ())
+        return (_joined(_repeated(edges[_FIRST]), ends),) if ends and _FIRST in edges else ends
 
-    def _ends(self, state: _State) -> Optional[Alternatives]:
-        """What leads from a state to the end, if one of the two is over."""
-        rest, wanted = state
+    def _ends(self, rest: Sequence, wanted: Several[Sequence]) -> Optional[Alternatives]:
+        """What leads to the end, if what is left is over on one of the two sides."""
         rest = () if rest == ANYTHING else rest
         if any(_may_be_empty(it, False) for it in wanted):
             return () if self._is_negated else (rest,)
         if not wanted:
             return (rest,) if self._is_negated else ()
-        return None if rest or self._is_negated else wanted
+        return None if rest or self._is_negated else tuple(wanted)
 
-    def _read(self, rest: Sequence, wanted: tuple[Sequence, ...]) -> _Edges:
+    def _read(self, rest: Sequence, wanted: Several[Sequence]) -> _Edges:
         """The edges of a state."""
         edges: _Edges = {}
         if _may_be_empty(rest, True) and any(_may_be_empty(it, True) for it in wanted) != self._is_negated:
-            edges[None] = ((END,),)
+            edges[_END] = ((END,),)
         begins = [it for sequence in wanted for it in _begins(sequence)]
         for one, after in _begins(rest):
             for region, left in regions(one, begins):
-                state = self._one(after, left)
-                ends = self._ends(state)
-                if ends is None:
-                    edges[state] = _united(edges.get(state, ()), ((region,),))
-                elif ends:
-                    edges[None] = _united(edges.get(None, ()), (_joined(((region,),), ends),))
+                self._count += 1
+                if self._count > _MOST_EDGES:
+                    raise NotExact
+                ends = self._ends(after, left)
+                target = self._number(after, left) if ends is None else _END
+                if ends is None or ends:
+                    label = (region,) if ends is None else _joined(((region,),), ends)
+                    edges[target] = _united(edges.get(target, ()), (label,))
         return edges
 
-    def _one(self, rest: Sequence, wanted: list[Sequence]) -> _State:
-        """The state with these."""
+    def _number(self, rest: Sequence, wanted: list[Sequence]) -> int:
+        """The state in which this is left."""
         rest = rest or ANYTHING
-        return self._known.setdefault((rest, frozenset(wanted)), (rest, tuple(dict.fromkeys(wanted))))
+        number = self._numbers.setdefault((rest, frozenset(wanted)), len(self._left))
+        if number == len(self._left):
+            if number == _MOST_STATES:
+                raise NotExact
+            self._left.append((rest, tuple(dict.fromkeys(wanted))))
+        return number
 
-    def _cost(self, state: _State) -> int:
+    def _cost(self, state: int) -> int:
         """How many edges are made when a state is taken out."""
         return len(self._edges[state]) * sum(state in edges for edges in self._edges.values())
 
-    def _take_out(self, state: _State) -> None:
+    def _take_out(self, state: int) -> None:
         """Leads the edges to a state on to where its own lead."""
         edges = self._edges.pop(state)
         loop = _repeated(edges.pop(state, ()))
@@ -142,7 +146,7 @@ def _united(one: Alternatives, other: Alternatives) -> Alternatives:
     if len(single) > 1:
         whole = Characters(ranges(part for it in single for part in it.ranges))
         both = ((whole,), *(it for it in both if len(it) != 1 or it[0] not in single))
-    if sum(map(size, both)) > LARGEST:
+    if sum(map(size, both)) > _LARGEST:
         raise NotExact
     return both
 

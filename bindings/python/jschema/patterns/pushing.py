@@ -15,10 +15,9 @@ Word = tuple[Union[Characters, Assertion], ...]
 _Left = TypeVar("_Left")
 #: What stands behind a pattern in a text.
 ANYTHING: Sequence = (Repeat(ANY, 0, None), END)
-#: The most that sequences may come to, as `size` counts.
-LARGEST = 20_000
 _MOST_WORDS = 64
 _DEEPEST = 60
+_LARGEST = 20_000
 
 
 class NotExact(Exception):
@@ -111,7 +110,7 @@ class Pusher:
         self._depth += 1
         found = self._by_first(wanted, rest[0], rest[1:])
         self._depth -= 1
-        if sum(map(size, found)) > LARGEST:
+        if sum(map(size, found)) > _LARGEST:
             raise NotExact
         return found
 
