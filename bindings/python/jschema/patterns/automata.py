@@ -10,7 +10,7 @@ from collections.abc import Iterator, Sequence as Several
 from typing import Optional
 
 from .characters import Characters, ranges
-from .nodes import END, Alternatives, Assertion, Group, Node, Repeat, Sequence, fewer, size
+from .nodes import END, Alternatives, Group, Node, Repeat, Sequence, fewer, size
 from .pushing import ANYTHING, NotExact, regions, shortened
 
 # What is left of what follows, and of all that may be looked for.
