@@ -7,7 +7,7 @@ is so is tested, and not proved.
 from __future__ import annotations
 
 import re
-from typing import Any, NamedTuple, Optional, Union
+from typing import Any, NamedTuple, Union
 
 from .values import GREATEST, LEAST
 
