@@ -160,9 +160,9 @@ class Names(unittest.TestCase):
 
     def test_closed(self):
         """Else `propertyNames` says it, where each other name is refused."""
-        schema = {"properties": {"id": True}, "patternProperties": {LONG: {"type": "null"}},
+        schema = {"properties": {"ID": True}, "patternProperties": {LONG: {"type": "null"}},
                   "additionalProperties": False}
-        self.verdicts({**schema, "properties": {"ID": True}}, [{"a-b": None}, {"ID": 1}, {}],
+        self.verdicts(schema, [{"a-b": None}, {"ID": 1}, {}],
                       [{"a" * 501: None}, {"a": None}, {"abc": 1}, {"ABC": None}])
         self.verdicts({**schema, "properties": {"a-b": True}}, [{"a-b": None}], [{"a-b": 1}, {"a--b": None}])
         self.verdicts({"patternProperties": {LONG: True}, "additionalProperties": False}, [{"abc": 1}], [{"a": 1}])
