@@ -79,8 +79,8 @@ MEANINGS = {
     "UriTooLong": "a URI of more than 65,536 bytes",
 }
 
-#: What is rewritten for the validator: of each option the name of its argument, and its words with what they
-#: mean. The first is the default, and the last leaves everything to the validator.
+#: What is rewritten for the validator: of each option the name of its argument, and its words with their
+#: meanings. The first is the default, and the last leaves everything to the validator.
 REWRITING = {
     "patterns": ("SYNTAX", {
         "ecma": "patterns are those of ECMA-262, look-around too where it can be rewritten exactly",
