@@ -241,7 +241,7 @@ def python_tables(interface):
             f"#: Each kind of refusal, by its number in the library.\nKINDS = {{\n{kinds}}}\n\n"
             f"#: The limits of the validator.\nLIMITS = {{\n{limits}}}\n\n"
             f"#: What each kind of refusal means.\nMEANINGS = {{\n{meanings}}}\n\n"
-            "#: What is rewritten for the validator: of each option the name of its argument, and its words with their\n"
+            "#: What is rewritten for the validator: of each option the name of the argument, and words with their\n"
             "#: meanings. The first is the default, and the last leaves everything to the validator.\n"
             f"REWRITING = {{\n{rewriting}}}\n")
 

@@ -79,7 +79,7 @@ MEANINGS = {
     "UriTooLong": "a URI of more than 65,536 bytes",
 }
 
-#: What is rewritten for the validator: of each option the name of its argument, and its words with their
+#: What is rewritten for the validator: of each option the name of the argument, and words with their
 #: meanings. The first is the default, and the last leaves everything to the validator.
 REWRITING = {
     "patterns": ("SYNTAX", {
