@@ -74,7 +74,7 @@ class Schemas:
 
     def places(self) -> list[str]:
         """The absolute location of every schema: what can be an entry, or be referred to."""
-        return self._rewriting.restoring.places(list(self._open().places()))
+        return [it for uri in self._open().places() if (it := self.written_schema(uri)) is not None]
 
     def is_valid(self, entry: str, instance: Instance) -> bool:
         """Whether an instance is valid. No output is made, so this is the quickest call."""
@@ -100,6 +100,11 @@ class Schemas:
         were rewritten, or upgraded from an older draft; where nothing in them becomes the keyword, it stays."""
         location = self._rewriting.restoring.location(absolute_keyword_location)
         return location if self._originals is None else self._originals.location(location)
+
+    def written_schema(self, absolute_keyword_location: str) -> Optional[str]:
+        """The absolute location of a schema in an output as it was before it was rewritten, which is another one below
+        `patternProperties`. None for a schema that the documents didn't have: a pattern became it."""
+        return self._rewriting.restoring.schema(absolute_keyword_location)
 
     def tree_in(self, answer: Answer) -> bytes:
         """The same errors as a tree: a `detailed` output."""

@@ -36,7 +36,7 @@ def validate(arguments: Arguments) -> int:
         schema = document(arguments.schema, "--schema", arguments.input, assumed)
         documents = [schema, *referred([schema], arguments, assumed)]
         schemas = Schemas(((it.uri, it.source.json) for it in documents), default_dialect=arguments.default_dialect,
-                          upgrade=arguments.upgrade, patterns=arguments.patterns, numbers=arguments.numbers)
+                          upgrade=arguments.upgrade, **arguments.rewriting._asdict())
     except UnreadableFile as error:
         report.refused_schema(unreadable_schema(error))
         return Status.REFUSED
