@@ -222,7 +222,9 @@ test("what is quick is checked in the page, as a worker does it", async () => {
 test("marks move with the text", () => {
   const moved = (before, after, ...marks) =>
     movedMarks(marks.map(([begin, end]) => ({ begin, end })), before, after).map(({ begin, end }) => [begin, end]);
-  assert.deepEqual(moved("[1, 2]", "[ 1, 2]", [1, 2], [4, 5]), [[2, 3], [5, 6]]);
+  assert.deepEqual(moved("[1, 2]", "\n[1, 2]", [1, 2], [4, 5]), [[2, 3], [5, 6]]);
+  // (What is typed at the edge of a mark belongs to it.)
+  assert.deepEqual(moved("[1, 2]", "[ 1, 2]", [1, 2], [4, 5]), [[1, 3], [5, 6]]);
   assert.deepEqual(moved("[1, 2]", "[1, 2, 3]", [1, 2], [4, 5]), [[1, 2], [4, 5]]);
   assert.deepEqual(moved("[1, 22, 3]", "[1, 3]", [1, 2], [4, 6], [8, 9]), [[1, 2], [4, 5]]);
   assert.deepEqual(moved("aaaa", "aaaaa", [0, 2]), [[0, 2]]);
@@ -245,14 +247,16 @@ test("the page names each module that it needs at first", () => {
   assert.deepEqual([new URL("main.js", page).href, ...named].sort(), [...needed].sort());
 });
 
-/** A worker that answers a request with its text, unless that is `never`. */
+/** A worker that is ready after a while, and answers a request with its text, unless that is `never`. */
 class Echo extends EventTarget {
   static started = 0;
+  static delay = 0;
   static asked = [];
 
   constructor() {
     super();
     Echo.started += 1;
+    setTimeout(() => this.#answer({ isReady: true }), Echo.delay);
   }
 
   postMessage({ number, request }) {
@@ -289,6 +293,21 @@ test("of the requests that wait only the newest is asked, and a slow worker is e
   assert.equal(Echo.started, 2);
   await wait();
   assert.deepEqual(answers, [["a", "a!"], ["never", "no answer after 1 s"], ["d", "d!"]]);
+});
+
+test("the time for an answer begins when the worker is ready", async () => {
+  Echo.delay = 100;
+  const order = [];
+  await new Promise((resolve) => {
+    const start = () => {
+      const worker = new Echo();
+      worker.addEventListener("message", ({ data }) => data.isReady && order.push("ready"));
+      return worker;
+    };
+    const tell = ({ fault }) => resolve(order.push(fault.message));
+    new Checker({ start, module, tell, milliseconds: 50 }).ask("never");
+  });
+  assert.deepEqual(order, ["ready", "no answer after 0.05 s"]);
 });
 
 test("a link holds the whole state", async () => {
