@@ -66,7 +66,7 @@ declare <16 x i8> @llvm.wasm.swizzle(<16 x i8>, <16 x i8>)
 """)}
 
 # The crates whose functions take the time of a check. They are compiled for speed, and all others for size.
-QUICK = frozenset(("core", "js_doc", "js_eval", "json", "serde_json", "simdutf8"))
+QUICK = frozenset(("js_doc", "js_eval", "json", "serde_json", "simdutf8"))
 
 _QUOTED_ATTRIBUTE = re.compile(r' ?"([\w-]+)"="[^"]*"')
 # What isn't a word of the language: names, numbers of attributes and of metadata, constants of bytes.
