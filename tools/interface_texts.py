@@ -229,6 +229,8 @@ def python_tables(interface):
     limits = "".join(f'    "{it["name"]}": {it["value"]:_},\n' for it in interface["limit"])
     meanings = "".join(f'    "{it["name"]}": {json.dumps(it["meaning"])},\n'
                        for it in sorted(interface["refusal"], key=lambda it: it["name"]))
+    rewriting = "".join(f'    "{it["name"]}": ("{it["argument"]}", {{\n{words(it)}    }}),\n'
+                        for it in interface["rewriting"])
     return ("#: The version of the package, and of the library that belongs to it.\n"
             f'VERSION = "{interface["version"]}"\n\n'
             f"#: Each format, and its number in the library.\nFORMATS = {{{formats}}}\n\n"
@@ -238,7 +240,15 @@ def python_tables(interface):
             f"SUBJECTS = {{\n{subjects}}}\n\n"
             f"#: Each kind of refusal, by its number in the library.\nKINDS = {{\n{kinds}}}\n\n"
             f"#: The limits of the validator.\nLIMITS = {{\n{limits}}}\n\n"
-            f"#: What each kind of refusal means.\nMEANINGS = {{\n{meanings}}}\n")
+            f"#: What each kind of refusal means.\nMEANINGS = {{\n{meanings}}}\n\n"
+            "#: What is rewritten for the validator: of each option the name of the argument, and words with their\n"
+            "#: meanings. The first is the default, and the last leaves everything to the validator.\n"
+            f"REWRITING = {{\n{rewriting}}}\n")
+
+
+def words(option):
+    """The words of an option of the Python package, as entries of a dict."""
+    return "".join(f'        "{it["name"]}": {json.dumps(it["help"].replace("`", ""))},\n' for it in option["word"])
 
 
 def javascript_tables(interface):
@@ -289,6 +299,12 @@ def page_lines(interface):
                   for it in interface["line"]])
 
 
+def page_rewriting(interface):
+    rows = [(f"`--{option['name']} {it['name']}`" + " (the default)" * (it is option["word"][0]), it["help"])
+            for option in interface["rewriting"] for it in option["word"]]
+    return table(("option", "meaning"), rows)
+
+
 def page_checks(kind):
     """Writes the table of what is refused by a kind of check."""
     def write(interface):
@@ -328,6 +344,7 @@ TEXTS = {
     "bindings/python/jschema/interface.py": {"tables": python_tables},
     "bindings/javascript/src/interface.js": {"tables": javascript_tables},
     "README.md": {"commands": page_commands, "statuses": page_statuses},
+    "docs/COMMAND.md": {"rewriting": page_rewriting},
     "docs/REFUSALS.md": {"limits": page_limits, "lines": page_lines, **{kind: page_checks(kind) for kind in
                                                  ("document", "schema", "keyword", "reference", "entry")},
                          "examples of documents": page_examples("document"),

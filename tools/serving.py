@@ -23,6 +23,10 @@ class Handler(BaseHTTPRequestHandler):
 
     server_version = "jschema"
     protocol_version = "HTTP/1.1"
+    # A response is sent at once and whole. (By default its headers are sent alone, and its body only after they have
+    # been acknowledged: a browser that uses the connection again takes up to 40 ms for that.)
+    wbufsize = -1
+    disable_nagle_algorithm = True
 
     def do_GET(self):  # noqa: N802
         self.answer(True)

@@ -1,6 +1,6 @@
 /** Requests to the worker: one at a time, and of those that wait only the newest. */
 
-// After this time without an answer the worker is ended, and another one started.
+// After this time without an answer the worker is ended, and another one started. It begins once the worker has loaded.
 const MOST_MILLISECONDS = 5000;
 
 export class Checker {
@@ -9,13 +9,15 @@ export class Checker {
   #tell;
   #milliseconds;
   #worker;
+  #isReady = false;
   #timer;
   #number = 0;
   #running;
   #waiting;
 
   /**
-   * `start` starts a worker, which gets the module; `tell` is given each answer with its request.
+   * `start` starts a worker, which says when it is ready, and gets the module; `tell` is given each answer with its
+   * request.
    *
    * @param {{ start: () => Worker, module: WebAssembly.Module, tell: Function, milliseconds?: number }} how
    */
@@ -34,17 +36,33 @@ export class Checker {
   }
 
   #begin() {
+    this.#isReady = false;
     this.#worker = this.#start();
-    this.#worker.addEventListener("message", ({ data }) => this.#answered(data));
+    this.#worker.addEventListener("message", ({ data }) => {
+      if (data.isReady) this.#ready();
+      else this.#answered(data);
+    });
     this.#worker.postMessage({ module: this.#module });
   }
 
-  #next() {
+  #ready() {
+    this.#isReady = true;
+    this.#limit();
+  }
+
+  /** Begins the time for the answer that is waited for. */
+  #limit() {
     clearTimeout(this.#timer);
+    if (this.#isReady && this.#running !== undefined) {
+      this.#timer = setTimeout(() => this.#stop(), this.#milliseconds);
+    }
+  }
+
+  #next() {
     this.#running = this.#waiting;
     this.#waiting = undefined;
+    this.#limit();
     if (this.#running === undefined) return;
-    this.#timer = setTimeout(() => this.#stop(), this.#milliseconds);
     this.#number += 1;
     this.#worker.postMessage({ number: this.#number, request: this.#running });
   }

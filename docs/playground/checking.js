@@ -1,7 +1,8 @@
-/** What the worker does: checks an instance, and says where each error stands in the texts. */
-import { Engine } from "../../bindings/javascript/src/engine.js";
-import { Refused, Schemas } from "../../bindings/javascript/src/index.js";
-import { Values, SchemaTexts, isOfName } from "./places.js";
+/** Checks an instance, and says where each error stands in the texts. */
+import { Refused } from "../../bindings/javascript/src/errors.js";
+import { STANDARD_LIMITS } from "../../bindings/javascript/src/limits.js";
+import { Schemas } from "../../bindings/javascript/src/schemas.js";
+import { SchemaTexts, Values, isOfName } from "./places.js";
 
 /** The most errors that are listed and underlined. */
 export const MOST_ERRORS = 200;
@@ -9,21 +10,51 @@ export const MOST_ERRORS = 200;
 /** The most nodes of a result that is shown as a tree. */
 export const MOST_NODES = 20_000;
 
-/** The documents of the last request, read and checked, and read once more for results that are shown as trees. */
+// What is checked in the page itself: so many characters, and a result with so many nodes.
+const QUICK_CHARACTERS = 10_000, QUICK_NODES = 2000;
+
+// A keyword that may have a regular expression. (A name may be written with escapes.)
+const MAY_HAVE_PATTERN = /pattern|\\/;
+
+/**
+ * The answer to a request whose check takes a few milliseconds at most; undefined for another one, which is left to a
+ * worker.
+ *
+ * @param {import("../../bindings/javascript/src/engine.js").Engine} engine
+ */
+export async function quickAnswer(engine, request) {
+  const texts = request.documents.map(({ text }) => text);
+  const length = texts.reduce((sum, { length }) => sum + length, request.instance.length);
+  if (length > QUICK_CHARACTERS || texts.some((it) => MAY_HAVE_PATTERN.test(it))) return undefined;
+  const checks = new Checks(engine, QUICK_NODES);
+  const answer = await checks.answer(request);
+  checks.close();
+  const { fault } = answer;
+  return fault === undefined || fault.name === "Refused" && fault.kind !== "TooLarge" ? answer : undefined;
+}
+
+/** The documents of the last request, read and checked; and read once more when a result is to be shown as a tree. */
 export class Checks {
   #engine;
+  #nodes;
   #documents;
+  #places;
   #schemas;
   #forTrees;
   #texts;
 
-  /** @param {WebAssembly.Module} module */
-  constructor(module) {
-    this.#engine = new Engine(module);
+  /**
+   * @param {import("../../bindings/javascript/src/engine.js").Engine} engine
+   * @param {number} [nodes] the most nodes of a result
+   */
+  constructor(engine, nodes = STANDARD_LIMITS.nodes) {
+    this.#engine = engine;
+    this.#nodes = nodes;
   }
 
   /**
-   * The answer to a request: the verdict, the errors, the time, and what else was wanted.
+   * The answer to a request: the verdict, the errors, the time, and what else was wanted. The first one about documents
+   * has `places` too, the schemas that can be an entry.
    *
    * @param {{ documents: { uri: string, text: string }[], entry: string, instance: string, wanted: string[] }} request
    *     `wanted` has formats whose outputs are wanted too
@@ -31,23 +62,33 @@ export class Checks {
   async answer(request) {
     try {
       await this.#read(request.documents);
-      const places = this.#schemas.places();
-      return { ...this.#judge(request), places, outputs: this.#outputs(request) };
+      const judged = this.#judge(request), outputs = await this.#outputs(request);
+      const places = this.#places;
+      this.#places = undefined;
+      return { ...judged, places, outputs };
     } catch (error) {
       return { verdict: "none", fault: this.#described(error, request) };
     }
   }
 
-  async #read(documents) {
-    if (JSON.stringify(documents) === JSON.stringify(this.#documents)) return;
+  /** Frees what the documents take. */
+  close() {
     this.#schemas?.close();
     this.#forTrees?.close();
     this.#documents = this.#schemas = this.#forTrees = undefined;
+  }
+
+  async #read(documents) {
+    if (this.#documents !== undefined && areSame(documents, this.#documents)) return;
+    this.close();
     this.#texts = new SchemaTexts(documents, this.#engine);
-    const pairs = documents.map(({ uri, text }) => [uri, text]);
-    this.#schemas = await Schemas.create(pairs, { module: this.#engine });
-    this.#forTrees = await Schemas.create(pairs, { module: this.#engine, nodes: MOST_NODES });
+    this.#schemas = await this.#created(documents, this.#nodes);
     this.#documents = documents;
+    this.#places = this.#schemas.places();
+  }
+
+  #created(documents, nodes) {
+    return Schemas.create(documents.map(({ uri, text }) => [uri, text]), { module: this.#engine, nodes });
   }
 
   #judge({ entry, instance }) {
@@ -74,8 +115,11 @@ export class Checks {
   }
 
   /** The text of each output that is wanted. */
-  #outputs({ entry, instance, wanted }) {
+  async #outputs({ entry, instance, wanted }) {
     const outputs = {};
+    if (wanted.length > 0) {
+      this.#forTrees ??= await this.#created(this.#documents, Math.min(MOST_NODES, this.#nodes));
+    }
     for (const format of wanted) {
       try {
         outputs[format] = this.#forTrees.outputText(entry, instance, format);
@@ -108,4 +152,10 @@ export class Checks {
     const begin = Math.min(position.offset, Math.max(instance.length - 1, 0));
     return { begin, end: begin + 1 };
   }
+}
+
+/** Whether two lists have the same documents. */
+function areSame(some, others) {
+  return some.length === others.length
+    && some.every(({ uri, text }, index) => uri === others[index].uri && text === others[index].text);
 }

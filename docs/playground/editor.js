@@ -4,7 +4,7 @@
  * The text area has the text, its caret and its selection; its letters can't be seen. What is seen is drawn over it:
  * of the lines that fit, coloured tokens, underlines, and behind each line the message of its first underline.
  */
-import { element } from "./elements.js";
+import { element, patch } from "./elements.js";
 import { indented } from "./indenting.js";
 
 // As in style.css.
@@ -17,10 +17,12 @@ const TOKEN = /("(?:[^"\\]|\\.)*"?)(\s*:)?|(-?[0-9][0-9.eE+-]*)|(true|false|null
 
 export class Editor {
   #area;
-  #drawing;
-  #gutter;
+  // What is drawn: the lines that can be seen, and their numbers.
+  #lines = element("div", {});
+  #numbers = element("div", {});
   #caret;
-  #before = "";
+  // The text as it was measured, and where its lines begin.
+  #text = "";
   #starts = [0];
   #marks = [];
   #selected;
@@ -31,26 +33,26 @@ export class Editor {
    * @param {{ holder: Element, label: string, id: string, changed: Function, moved: (offset: number) => void }} how
    */
   constructor({ holder, label, id, changed, moved }) {
-    this.#gutter = element("div", { class: "gutter", "aria-hidden": "true" });
-    this.#drawing = element("div", { class: "drawing", "aria-hidden": "true" });
+    const gutter = element("div", { class: "gutter", "aria-hidden": "true" }, this.#numbers);
+    const drawing = element("div", { class: "drawing", "aria-hidden": "true" }, this.#lines);
     this.#area = element("textarea", {
       id, "aria-label": label, "aria-describedby": `${id}-caret`, spellcheck: "false", autocapitalize: "off",
       autocomplete: "off", wrap: "off",
     });
     this.#caret = element("p", { class: "caret", id: `${id}-caret` });
-    const text = element("div", { class: "text" }, this.#area, this.#drawing);
+    const text = element("div", { class: "text" }, this.#area, drawing);
     const indent = element("button", {
       type: "button", title: `A line for each member and item of the ${label.toLowerCase()}`,
       onclick: () => this.#indent(),
     }, "Indent");
-    holder.append(element("div", { class: "editor" }, this.#gutter, text),
+    holder.append(element("div", { class: "editor" }, gutter, text),
       element("div", { class: "foot" }, this.#caret, indent));
     this.#area.addEventListener("input", () => {
-      this.#marks = movedMarks(this.#marks, this.#before, this.#area.value);
+      this.#marks = movedMarks(this.#marks, this.#text, this.#area.value);
       this.#selected = undefined;
       this.#measure();
-      this.draw();
       changed();
+      this.draw();
     });
     this.#area.addEventListener("scroll", () => this.draw());
     document.addEventListener("selectionchange", () => {
@@ -107,7 +109,7 @@ export class Editor {
   /** The line and column of an offset, from 1. */
   positionOf(offset) {
     const line = this.#lineOf(offset);
-    const before = this.#area.value.slice(this.#starts[line], offset);
+    const before = this.#text.slice(this.#starts[line], offset);
     return { line: line + 1, column: [...before].length + 1 };
   }
 
@@ -122,26 +124,23 @@ export class Editor {
     this.#area.scrollTo(0, 0);
   }
 
-  /** Draws the lines that can be seen. */
+  /** Draws the lines that can be seen. What a line shows stays where it is the same as before. */
   draw() {
-    const { scrollTop, scrollLeft, clientHeight } = this.#area;
+    const { scrollTop, scrollLeft, clientWidth, clientHeight } = this.#area;
     const first = Math.floor(scrollTop / LINE_HEIGHT);
     const last = Math.min(this.#starts.length, Math.ceil((scrollTop + clientHeight) / LINE_HEIGHT) + 1);
-    const lines = [], numbers = [];
-    for (let line = first; line < last; line++) {
-      lines.push(element("div", { class: "line" }, ...this.#lineParts(line)));
-      const isMarked = this.#marksIn(line).length > 0;
-      numbers.push(element("div", isMarked ? { class: "marked" } : {}, String(line + 1)));
-    }
+    const seen = { from: scrollLeft, to: scrollLeft + clientWidth };
+    const lines = Array.from({ length: Math.max(last - first, 0) }, (_, index) => this.#lineAt(first + index, seen));
+    const numbers = lines.map(({ isMarked }, index) => ({ number: first + index + 1, isMarked }));
     const down = first * LINE_HEIGHT - scrollTop;
-    this.#drawing.replaceChildren(element("div", {}, ...lines));
-    this.#drawing.firstChild.style.transform = `translate(${-scrollLeft}px, ${down}px)`;
-    this.#gutter.replaceChildren(element("div", {}, ...numbers));
-    this.#gutter.firstChild.style.transform = `translateY(${down}px)`;
+    patch(this.#lines, lines, lineElement);
+    this.#lines.style.transform = `translate(${-scrollLeft}px, ${down}px)`;
+    patch(this.#numbers, numbers, numberElement);
+    this.#numbers.style.transform = `translateY(${down}px)`;
   }
 
   #measure() {
-    const text = this.#before = this.#area.value;
+    const text = this.#text = this.#area.value;
     this.#starts = [0];
     for (let at = text.indexOf("\n"); at >= 0; at = text.indexOf("\n", at + 1)) this.#starts.push(at + 1);
   }
@@ -157,8 +156,8 @@ export class Editor {
   }
 
   #lineText(line) {
-    const end = this.#starts[line + 1] ?? this.#area.value.length + 1;
-    return this.#area.value.slice(this.#starts[line], end - 1);
+    const end = this.#starts[line + 1] ?? this.#text.length + 1;
+    return this.#text.slice(this.#starts[line], end - 1);
   }
 
   #marksIn(line) {
@@ -166,27 +165,21 @@ export class Editor {
     return this.#marks.filter((it) => it.begin < end && it.end > begin);
   }
 
-  /** The parts of a line: coloured and underlined pieces, then the message. */
-  #lineParts(line) {
+  /** What a line shows: coloured and underlined pieces, then the message. */
+  #lineAt(line, seen) {
     const text = this.#lineText(line), begin = this.#starts[line];
     const marks = this.#marksIn(line);
     const own = [...marks, ...this.#selected ? [{ ...this.#selected, isSelected: true }] : []];
-    const parts = piecesOf(text, begin, own).map(({ piece, classes }) =>
-      classes === "" ? document.createTextNode(piece) : element("span", { class: classes }, piece));
     const messages = marks.filter((it) => it.begin >= begin).map((it) => it.message);
-    if (messages.length > 0) parts.push(this.#message(messages, text.length));
-    return parts;
+    const message = messages.length > 0 ? this.#messageAt(messages, text.length, seen) : undefined;
+    return { pieces: piecesOf(text, begin, own), message, isMarked: marks.length > 0 };
   }
 
   /** The message behind a line; where there is no room for it, below the line. */
-  #message(messages, length) {
-    const more = messages.length > 1 ? ` (and ${messages.length - 1} more)` : "";
-    const text = messages[0] + more;
-    const seen = this.#area.clientWidth + this.#area.scrollLeft;
-    if ((length + text.length + 4) * this.#columnWidth() <= seen) return element("span", { class: "message" }, text);
-    const shown = element("span", { class: "message below" }, `↑ ${text}`);
-    shown.style.right = `${-this.#area.scrollLeft}px`;
-    return shown;
+  #messageAt(messages, length, seen) {
+    const text = messages[0] + (messages.length > 1 ? ` (and ${messages.length - 1} more)` : "");
+    const isBehind = (length + text.length + 4) * this.#columnWidth() <= seen.to;
+    return isBehind ? { text } : { text: `↑ ${text}`, right: -seen.from };
   }
 
   #columnWidth() {
@@ -204,15 +197,44 @@ export class Editor {
   }
 }
 
+/** The element of a line. */
+function lineElement({ pieces, message }) {
+  const parts = pieces.map(({ piece, classes }) =>
+    classes === "" ? document.createTextNode(piece) : element("span", { class: classes }, piece));
+  const line = element("div", { class: "line" }, ...parts);
+  if (message === undefined) return line;
+  const isBelow = message.right !== undefined;
+  const shown = element("span", { class: isBelow ? "message below" : "message" }, message.text);
+  if (isBelow) shown.style.right = `${message.right}px`;
+  line.append(shown);
+  return line;
+}
+
+/** The element of a line's number. */
+function numberElement({ number, isMarked }) {
+  return element("div", isMarked ? { class: "marked" } : {}, String(number));
+}
+
 /** Marks after a change of the text: those behind it move along, until there are new ones. */
-function movedMarks(marks, before, after) {
-  let same = 0, sameEnd = 0;
+export function movedMarks(marks, before, after) {
+  if (marks.length === 0) return marks;
   const shorter = Math.min(before.length, after.length);
-  while (same < shorter && before[same] === after[same]) same++;
-  while (sameEnd < shorter - same && before.at(-1 - sameEnd) === after.at(-1 - sameEnd)) sameEnd++;
+  const same = greatest(shorter, (length) => after.startsWith(before.slice(0, length)));
+  const sameEnd = greatest(shorter - same, (length) => after.endsWith(before.slice(before.length - length)));
   const changedTo = before.length - sameEnd, longer = after.length - before.length;
   const moved = (offset) => offset <= same ? offset : Math.max(same, offset >= changedTo ? offset + longer : same);
   return marks.map((it) => ({ ...it, begin: moved(it.begin), end: moved(it.end) })).filter((it) => it.begin < it.end);
+}
+
+/** The greatest number up to `most` for which this holds, as it does for each smaller one. */
+function greatest(most, holds) {
+  let low = 0, high = most;
+  while (low < high) {
+    const middle = Math.ceil((low + high) / 2);
+    if (holds(middle)) low = middle;
+    else high = middle - 1;
+  }
+  return low;
 }
 
 /** The pieces of a line, each with its classes. */

@@ -10,3 +10,25 @@ export function element(name, attributes = {}, ...children) {
   made.append(...children.filter((it) => it !== undefined));
   return made;
 }
+
+// What the children show that `patch` made.
+const shown = new WeakMap();
+
+/**
+ * Gives an element a child for each of these descriptions. A child stays where its description is that of before; else
+ * `make` makes one of the description and its index.
+ *
+ * @template T
+ * @param {Element} holder @param {readonly T[]} descriptions @param {(it: T, index: number) => Element} make
+ */
+export function patch(holder, descriptions, make) {
+  while (holder.children.length > descriptions.length) holder.lastElementChild.remove();
+  descriptions.forEach((it, index) => {
+    const text = JSON.stringify(it), present = holder.children[index];
+    if (present !== undefined && shown.get(present) === text) return;
+    const made = make(it, index);
+    shown.set(made, text);
+    if (present === undefined) holder.append(made);
+    else present.replaceWith(made);
+  });
+}

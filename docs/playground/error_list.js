@@ -1,15 +1,17 @@
 /** The panel with the errors of the instance. */
-import { element } from "./elements.js";
+import { element, patch } from "./elements.js";
 
 export class ErrorList {
-  #holder;
+  #holder = element("div", {});
+  #list = element("ol", { class: "errors" });
+  #hint = element("p", { class: "hint" });
   #how;
-  #items = [];
+  #errors = [];
 
   /** @param {{ places: (error: object) => { instance?: string, schema?: string }, chosen: Function }} how */
   constructor(how) {
     this.#how = how;
-    this.#holder = element("div", {});
+    this.#holder.append(this.#list, this.#hint);
   }
 
   get element() {
@@ -17,35 +19,39 @@ export class ErrorList {
   }
 
   show({ verdict, errors = [], count = 0, fault }) {
-    this.#items = errors.map((error) => this.#item(error));
-    const hint = (text) => element("p", { class: "hint" }, text);
-    if (verdict === "valid") {
-      this.#holder.replaceChildren(hint("The instance is valid: there are no errors."));
-    } else if (verdict === "none") {
-      this.#holder.replaceChildren(hint(helpFor(fault)));
-    } else {
-      this.#holder.replaceChildren(element("ol", { class: "errors" }, ...this.#items));
-      const left = count - errors.length;
-      if (left > 0) this.#holder.append(hint(`${left.toLocaleString("en")} more errors.`));
-    }
+    this.#errors = errors;
+    this.emphasize(errors, () => false);
+    patch(this.#list, errors.map((error) => this.#described(error)), (it, index) => this.#item(it, index));
+    this.#list.hidden = errors.length === 0;
+    const left = count - errors.length;
+    const hint = verdict === "valid" ? "The instance is valid: there are no errors."
+      : verdict === "none" ? helpFor(fault) : left > 0 ? `${left.toLocaleString("en")} more errors.` : "";
+    if (this.#hint.textContent !== hint) this.#hint.textContent = hint;
   }
 
   /** Emphasizes the errors for which this holds. */
   emphasize(errors, holds) {
-    errors.forEach((it, index) => this.#items[index]?.classList.toggle("current", holds(it)));
+    errors.forEach((it, index) => this.#list.children[index]?.classList.toggle("current", holds(it)));
   }
 
-  #item(error) {
+  /** What an item of the list says. */
+  #described(error) {
     const { instance, schema } = this.#how.places(error);
-    const go = (where) => () => this.#how.chosen(error, where);
+    const { message, instanceLocation, keywordLocation, absoluteKeywordLocation: title } = error;
+    return {
+      message, title,
+      value: `${instanceLocation || "the whole instance"}${instance ? ` (${instance})` : ""}`,
+      keyword: `${keywordLocation || "the schema false"}${schema ? ` (${schema})` : ""}`,
+    };
+  }
+
+  #item({ message, title, value, keyword }, index) {
+    const button = (attributes, where, label) => element("button",
+      { type: "button", ...attributes, onclick: () => this.#how.chosen(this.#errors[index], where) }, label);
     return element("li", {},
-      element("button", { type: "button", class: "message", onclick: go("both") }, error.message),
-      element("span", { class: "where" },
-        element("button", { type: "button", title: "Go to the value", onclick: go("instance") },
-          `${error.instanceLocation || "the whole instance"}${instance ? ` (${instance})` : ""}`),
-        " fails ",
-        element("button", { type: "button", title: error.absoluteKeywordLocation, onclick: go("schema") },
-          `${error.keywordLocation || "the schema false"}${schema ? ` (${schema})` : ""}`)));
+      button({ class: "message" }, "both", message),
+      element("span", { class: "where" }, button({ title: "Go to the value" }, "instance", value), " fails ",
+        button({ title }, "schema", keyword)));
   }
 }
 

@@ -18,7 +18,8 @@ export async function loadModule() {
 
 /** The bytes of a gzipped text in base64. */
 async function unpacked(text) {
-  const bytes = Uint8Array.from(atob(text), (it) => it.charCodeAt(0));
+  const decoded = atob(text), bytes = new Uint8Array(decoded.length);
+  for (let at = 0; at < bytes.length; at++) bytes[at] = decoded.charCodeAt(at);
   const stream = new Blob([bytes]).stream().pipeThrough(new DecompressionStream("gzip"));
   return new Response(stream).arrayBuffer();
 }

@@ -1,16 +1,14 @@
 /** The playground: what was typed goes to the worker, and its answers to the panels. */
 import { Engine } from "../../bindings/javascript/src/engine.js";
 import { Checker } from "./checker.js";
-import { CondensingPanel } from "./condensing_panel.js";
+import { quickAnswer } from "./checking.js";
 import { DocumentTabs } from "./document_tabs.js";
 import { Editor } from "./editor.js";
 import { element } from "./elements.js";
 import { ErrorList } from "./error_list.js";
 import { EXAMPLES, stateOfExample } from "./examples.js";
 import { forbidConnections, loadModule, startWorker } from "./loading.js";
-import { OutputPanel } from "./output_panel.js";
 import { SchemaTexts, Values, isOfName } from "./places.js";
-import { ResultPanel } from "./result_panel.js";
 import { fragmentOf, stateOf } from "./sharing.js";
 import { Tabs } from "./tabs.js";
 
@@ -22,8 +20,8 @@ const LONGEST_LINK = 1_000_000;
 /** The most schemas that are offered to check against. */
 const MOST_ENTRIES = 500;
 
-// How long after the last change the address gets the state.
-const QUIET_MILLISECONDS = 600;
+// How long after the last key press the outputs that a panel shows are asked for, and the address gets the state.
+const PAUSE_MILLISECONDS = 200, QUIET_MILLISECONDS = 600;
 
 const at = (id) => document.getElementById(id);
 
@@ -31,43 +29,55 @@ class Playground {
   #checker;
   // Finds the places of the nodes that are chosen.
   #engine;
-  #answer = { verdict: "none" };
+  #answer;
   #panel = "errors";
   #format = "detailed";
   #isMerging = false;
+  #pause;
   #quiet;
 
   constructor() {
     this.documents = new DocumentTabs({
-      changed: () => this.#changed(), moved: (document, offset) => this.#caretAt("inSchema", offset, document),
+      changed: () => this.#typed(), moved: (document, offset) => this.#caretAt("inSchema", offset, document),
     });
     this.instance = new Editor({
       holder: at("instance-editor"), label: "Instance", id: "instance-text",
-      changed: () => this.#changed(), moved: (offset) => this.#caretAt("inInstance", offset),
+      changed: () => this.#typed(), moved: (offset) => this.#caretAt("inInstance", offset),
     });
-    const chosen = (node) => this.#revealNode(node);
     this.panels = {
       errors: new ErrorList({
         places: (error) => this.#positions(error),
         chosen: (error, where) => this.#reveal(error, where),
       }),
-      tree: new ResultPanel({ chosen }),
-      condensing: new CondensingPanel({ chosen, changed: (isMerging) => this.#choose({ isMerging }) }),
-      output: new OutputPanel({ changed: (format) => this.#choose({ format }) }),
     };
     this.tabs = new Tabs({
       holder: at("panels"), label: "Result", panel: "panel", chosen: (panel) => this.#choose({ panel }),
     });
-    at("entry").addEventListener("input", () => this.#changed());
+    at("entry").addEventListener("input", () => this.#typed());
     at("share").addEventListener("click", () => this.#share());
     this.#offerExamples();
   }
 
-  /** Begins to check, by this module. */
-  connect(module) {
+  /** Shows the first verdict by this module. What is quick is checked here: it takes a while to start a worker. */
+  async connect(module) {
     this.#engine = new Engine(module);
-    this.#checker = new Checker({ start: startWorker, module, tell: (answer) => this.#answered(answer) });
+    const answer = await quickAnswer(this.#engine, this.#request);
+    if (answer !== undefined) this.#answered(answer);
+  }
+
+  /** Begins to check in a worker, and adds the other panels. */
+  async complete() {
+    const answered = new Promise((resolve) => {
+      const tell = (answer) => resolve(this.#answered(answer));
+      this.#checker = new Checker({ start: startWorker, module: this.#engine.module, tell });
+    });
     this.#check();
+    const { otherPanels } = await import("./panels.js");
+    Object.assign(this.panels, otherPanels({
+      chosen: (node) => this.#revealNode(node), changed: (what) => this.#choose(what),
+    }));
+    this.#showPanel();
+    await answered;
   }
 
   get state() {
@@ -99,8 +109,12 @@ class Playground {
     });
   }
 
-  #changed() {
-    this.#check();
+  /** Asks for the verdict and the errors at once, and for more where nothing follows. */
+  #typed() {
+    const { wanted, ...request } = this.#request;
+    clearTimeout(this.#pause);
+    this.#checker?.ask({ ...request, wanted: [] });
+    if (wanted.length > 0) this.#pause = setTimeout(() => this.#check(), PAUSE_MILLISECONDS);
     this.#later();
   }
 
@@ -108,16 +122,23 @@ class Playground {
     this.#panel = panel;
     this.#format = format;
     this.#isMerging = isMerging;
-    this.#changed();
+    this.#check();
+    this.#later();
   }
 
-  #check() {
+  /** What is asked: the verdict, the errors, and the outputs that the panel shows. */
+  get #request() {
     const { documents, entry, instance } = this.state;
     const wanted = {
       errors: [], tree: ["verbose"], output: [this.#format],
       condensing: ["verbose", this.#isMerging ? "merged" : "detailed"],
     }[this.#panel];
-    this.#checker?.ask({ documents, entry, instance, wanted });
+    return { documents, entry, instance, wanted };
+  }
+
+  #check() {
+    clearTimeout(this.#pause);
+    this.#checker?.ask(this.#request);
   }
 
   #answered(answer) {
@@ -148,9 +169,13 @@ class Playground {
   }
 
   #showPanel() {
+    if (this.#answer === undefined) return;
     const panel = this.panels[this.#panel];
-    const { outputs = {} } = this.#answer;
+    const { verdict, outputs = {} } = this.#answer;
     this.tabs.show(Object.entries(PANELS).map(([key, label]) => ({ key, label })), this.#panel);
+    // (Panels are added once there is a verdict, and outputs may come after it.)
+    const isWaiting = verdict !== "none" && !this.#request.wanted.every((it) => it in outputs);
+    if (panel === undefined || isWaiting) return;
     if (at("panel").firstChild !== panel.element) at("panel").replaceChildren(panel.element);
     if (this.#panel === "errors") panel.show(this.#answer);
     else if (this.#panel === "tree") panel.show(outputs.verbose);
@@ -182,7 +207,7 @@ class Playground {
 
   /** Emphasizes the errors at the caret. */
   #caretAt(where, offset, document = undefined) {
-    const { errors = [] } = this.#answer;
+    const { errors = [] } = this.#answer ?? {};
     this.panels.errors.emphasize(errors, ({ [where]: it }) =>
       it !== undefined && it.document === document && it.begin <= offset && offset <= it.end);
   }
@@ -251,8 +276,12 @@ async function begin() {
   playground.show(await firstState());
   const module = await loading;
   forbidConnections();
-  playground.connect(module);
+  await playground.connect(module);
   window.addEventListener("hashchange", async () => playground.show(await firstState()));
+  // (The verdict is drawn first.)
+  await new Promise((resolve) => setTimeout(resolve));
+  await playground.complete();
+  performance.mark("complete");
 }
 
 begin().catch((error) => {

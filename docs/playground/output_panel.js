@@ -1,5 +1,5 @@
 /** The panel with the output as it is written, in any format. */
-import { FORMATS } from "../../bindings/javascript/src/index.js";
+import { FORMATS } from "../../bindings/javascript/src/interface.js";
 import { element } from "./elements.js";
 import { indented } from "./indenting.js";
 

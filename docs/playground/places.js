@@ -66,13 +66,19 @@ export function isOfName(keywordLocation) {
 /** The schema documents: which of them has the keyword at an absolute location, and where. */
 export class SchemaTexts {
   #values;
-  // What was read of those that are JSON.
-  #documents;
+  #texts;
+  #read;
 
   /** @param {readonly { uri: string, text: string }[]} documents */
   constructor(documents, engine) {
     this.#values = documents.map(({ text }) => new Values(text, engine));
-    this.#documents = documents.map(({ uri, text }) => read(uri, text));
+    this.#texts = documents;
+  }
+
+  /** What was read of the documents that are JSON, when the first keyword is looked for. */
+  get #documents() {
+    this.#read ??= this.#texts.map(({ uri, text }) => read(uri, text));
+    return this.#read;
   }
 
   /** Says which keywords will be looked for. */

@@ -16,6 +16,8 @@ const NOWHERE = 0xffffffff;
 // How much of an output is copied without asking for its length first, and how much is kept between calls.
 const ROOM = 4096, KEPT_ROOM = 1 << 20;
 
+const NUMBERS = new Map(FORMATS.map((format, number) => [format, number]));
+
 const encoder = new TextEncoder();
 const decoder = new TextDecoder("utf-8", { fatal: true, ignoreBOM: true });
 
@@ -59,9 +61,10 @@ export class Engine {
 /** An instance of the module. After a trap, or at the end of its stack, it has stopped: data may be half written. */
 export class Instance {
   #calls;
-  // Where inputs and outputs are put, for one call at a time.
+  // Where inputs and outputs are put, for one call at a time; and its bytes, which are none once the memory has grown.
   #at = 0;
   #room = 0;
+  #roomBytes = new Uint8Array();
   hasStopped = false;
 
   /** @param {WebAssembly.Module} module */
@@ -140,7 +143,7 @@ export class Instance {
   /** Whether an instance is valid. The output is the text of this call. */
   verdict(handle, entry, instance, format) {
     const length = this.#put(instance);
-    const status = this.#call("jschema_check", handle, entry, this.#at, length, FORMATS.indexOf(format));
+    const status = this.#call("jschema_check", handle, entry, this.#at, length, NUMBERS.get(format));
     if (status > INVALID) this.#expectDone(handle, status);
     return status === DONE;
   }
@@ -188,7 +191,7 @@ export class Instance {
     }
   }
 
-  /** The bytes at a place: made anew for each use, since a memory that grows gets another buffer. */
+  /** The bytes at a place, until the memory grows: it gets another buffer then. */
   #bytes(at, length) {
     return new Uint8Array(this.#calls.memory.buffer, at, length);
   }
@@ -204,6 +207,7 @@ export class Instance {
     if (this.#room < length || this.#room > KEPT_ROOM && length <= KEPT_ROOM) {
       if (this.#room > 0) this.#call("release", this.#at);
       this.#room = 0;
+      this.#roomBytes = new Uint8Array();
       const room = Math.max(length, ROOM);
       this.#at = this.#allocated(room);
       this.#room = room;
@@ -214,8 +218,9 @@ export class Instance {
   /** Puts an instance into the room, and returns its length in bytes. */
   #put(instance) {
     if (typeof instance === "string" && instance.length <= KEPT_ROOM) {
-      const most = instance.length * 3;
-      return encoder.encodeInto(instance, this.#bytes(this.#reserved(most), most)).written;
+      this.#reserved(instance.length * 3);
+      if (this.#roomBytes.length < this.#room) this.#roomBytes = this.#bytes(this.#at, this.#room);
+      return encoder.encodeInto(instance, this.#roomBytes).written;
     }
     const bytes = typeof instance === "string" ? encoded(instance) : instance;
     this.#bytes(this.#reserved(bytes.length), bytes.length).set(bytes);

@@ -3,6 +3,8 @@ import { Refused } from "./errors.js";
 import { DEEPEST } from "./limits.js";
 import { pointer } from "./locations.js";
 
+// What stands in a JSON text as it is.
+const PLAIN = /^[ !#-[\]-~]*$/;
 const LEAST = -(2n ** 63n), GREATEST = 2n ** 64n - 1n;
 
 /**
@@ -23,72 +25,104 @@ export function textOf(instance) {
 
 /** The JSON text of a value: a string is a string here. */
 export function written(value) {
-  return textOfValue(value, [], []);
+  return new Writer().text(value);
 }
 
-/** Of a value that stands at these tokens in these arrays and objects. */
-function textOfValue(value, tokens, holders) {
-  switch (typeof value) {
-    case "string":
-      if (!isWellFormed(value)) throw new Refused("instance", "NotJson", "");
-      return JSON.stringify(value);
-    case "boolean":
-      return value ? "true" : "false";
-    case "number":
-      return textOfNumber(value, tokens);
-    case "bigint":
-      if (value < LEAST || value > GREATEST) throw new Refused("instance", "NotWhole", pointer(tokens));
-      return value.toString();
-    case "object":
-      return value === null ? "null" : textOfHolder(value, tokens, holders);
-    default:
-      throw noJson(typeof value, tokens);
+/** Writes one value. */
+class Writer {
+  // The names and indices that lead to where it is, and the arrays and objects around it.
+  #tokens = [];
+  #holders = [];
+
+  text(value) {
+    switch (typeof value) {
+      case "string":
+        return quoted(value);
+      case "boolean":
+        return value ? "true" : "false";
+      case "number":
+        return this.#number(value);
+      case "bigint":
+        if (value < LEAST || value > GREATEST) throw new Refused("instance", "NotWhole", this.#pointer);
+        return value.toString();
+      case "object":
+        return value === null ? "null" : this.#holder(value);
+      default:
+        throw this.#noJson(typeof value);
+    }
+  }
+
+  #number(value) {
+    // (The text -0 is refused too: it isn't an integer's.)
+    if (Number.isSafeInteger(value) && !Object.is(value, -0)) return String(value);
+    if (!Number.isFinite(value)) throw this.#noJson(String(value));
+    if (value === 0 || !Number.isInteger(value)) throw new Refused("instance", "NotWhole", this.#pointer);
+    throw new TypeError(`${value} may have been rounded: use a bigint: look at ${this.#where}`);
+  }
+
+  #holder(value) {
+    if (this.#holders.includes(value)) throw new TypeError(`JSON has no cycle: look at ${this.#where}`);
+    if (this.#holders.length === DEEPEST) throw new Refused("instance", "NotJson", "");
+    this.#holders.push(value);
+    const text = Array.isArray(value) ? this.#array(value) : this.#object(value);
+    this.#holders.pop();
+    return text;
+  }
+
+  #array(items) {
+    let text = "";
+    for (let index = 0; index < items.length; index++) {
+      text += `${index > 0 ? "," : "["}${this.#below(index, items[index])}`;
+    }
+    return text === "" ? "[]" : `${text}]`;
+  }
+
+  /** (Members go by name, as in the output.) */
+  #object(value) {
+    let text = "";
+    for (const name of this.#names(value)) {
+      text += `${text === "" ? "{" : ","}${quoted(name)}:${this.#below(name, value[name])}`;
+    }
+    return text === "" ? "{}" : `${text}}`;
+  }
+
+  /** The text of an item or a member. */
+  #below(token, value) {
+    this.#tokens.push(token);
+    const text = this.text(value);
+    this.#tokens.pop();
+    return text;
+  }
+
+  /** The names of a plain object's members, in order. */
+  #names(value) {
+    const prototype = Object.getPrototypeOf(value);
+    if (prototype !== null && Object.getPrototypeOf(prototype) !== null) {
+      throw this.#noJson(value.constructor?.name || "such object");
+    }
+    if (Object.getOwnPropertySymbols(value).length > 0) throw this.#noJson("symbol");
+    const names = Object.keys(value);
+    return names.some((name, index) => index > 0 && names[index - 1] > name) ? names.sort() : names;
+  }
+
+  #noJson(what) {
+    return new TypeError(`JSON has no ${what}: look at ${this.#where}`);
+  }
+
+  get #pointer() {
+    return pointer(this.#tokens.map(String));
+  }
+
+  get #where() {
+    return this.#pointer || "the root";
   }
 }
 
-function textOfNumber(value, tokens) {
-  if (!Number.isFinite(value)) throw noJson(String(value), tokens);
-  // (The text -0 is refused too: it isn't an integer's.)
-  if (!Number.isInteger(value) || Object.is(value, -0)) throw new Refused("instance", "NotWhole", pointer(tokens));
-  if (Number.isSafeInteger(value)) return String(value);
-  throw new TypeError(`${value} may have been rounded: use a bigint: look at ${where(tokens)}`);
-}
-
-function textOfHolder(value, tokens, holders) {
-  if (holders.includes(value)) throw new TypeError(`JSON has no cycle: look at ${where(tokens)}`);
-  if (holders.length === DEEPEST) throw new Refused("instance", "NotJson", "");
-  holders.push(value);
-  let text;
-  if (Array.isArray(value)) {
-    const items = Array.from(value, (item, index) => textOfValue(item, [...tokens, String(index)], holders));
-    text = `[${items.join(",")}]`;
-  } else {
-    // Members go by name, as in the output.
-    const names = namesOf(value, tokens);
-    const members = names.map((name) =>
-      `${textOfValue(name, tokens, holders)}:${textOfValue(value[name], [...tokens, name], holders)}`);
-    text = `{${members.join(",")}}`;
-  }
-  holders.pop();
-  return text;
-}
-
-/** The names of a plain object's members. */
-function namesOf(value, tokens) {
-  const prototype = Object.getPrototypeOf(value);
-  if (prototype !== null && Object.getPrototypeOf(prototype) !== null) {
-    throw noJson(value.constructor?.name || "such object", tokens);
-  }
-  if (Object.getOwnPropertySymbols(value).length > 0) throw noJson("symbol", tokens);
-  return Object.keys(value).sort();
-}
-
-function noJson(what, tokens) {
-  return new TypeError(`JSON has no ${what}: look at ${where(tokens)}`);
-}
-
-function where(tokens) {
-  return pointer(tokens) || "the root";
+/** A string as JSON has it. */
+function quoted(text) {
+  if (PLAIN.test(text)) return `"${text}"`;
+  if (!isWellFormed(text)) throw new Refused("instance", "NotJson", "");
+  return JSON.stringify(text);
 }
 
 /** Whether a string has no lone surrogate. */

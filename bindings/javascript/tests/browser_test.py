@@ -16,8 +16,8 @@ import unittest
 from pathlib import Path
 
 sys.dont_write_bytecode = True
-from browsers import (CONTRAST, CUT, GIVEN, HOME, KEY_PRESS, MANY, MANY_SCHEMA, PASTE, SECONDS, WIDER,  # noqa: E402
-                      address, chromium, ended, served, wait_for_verdict)
+from browsers import (CONTRAST, CUT, GIVEN, HOME, KEY_PRESS, MANY, MANY_SCHEMA, PAGE, PASTE, SECONDS,  # noqa: E402
+                      WIDER, address, chromium, ended, milliseconds_to, served, wait_for_verdict)
 from other_browser_tests import InFirefox, Rows  # noqa: E402, F401
 
 from selenium.webdriver.common.by import By  # noqa: E402
@@ -101,6 +101,17 @@ class Page(unittest.TestCase):
         self.assertEqual(self.texts(".errors .message"), ["less than 0"])
         self.assertEqual(self.faults(), [])
         self.picture("first")
+
+    def test_the_first_verdict_needs_no_worker(self):
+        server = served(GIVEN["module"], {f"{PAGE}worker.js": Path("/nowhere")})
+        try:
+            self.open(address(server))
+            self.expect_verdict("✗ Invalid: 1 error")
+            self.assertEqual(self.texts("#instance-editor .underlined"), ["-1"])
+            self.assertIn("https://example.com/person",
+                          [it.get_attribute("value") for it in self.all("#entries option")])
+        finally:
+            ended(server)
 
     def test_typing(self):
         self.write("#instance-text", '{"name": "Ada", "age": 36}')
@@ -307,7 +318,7 @@ class Page(unittest.TestCase):
         self.until(lambda: self.find("#instance-text").get_property("value") == '{"name": "Grace"}')
 
     def test_nothing_is_sent(self):
-        self.expect_verdict("✗ Invalid")
+        milliseconds_to(self.driver, "complete")
         asked = len(self.server.asked)
         for example in ("A person", "Strict trees: $dynamicRef"):
             self.choose_example(example)

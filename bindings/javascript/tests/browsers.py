@@ -44,9 +44,17 @@ area.setRangeText(" ", 1, 1);
 area.dispatchEvent(new Event("input"));
 """
 
-# Milliseconds from the beginning of the page until the first verdict.
-FIRST_VERDICT = "return performance.getEntriesByName('verdict')[0]?.startTime"
-
+# Milliseconds from the beginning of the page until a mark that it sets. (To ask again and again would take the page's
+# processor.)
+MARKED = """
+const [name, end] = arguments;
+const said = () => {
+  const [first] = performance.getEntriesByName(name);
+  if (first !== undefined) end(first.startTime);
+  return first !== undefined;
+};
+if (!said()) new PerformanceObserver((_, observer) => said() && observer.disconnect()).observe({ type: "mark" });
+"""
 
 # The messages that go beyond the editor in which they are.
 CUT = """
@@ -153,6 +161,11 @@ def wait_for_verdict(driver, begin=""):
     WebDriverWait(driver, SECONDS, 0.02).until(
         lambda _: (text := driver.execute_script(shown)).startswith(begin) and "Loading" not in text)
     return driver.execute_script(shown)
+
+
+def milliseconds_to(driver, mark):
+    """Waits for the first `verdict`, or until the page is `complete`: milliseconds since it began."""
+    return driver.execute_async_script(MARKED, mark)
 
 
 def address(server):

@@ -4,7 +4,7 @@ import unittest
 from pathlib import Path
 from unittest import mock
 
-from this_command import NODE, SCRIPT, OnThisCommand, evaluated
+from this_command import NODE, PYTHON, SCRIPT, OnThisCommand, evaluated
 
 import test_command as expectations  # isort: skip
 import test_lookup as lookup  # isort: skip
@@ -22,7 +22,6 @@ ELSEWHERE = (
     ([*expectations.SOME, "--patterns", "pcre", "two.json"], "argument --patterns: invalid choice: 'pcre' "),
     ([*expectations.SOME, "--numbers", "exact", "two.json"], "--numbers exact is of the Python package's command: "),
     ([*expectations.SOME, "--numbers=texts", "two.json"], "--numbers texts is of the Python package's command: "),
-    ([*expectations.SOME, "--format", "html", "two.json"], "the format html is one of the Python package's command\n"),
 )
 
 
@@ -69,6 +68,14 @@ class Terminal(OnThisCommand, expectations.Terminal):
 
 class TextReport(OnThisCommand, reports.TextReport):
     pass
+
+
+class Html(OnThisCommand, reports.Html):
+    def test_begin(self):
+        """The page looks as that of the Python package's command."""
+        source = (PYTHON / "jschema" / "command" / "reports" / "html.py").read_text("utf-8")
+        head = re.search(r'_HEAD = """(.*?)"""', source, re.S)[1]
+        self.assertTrue(self.page("schema.json", "two.json")[0].startswith(head.format(title="Validation")))
 
 
 class Sarif(OnThisCommand, reports.Sarif):

@@ -5,8 +5,9 @@ import { test } from "node:test";
 import { Refused, Schemas } from "jschema";
 import { Engine } from "../src/engine.js";
 import { Checker } from "../../../docs/playground/checker.js";
-import { Checks, MOST_NODES } from "../../../docs/playground/checking.js";
+import { Checks, MOST_NODES, quickAnswer } from "../../../docs/playground/checking.js";
 import { DROP, MERGE, REPLACE, after, normalForm, possibleSteps } from "../../../docs/playground/condensing.js";
+import { movedMarks } from "../../../docs/playground/editor.js";
 import { EXAMPLES, stateOfExample } from "../../../docs/playground/examples.js";
 import { indented } from "../../../docs/playground/indenting.js";
 import { SchemaTexts, Values } from "../../../docs/playground/places.js";
@@ -15,6 +16,7 @@ import { fragmentOf, stateOf } from "../../../docs/playground/sharing.js";
 import { modulePath } from "./module.js";
 
 const module = await WebAssembly.compile(readFileSync(modulePath()));
+const engine = new Engine(module);
 const file = process.env.JSCHEMA_CASES;
 
 // Larger outputs are left out: each of their steps would be tried.
@@ -109,7 +111,7 @@ test("the two rules, and the third", () => {
 });
 
 test("the examples have the verdicts that the standard gives them", async () => {
-  const checks = new Checks(module);
+  const checks = new Checks(engine);
   const said = [];
   for (const example of EXAMPLES) {
     const { documents, entry, instance } = stateOfExample(example);
@@ -139,7 +141,7 @@ test("errors are underlined at the value and at the keyword", async () => {
   ];
   const instance = '{"ab": [null, {\n}]}';
   const request = { documents, entry: "https://example.com/a", instance, wanted: ["flag"] };
-  const { errors, outputs, places } = await new Checks(module).answer(request);
+  const { errors, outputs, places } = await new Checks(engine).answer(request);
   const stretches = errors.map(({ inInstance, inSchema }) => [instance.slice(inInstance.begin, inInstance.end),
     inSchema.document, documents[inSchema.document].text.slice(inSchema.begin, inSchema.end)]);
   assert.deepEqual(stretches.sort(), [['"ab"', 1, '"maxLength": 1'], ["{", 0, '"type": "null"']]);
@@ -151,10 +153,10 @@ test("of an older draft what its author wrote is underlined", async () => {
   const text = '{"$schema": "http://json-schema.org/draft-07/schema#",\n' +
     '"definitions": {"a": {"items": [{"type": "null"}]}},\n"$ref": "#/definitions/a"}';
   const request = { documents: [{ uri: "urn:x", text }], entry: "urn:x", instance: "[1]", wanted: [] };
-  const { errors: [{ inSchema: { begin, end } }] } = await new Checks(module).answer(request);
+  const { errors: [{ inSchema: { begin, end } }] } = await new Checks(engine).answer(request);
   assert.equal(text.slice(begin, end), '"type": "null"');
   const refused = { ...request, documents: [{ uri: "urn:x", text: text.replace('"null"', "1") }] };
-  const { fault: { inSchema } } = await new Checks(module).answer(refused);
+  const { fault: { inSchema } } = await new Checks(engine).answer(refused);
   assert.equal(refused.documents[0].text.slice(inSchema.begin, inSchema.end), '"type": 1');
 });
 
@@ -162,7 +164,7 @@ test("what is refused is underlined", async () => {
   const uri = "urn:x";
   const refused = async (text, instance) => {
     const request = { documents: [{ uri, text }], entry: uri, instance, wanted: ["verbose"] };
-    const { verdict, fault } = await new Checks(module).answer(request);
+    const { verdict, fault } = await new Checks(engine).answer(request);
     assert.equal(verdict, "none");
     const stretch = fault.inSchema ?? fault.inInstance;
     return [fault.kind, stretch && (fault.inSchema ? text : instance).slice(stretch.begin, stretch.end)];
@@ -179,18 +181,82 @@ test("a result that is too large for the page is judged, and not shown as a tree
   const documents = [{ uri: "urn:x", text: '{"items": {"title": "t"}}' }];
   const instance = JSON.stringify(Array(MOST_NODES).fill(0));
   const request = { documents, entry: "urn:x", instance, wanted: ["verbose"] };
-  const { verdict, outputs } = await new Checks(module).answer(request);
+  const { verdict, outputs } = await new Checks(engine).answer(request);
   assert.deepEqual([verdict, outputs], ["valid", { verbose: undefined }]);
 });
 
-/** A worker that answers a request with its text, unless that is `never`. */
+test("the schemas that can be an entry are said once for the same documents", async () => {
+  const request = { documents: [{ uri: "urn:x", text: '{"items": {}}' }], entry: "urn:x", instance: "1", wanted: [] };
+  const checks = new Checks(engine);
+  const places = async (change) => (await checks.answer({ ...request, ...change })).places;
+  assert.equal(await places({ instance: "" }), undefined);
+  assert.deepEqual(await places({}), ["urn:x#", "urn:x#/items"]);
+  assert.equal(await places({ documents: request.documents.map((it) => ({ ...it })), instance: "2" }), undefined);
+  assert.deepEqual(await places({ documents: [{ uri: "urn:x", text: "{}" }] }), ["urn:x#"]);
+  checks.close();
+});
+
+test("what is quick is checked in the page, as a worker does it", async () => {
+  const quick = [];
+  for (const example of EXAMPLES) {
+    const { documents, entry, instance } = stateOfExample(example);
+    const request = { documents, entry, instance, wanted: ["verbose"] };
+    const answer = await quickAnswer(engine, request);
+    if (answer === undefined) continue;
+    quick.push(example.name);
+    const expected = await new Checks(engine).answer(request);
+    assert.deepEqual({ ...answer, milliseconds: 0 }, { ...expected, milliseconds: 0 });
+  }
+  assert.equal(quick[0], EXAMPLES[0].name);
+  assert.ok(!quick.some((it) => /pattern|condensed|without end/.test(it)), quick);
+  const left = [
+    ['{"propertyNames": {"pattern": "a"}}', "1"], ['{"p\\u0061ttern": "a"}', "1"], ["{}", `"${"a".repeat(10_000)}"`],
+    ['{"items": {"title": "t"}}', JSON.stringify(Array(2000).fill(0))], ['{"$ref": "#"}', "1"],
+  ];
+  for (const [text, instance] of left) {
+    const request = { documents: [{ uri: "urn:x", text }], entry: "urn:x", instance, wanted: [] };
+    assert.equal(await quickAnswer(engine, request), undefined, text);
+  }
+});
+
+test("marks move with the text", () => {
+  const moved = (before, after, ...marks) =>
+    movedMarks(marks.map(([begin, end]) => ({ begin, end })), before, after).map(({ begin, end }) => [begin, end]);
+  assert.deepEqual(moved("[1, 2]", "\n[1, 2]", [1, 2], [4, 5]), [[2, 3], [5, 6]]);
+  // (What is typed at the edge of a mark belongs to it.)
+  assert.deepEqual(moved("[1, 2]", "[ 1, 2]", [1, 2], [4, 5]), [[1, 3], [5, 6]]);
+  assert.deepEqual(moved("[1, 2]", "[1, 2, 3]", [1, 2], [4, 5]), [[1, 2], [4, 5]]);
+  assert.deepEqual(moved("[1, 22, 3]", "[1, 3]", [1, 2], [4, 6], [8, 9]), [[1, 2], [4, 5]]);
+  assert.deepEqual(moved("aaaa", "aaaaa", [0, 2]), [[0, 2]]);
+  assert.deepEqual(moved("[1]", "", [1, 2]), []);
+  assert.deepEqual(moved("[1]", "[1]", [1, 2]), [[1, 2]]);
+});
+
+test("the page names each module that it needs at first", () => {
+  const page = new URL("../../../docs/playground/index.html", import.meta.url);
+  const imported = /^(?:import|export)\b[^;]*?\bfrom "(\.[^"]+)";/gm;
+  const needed = new Set();
+  const visit = (url) => {
+    if (needed.has(url.href)) return;
+    needed.add(url.href);
+    for (const [, name] of readFileSync(url, "utf8").matchAll(imported)) visit(new URL(name, url));
+  };
+  visit(new URL("main.js", page));
+  const links = readFileSync(page, "utf8").matchAll(/<link rel="modulepreload" href="([^"]*)">/g);
+  const named = Array.from(links, ([, href]) => new URL(href, page).href);
+  assert.deepEqual([new URL("main.js", page).href, ...named].sort(), [...needed].sort());
+});
+
+/** A worker that is ready after a while, and answers a request with its text, unless that is `never`. */
 class Echo extends EventTarget {
   static started = 0;
+  static delay = 0;
   static asked = [];
 
   constructor() {
     super();
     Echo.started += 1;
+    setTimeout(() => this.#answer({ isReady: true }), Echo.delay);
   }
 
   postMessage({ number, request }) {
@@ -229,6 +295,21 @@ test("of the requests that wait only the newest is asked, and a slow worker is e
   assert.deepEqual(answers, [["a", "a!"], ["never", "no answer after 1 s"], ["d", "d!"]]);
 });
 
+test("the time for an answer begins when the worker is ready", async () => {
+  Echo.delay = 100;
+  const order = [];
+  await new Promise((resolve) => {
+    const start = () => {
+      const worker = new Echo();
+      worker.addEventListener("message", ({ data }) => data.isReady && order.push("ready"));
+      return worker;
+    };
+    const tell = ({ fault }) => resolve(order.push(fault.message));
+    new Checker({ start, module, tell, milliseconds: 50 }).ask("never");
+  });
+  assert.deepEqual(order, ["ready", "no answer after 0.05 s"]);
+});
+
 test("a link holds the whole state", async () => {
   for (const example of EXAMPLES) {
     const changed = { panel: "output", format: "merged", isMerging: true, instance: "\u{1f600}" };
@@ -249,7 +330,6 @@ test("an output is indented without a change of its tokens", () => {
 });
 
 test("places of what isn't there, and of documents that aren't JSON", () => {
-  const engine = new Engine(module);
   const texts = new SchemaTexts([{ uri: "urn:x", text: "{" }, { uri: "no URI", text: '{"type": "null"}' }], engine);
   assert.equal(texts.find("urn:x#/type"), undefined);
   assert.deepEqual(texts.find("no URI#/type"), { document: 1, begin: 1, end: 15 });

@@ -44,10 +44,19 @@ class Retarget(unittest.TestCase):
         self.assertIn("define noundef i32 @proved_jschema_new(", text)
         self.assertEqual(retarget.retargeted(SMALL), text)
 
+    def test_size(self):
+        """What takes the time is compiled for speed, all else for size."""
+        define = 'define internal void @"{}::part::<#1f>"(ptr noundef %"a #1") unnamed_addr #0 {{'
+        text = retarget.retargeted("\n".join([SMALL, define.format("json"), define.format("url")]))
+        self.assertIn(define.format("json"), text)
+        self.assertIn(define.format("url").replace(" #0 {", " optsize #0 {"), text)
+        self.assertIn("%handle) optsize #1 {", text)
+
     def test_all_else_stays(self):
         """Line by line only the header, the names and the attributes differ."""
         before = [it for it in SMALL.split("\n") if "pshuf" not in it]
         after = retarget.retargeted(SMALL).split("\n")
+        after = [it.replace(" optsize #", " #") for it in after]
         kept = [it for it in before if it.replace("@jschema_", "@proved_jschema_") in after]
         changed = [it for it in before if it not in kept]
         self.assertTrue(all(it.startswith(("target ", "attributes ")) for it in changed), changed)

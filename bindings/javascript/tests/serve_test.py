@@ -7,6 +7,7 @@ import tempfile
 import unittest
 from http.client import HTTPConnection
 from pathlib import Path
+from socket import create_connection
 
 HOME = Path(__file__).resolve().parents[3]
 SERVE = HOME / "tools" / "serve"
@@ -53,6 +54,16 @@ class Serving(unittest.TestCase):
             self.assertEqual(headers["X-Content-Type-Options"], "nosniff")
             self.assertEqual(headers["Content-Security-Policy"], "frame-ancestors 'none'")
             self.assertEqual(self.ask(path, "HEAD")[2], b"")
+
+    def test_a_response_is_sent_whole(self):
+        """Headers and body come together, also on a connection that was used before."""
+        host, port = self.address.split(":")
+        path = "/docs/playground/elements.js"
+        body = (HOME / path[1:]).read_bytes()
+        with create_connection((host, int(port)), 30) as connection:
+            for _ in range(3):
+                connection.sendall(f"GET {path} HTTP/1.1\r\nHost: {self.address}\r\n\r\n".encode())
+                self.assertTrue(connection.recv(1 << 16).endswith(body))
 
     def test_nothing_else(self):
         for path in ("/README.md", "/docs/USING.md", "/docs/playground/../USING.md", "/docs/playground/%2e%2e/USING.md",

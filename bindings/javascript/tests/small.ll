@@ -13,9 +13,14 @@ start:
   ret i32 0
 }
 
+; Sixteen times the byte at the handle.
 define noundef i32 @jschema_limit(ptr noundef %handle, i64 noundef %applications, i64 noundef %nodes) #0 {
 start:
-  ret i32 2
+  %byte = load i8, ptr %handle, align 1
+  %one = insertelement <16 x i8> poison, i8 %byte, i32 0
+  %all = shufflevector <16 x i8> %one, <16 x i8> poison, <16 x i32> zeroinitializer
+  store <16 x i8> %all, ptr %handle, align 1
+  ret i32 0
 }
 
 ; A block is made, made larger, and freed: 4 where there is no memory.
@@ -78,9 +83,16 @@ start:
   ret i32 0
 }
 
+; The byte at the other handle goes to the sixth of sixteen, whose fourth goes there.
 define noundef i32 @jschema_share(ptr noundef %handle, ptr noundef %other) #0 {
 start:
-  ret i32 2
+  %before = load <16 x i8>, ptr %handle, align 1
+  %byte = load i8, ptr %other, align 1
+  %after = insertelement <16 x i8> %before, i8 %byte, i32 5
+  store <16 x i8> %after, ptr %handle, align 1
+  %fourth = extractelement <16 x i8> %before, i32 3
+  store i8 %fourth, ptr %other, align 1
+  ret i32 0
 }
 
 ; Of two numbers of 128 bits at the instance: their product (0), the first shifted by the second to the left (1) or the

@@ -58,6 +58,17 @@ test("bytes that are picked by indices", how, () => {
   }
 });
 
+test("bytes that are repeated and exchanged", how, () => {
+  const calls = new WebAssembly.Instance(module, {}).exports;
+  const at = calls.allocate(32);
+  const bytes = new Uint8Array(calls.memory.buffer, at, 17);
+  bytes.set(Array.from({ length: 17 }, (_, index) => 100 + index));
+  assert.equal(calls.jschema_share(at, at + 16), 0);
+  assert.deepEqual([...bytes], [100, 101, 102, 103, 104, 116, 106, 107, 108, 109, 110, 111, 112, 113, 114, 115, 103]);
+  assert.equal(calls.jschema_limit(at, 0, 0), 0);
+  assert.deepEqual([...bytes], [...Array(16).fill(100), 103]);
+});
+
 test("memory is asked of the heap", how, () => {
   const calls = new WebAssembly.Instance(module, {}).exports;
   for (const [first, second] of [[0, 1], [100, 100000], [70000, 10], [1 << 20, 1 << 24]]) {

@@ -4,10 +4,10 @@
     retarget.py IN.ll OUT.ll
 
 Both have pointers of 64 bits, are little-endian, and give the types that occur the same sizes and alignments. So the
-data layout, the triple and the attributes that name the processor change, and each instruction of x86-64 becomes what
-means the same. The library's calls get names of their own, since exports.c exports calls of these names over them.
-Everything else stays as it is. Each word of the IR must be one that is known to mean the same on both;
-the script fails on any other, with status 1.
+data layout, the triple and the attributes that name the processor or say what to inline change, and each instruction
+of x86-64 becomes what means the same. The library's calls get names of their own, since exports.c exports calls of
+these names over them. Everything else stays as it is. Each word of the IR must be one that is known to mean the same
+on both; the script fails on any other, with status 1.
 """
 import re
 import sys
@@ -24,7 +24,7 @@ WORDS = frozenset("""
     extractvalue fadd false fcmp fdiv float fmul fneg fptosi fptoui freeze fsub getelementptr i1 i128 i16 i256
     i32 i64 i8 icmp immarg inaccessiblemem inbounds inlinehint insertelement insertvalue internal inttoptr label
     load lshr max memory min monotonic mul mustprogress ne nobuiltin nocallback nocreateundeforpoison nofree
-    noinline none nonnull noreturn nosync noundef nounwind nsw null nuw oeq oge ogt ole olt one or ord phi
+    noinline none nonnull noreturn nosync noundef nounwind nsw null nuw oeq oge ogt ole olt one optsize or ord phi
     poison private ptr ptrtoaddr ptrtoint read readnone readonly readwrite release ret sdiv select seq_cst sext
     sge sgt shl shufflevector signext sitofp sle slt source_filename speculatable splat srem store sub switch
     target to triple true trunc udiv ueq uge ugt uitofp ule ult umax umin undef une unnamed_addr uno unordered
@@ -53,31 +53,27 @@ BARRIER = 'asm sideeffect "", "~{memory}"()'
 
 
 
-def _pshufb():
-    """pshufb as a function, a byte at a time. An index picks by its low four bits, and a negative one picks 0."""
-    lines = ["", "define internal <16 x i8> @x86_pshufb(<16 x i8> %bytes, <16 x i8> %indices) nounwind {",
-             "  %at = alloca [16 x i8], align 16", "  store <16 x i8> %bytes, ptr %at, align 16"]
-    for lane in range(16):
-        before = f"%all{lane - 1}" if lane else "zeroinitializer"
-        lines += [f"  %index{lane} = extractelement <16 x i8> %indices, i32 {lane}",
-                  f"  %none{lane} = icmp slt i8 %index{lane}, 0",
-                  f"  %low{lane} = and i8 %index{lane}, 15",
-                  f"  %wide{lane} = zext i8 %low{lane} to i64",
-                  f"  %from{lane} = getelementptr i8, ptr %at, i64 %wide{lane}",
-                  f"  %found{lane} = load i8, ptr %from{lane}, align 1",
-                  f"  %picked{lane} = select i1 %none{lane}, i8 0, i8 %found{lane}",
-                  f"  %all{lane} = insertelement <16 x i8> {before}, i8 %picked{lane}, i32 {lane}"]
-    return "\n".join([*lines, "  ret <16 x i8> %all15", "}", ""])
+# Each instruction of x86-64, with the name of a function of the same meaning and its definition. (An index of pshufb
+# picks by its low four bits, and a negative one picks 0; one of swizzle that is 16 or more picks 0.)
+SUBSTITUTES = {"llvm.x86.ssse3.pshuf.b.128": ("x86_pshufb", """
+define internal <16 x i8> @x86_pshufb(<16 x i8> %bytes, <16 x i8> %indices) alwaysinline nounwind {
+  %kept = and <16 x i8> %indices, splat (i8 -113)
+  %picked = call <16 x i8> @llvm.wasm.swizzle(<16 x i8> %bytes, <16 x i8> %kept)
+  ret <16 x i8> %picked
+}
 
+declare <16 x i8> @llvm.wasm.swizzle(<16 x i8>, <16 x i8>)
+""")}
 
-# Each instruction of x86-64, with the name of a function of the same meaning and its definition. (The module has no
-# vectors: Binaryen 108 can't give all their loads addresses of 32 bits.)
-SUBSTITUTES = {"llvm.x86.ssse3.pshuf.b.128": ("x86_pshufb", _pshufb())}
+# The crates whose functions take the time of a check. They are compiled for speed, and all others for size.
+QUICK = frozenset(("js_doc", "js_eval", "json", "serde_json", "simdutf8"))
 
 _QUOTED_ATTRIBUTE = re.compile(r' ?"([\w-]+)"="[^"]*"')
 # What isn't a word of the language: names, numbers of attributes and of metadata, constants of bytes.
 _NAMED = re.compile(r'[%@$]"[^"]*"|[%@$][\w.$-]+|c"(?:[^"\\]|\\.)*"|"[^"]*"|![\w.]*|#\d+|;.*$')
 _WORD = re.compile(r"[A-Za-z_][\w.]*")
+# A function of the library: the first part of its name, and the number of its attributes.
+_DEFINED = re.compile(r'(define [^@]*@"?([\w.$-]+).*)( #\d+ (?:.*)?\{)')
 _LABEL = re.compile(r'^(?:[\w.$-]+|"[^"]*"):')
 _INTRINSIC = re.compile(r"@llvm\.([\w.]+)\(")
 _TYPES = re.compile(r"(?:\.(?:p0|i\d+|f\d+|v\d+i\d+))+$")
@@ -95,7 +91,7 @@ def retargeted(text):
     added = []
     lines = []
     for line in text.split("\n"):
-        line = _without_processor(line)
+        line = _for_size(_without_processor(line))
         for name, (ours, definition) in SUBSTITUTES.items():
             if f"@{name}(" in line:
                 if definition not in added:
@@ -118,10 +114,18 @@ def _without_processor(line):
         return line
     if others := {it for it in _QUOTED_ATTRIBUTE.findall(line)} - PROCESSOR:
         raise Unknown(f"attributes: {' '.join(sorted(others))}")
-    # -Os decides what is inlined: where everything is that asks for it, the module is a quarter larger.
+    # The compiler decides what is inlined: where everything is that asks for it, the module is a quarter larger.
     line = re.sub(r"\b(?:alwaysinline|inlinehint) ", "", line)
     # A group can't be empty. LLVM ignores an attribute in quotes that it doesn't know.
     return _QUOTED_ATTRIBUTE.sub("", line).replace("= { }", '= { "any-processor" }')
+
+
+def _for_size(line):
+    """The line; of a function that takes little time, with the attribute that has it compiled for size."""
+    found = _DEFINED.fullmatch(line)
+    if found is None or found[2] in QUICK:
+        return line
+    return f"{found[1]} optsize{found[3]}"
 
 
 def _check(lines):

@@ -7,7 +7,7 @@ is so is tested, and not proved.
 from __future__ import annotations
 
 import re
-from typing import Any, NamedTuple, Optional, Union
+from typing import Any, NamedTuple, Union
 
 from .values import GREATEST, LEAST
 
@@ -74,6 +74,11 @@ class Number(NamedTuple):
 
 def _in_reach(value: int) -> int:
     return min(max(value, LEAST - 1), GREATEST + 1)
+
+
+def is_taken(digits: str) -> bool:
+    """Whether the validator takes a number as it is written."""
+    return digits.lstrip("-").isdigit() and digits != "-0" and len(digits) < 21 and LEAST <= int(digits) <= GREATEST
 
 
 def number(text: str) -> Read:

@@ -19,6 +19,8 @@ Tokens = tuple[str, ...]
 SCHEMAS = frozenset({"additionalItems", "additionalProperties", "contains", "contentSchema", "else", "if", "items",
                      "not", "propertyNames", "then", "unevaluatedItems", "unevaluatedProperties"})
 DEFINITIONS = ("$defs", "definitions")
+# Those of draft-03 that may have schemas, beside names of types.
+_OF_THREE = ("disallow", "extends", "type")
 REFERENCES = ("$ref", "$dynamicRef", "$recursiveRef")
 ANCHORS = ("$anchor", "$dynamicAnchor")
 
@@ -162,6 +164,11 @@ def subschemas(schema: dict[str, Any], dialect: int) -> Iterator[tuple[Tokens, A
             yield from (((keyword, str(index)), item) for index, item in enumerate(value))
         elif isinstance(value, dict) and (keyword in OBJECTS or keyword == "dependencies" and dialect < 4):
             yield from (((keyword, name), it) for name, it in value.items() if not isinstance(it, list))
+        elif keyword in _OF_THREE and dialect == 0:
+            if isinstance(value, dict):
+                yield (keyword,), value
+            elif isinstance(value, list):
+                yield from (((keyword, str(index)), it) for index, it in enumerate(value) if isinstance(it, dict))
         elif keyword in SCHEMAS and isinstance(value, (dict, bool)):
             yield (keyword,), value
 

@@ -79,11 +79,10 @@ class Restoring:
         """The absolute location of a keyword."""
         return self._unit(uri, "", "").absolute if self._places else uri
 
-    def places(self, uris: list[str]) -> list[str]:
-        """The absolute locations of schemas, without those that the documents hadn't."""
-        if not self._places:
-            return uris
-        return [self._named_uri(uri) for uri in uris if (found := self._change(uri)) is None or found[1].is_name]
+    def schema(self, uri: str) -> Optional[str]:
+        """The absolute location of a schema. None for one that the documents hadn't."""
+        found = self._change(uri) if self._places else None
+        return self._named_uri(uri) if found is None or found[1].is_name else None
 
     def renamed(self, uri: str, names: Mapping[str, str]) -> str:
         """The URI of a schema with the names that it leads through now; what it was if there is no such schema."""

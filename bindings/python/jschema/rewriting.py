@@ -7,29 +7,48 @@ from __future__ import annotations
 
 import json
 import re
-from collections.abc import Sequence
+from collections.abc import Mapping, Sequence
 from typing import Any, NamedTuple, Optional, Union
 
 from .changes import Change
+from .interface import REWRITING
 from .limits import LARGEST_TEXT
-from .numbers import Number, exact_text, exact_value, number, without_floats, written
+from .numbers import Number, exact_text, exact_value, is_taken, number, without_floats, written
 from .numbers_keywords import exact, texts
-from .resources import Document, Schema, document_with, target
+from .resources import Document, document, document_with, target
 from .restoring import Place, Restoring
 from .sources import JsonSource
 from .uris import fragment_of, joined, with_pointer
-from .values import GREATEST, LEAST, text_of
-
-PATTERNS, NUMBERS = ("ecma",), ("exact", "texts")
+from .values import text_of
 
 # What a document has that may change.
 _PATTERN = re.compile(rb"pattern|\\u00")
 _NUMBER = re.compile(rb"[0-9][.eE]|-0|[0-9]{19}")
 _NAMES = "patternProperties"
-# The drafts in which `1.0` is no integer, where one has a `$schema`.
+_TYPES, _INTEGERS = ("type", "disallow"), "integer"
+# The first dialect in which `1.0` is an integer; what a document has that names an earlier one, or asks for integers.
 _SIX = 2
-_STRICT = re.compile(rb"json-schema\.org\\?/draft-0[34]")
+_OLD = re.compile(rb"draft-0[34]|\\u00[2-7]")
+_INTEGER = re.compile(rb"integer|\\u00[67]")
 _Tokens = tuple[str, ...]
+
+
+class Options(NamedTuple):
+    """What is rewritten, as `Schemas` has it: `patterns` is `ecma` or None, `numbers` is `exact`, `texts` or None."""
+
+    patterns: Optional[str] = None
+    numbers: Optional[str] = None
+
+
+def options_of(words: Mapping[str, Optional[str]]) -> Options:
+    """What words of `REWRITING` ask for, by the names of the options. Each has its default where there is none."""
+    return Options(_asked("patterns", words), _asked("numbers", words))
+
+
+def _asked(name: str, words: Mapping[str, Optional[str]]) -> Optional[str]:
+    default, *_, last = REWRITING[name][1]
+    word = words.get(name) or default
+    return None if word == last else word
 
 
 class Rewritten(NamedTuple):
@@ -59,12 +78,13 @@ class Rewriting:
     """
 
     def __init__(self, patterns: Optional[str], numbers: Optional[str]) -> None:
-        for name, given, known in (("patterns", patterns, PATTERNS), ("numbers", numbers, NUMBERS)):
+        for name, given in (("patterns", patterns), ("numbers", numbers)):
+            known = [*REWRITING[name][1]][:-1]
             if given is not None and given not in known:
-                raise ValueError(f"{name}={given!r}: it is one of {', '.join(known)}, or None")
+                raise ValueError(f"{name}={given!r}: it is {' or '.join(known)}, or None")
         self._patterns, self.numbers = patterns is not None, numbers is not None
         self._has_texts = numbers == "texts"
-        # Whether a document of such a draft asks for integers.
+        # Whether `1.0` isn't the integer 1.
         self._is_strict = False
         # What names became, and all that are taken.
         self._names: dict[str, str] = {}
@@ -78,8 +98,7 @@ class Rewriting:
 
     def texts(self, given: Sequence[tuple[str, bytes]], assumed: int) -> list[tuple[str, bytes]]:
         """The documents, rewritten. One that names no dialect is of the one that is assumed."""
-        self._is_strict = any(b"integer" in text and (
-            _STRICT.search(text) or assumed < _SIX and b"$schema" not in text) for _, text in given)
+        self._is_strict = self.numbers and any(_has_old_integers(uri, text, assumed) for uri, text in given)
         self.documents = {index: it for index, (uri, text) in enumerate(given)
                           if (it := self._read(uri, text, assumed)) is not None}
         for it in self.documents.values():
@@ -130,7 +149,7 @@ class Rewriting:
         odd: list[str] = []
 
         def exactly(digits: str) -> Union[int, Number]:
-            if not _is_taken(digits):
+            if not is_taken(digits):
                 odd.append(digits)
             return number(digits)
 
@@ -201,14 +220,38 @@ class Rewriting:
             return text
 
 
-def _is_taken(digits: str) -> bool:
-    """Whether the validator takes a number as it is written."""
-    return digits.lstrip("-").isdigit() and digits != "-0" and len(digits) < 21 and LEAST <= int(digits) <= GREATEST
+def _has_old_integers(uri: str, text: bytes, assumed: int) -> bool:
+    """Whether a document, or a part of it, is of a draft in which `1.0` is no integer, and asks for integers. (It may
+    say so of one where only a value looks like that.)"""
+    if not (assumed < _SIX or _OLD.search(text)) or not _INTEGER.search(text) or len(text) > LARGEST_TEXT:
+        return False
+    try:
+        found = document(uri, JsonSource("json", text, text), assumed)
+    except (ValueError, RecursionError):
+        # (The validator refuses it.)
+        return False
+    return min(found.roots.values()) < _SIX and _names_integer(found.value)
+
+
+def _names_integer(value: Any) -> bool:
+    """Whether a `type`, or a `disallow` of draft-03, somewhere in a value names integers."""
+    waiting = [value]
+    while waiting:
+        it = waiting.pop()
+        if isinstance(it, dict):
+            for keyword in _TYPES:
+                named = it.get(keyword)
+                if named == _INTEGERS or isinstance(named, list) and _INTEGERS in named:
+                    return True
+            waiting += it.values()
+        elif isinstance(it, list):
+            waiting += it
+    return False
 
 
 def _within(digits: str) -> int:
     """An integer as the validator takes it."""
-    if not _is_taken(digits):
+    if not is_taken(digits):
         raise ValueError(f"{digits} is no integer in the range")
     return int(digits)
 

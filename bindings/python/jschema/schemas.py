@@ -3,7 +3,7 @@ from __future__ import annotations
 
 from collections.abc import Iterator
 from types import TracebackType
-from typing import Any, NoReturn, Optional
+from typing import Any, Callable, NoReturn, Optional, TypeVar
 
 from .documents import Documents, is_uri_text, texts_of
 from .engine import FORMATS, Answer, Engine
@@ -17,6 +17,8 @@ from .program import ProgramEngine
 from .rewriting import Rewriting
 from .upgrading import Originals, Upgrade
 from .values import Instance, text_of
+
+_Judged = TypeVar("_Judged", bool, Answer)
 
 
 class Schemas:
@@ -72,16 +74,11 @@ class Schemas:
 
     def places(self) -> list[str]:
         """The absolute location of every schema: what can be an entry, or be referred to."""
-        return self._rewriting.restoring.places(list(self._open().places()))
+        return [it for uri in self._open().places() if (it := self.written_schema(uri)) is not None]
 
     def is_valid(self, entry: str, instance: Instance) -> bool:
         """Whether an instance is valid. No output is made, so this is the quickest call."""
-        text = text_of(self._rewriting.value(instance))
-        try:
-            return self._asked(entry).is_valid(self._rewriting.entry(entry), self._rewriting.instance(text))
-        except Refused as refused:
-            explain(refused, text, entry)
-            raise
+        return self._judge(self._asked(entry).is_valid, entry, text_of(self._rewriting.value(instance)))
 
     def errors(self, entry: str, instance: Instance) -> list[ValidationError]:
         """The errors of the `basic` output, in its order; none for a valid instance."""
@@ -103,6 +100,11 @@ class Schemas:
         were rewritten, or upgraded from an older draft; where nothing in them becomes the keyword, it stays."""
         location = self._rewriting.restoring.location(absolute_keyword_location)
         return location if self._originals is None else self._originals.location(location)
+
+    def written_schema(self, absolute_keyword_location: str) -> Optional[str]:
+        """The absolute location of a schema in an output as it was before it was rewritten, which is another one below
+        `patternProperties`. None for a schema that the documents didn't have: a pattern became it."""
+        return self._rewriting.restoring.schema(absolute_keyword_location)
 
     def tree_in(self, answer: Answer) -> bytes:
         """The same errors as a tree: a `detailed` output."""
@@ -132,11 +134,7 @@ class Schemas:
             raise ValueError(f"no format {format!r}: it is one of {', '.join(FORMATS)}")
         if not isinstance(text, bytes):
             raise TypeError(f"the text of a check is bytes, not {type(text).__name__}")
-        try:
-            return self._asked(entry).check(self._rewriting.entry(entry), self._rewriting.instance(text), format)
-        except Refused as refused:
-            explain(refused, text, entry)
-            raise
+        return self._judge(self._asked(entry).check, entry, text, format)
 
     def text_of(self, instance: bytes) -> Text:
         """A JSON text that was checked, with the engine's positions."""
@@ -157,6 +155,21 @@ class Schemas:
 
     def __reduce__(self) -> NoReturn:
         raise TypeError("Schemas can't be pickled: send the documents, and make one Schemas in each process")
+
+    def _judge(self, call: Callable[..., _Judged], entry: str, text: bytes, *more: str) -> _Judged:
+        """What a call of the engine returns for an instance. One that isn't refused has no number to rewrite."""
+        uri = self._rewriting.entry(entry)
+        try:
+            try:
+                return call(uri, text, *more)
+            except Refused:
+                rewritten = self._rewriting.instance(text)
+                if rewritten == text:
+                    raise
+            return call(uri, rewritten, *more)
+        except Refused as refused:
+            explain(refused, text, entry)
+            raise
 
     def _asked(self, entry: str) -> Engine:
         """The engine, which is asked about an entry."""

@@ -55,9 +55,11 @@ class Maker:
 
     def pattern(self):
         """A pattern: about half have look-around at places where people write it."""
-        form = self.random.randrange(10)
+        form = self.random.randrange(11)
         if form < 3:
             return self.alternatives(0, 0.04)
+        if form == 10:
+            return self.behind_any_width()
         start, body, end = self.conditions(), self.alternatives(1, 0.05), self.conditions(False)
         if form < 5:
             body = f"(?:{body[0]})", body[1]
@@ -70,11 +72,25 @@ class Maker:
             body = f"(?:{look[0]}{one[0]}){self.random.choice(['*', '+', '{2}', '{1,3}'])}", one[1] * 2
         return "".join((first, start, body[0], end if form != 8 else "", last)), f"{first[1:]}{body[1]}{last[:-1]}"
 
+    def behind_any_width(self):
+        """A pattern with look-around of any length behind what is of any width, or before that."""
+        before, look, after = self.sequence(1, 0), self.look(True), self.sequence(1, 0)
+        kind, one = self.random.randrange(4), self.atom()[0]
+        if kind == 0:
+            some, last = self.random.choice("*+"), self.random.choice(["$", "a", "[b-z]"])
+            look = f"(?{self.random.choice('=!')}{one}{some}{last})", ""
+        elif kind == 1:
+            look = self.look(False)
+        elif kind == 2:
+            look = f"(?={one}{{0,{self.random.randrange(1, 5)}}}$)", ""
+        first, last = self.random.choice(["", "^", "^a*"]), self.random.choice(["", "$", "a*$"])
+        return "".join((first, before[0], look[0], after[0], last)), before[1] + after[1]
+
     def conditions(self, is_ahead=True):
         return "".join(self.look(is_ahead)[0] for _ in range(self.random.choice([0, 0, 1, 1, 2])))
 
     def look(self, is_ahead):
-        body = self.alternatives(2, 0)[0]
+        body = self.alternatives(2, 0.03)[0]
         if self.chance(0.3):
             body = f".*{body}" if is_ahead else f"{body}.*"
         if self.chance(0.2):

@@ -146,7 +146,8 @@ class Bounds(Inputs):
     REFUSED = "refused: more than 16,777,216 bytes (root; InputTooLarge)\n"
 
     def test_no_end(self):
-        for words in (["/dev/zero", "data/ada.json"], ["--lines", "/dev/zero", "data/rows.jsonl"]):
+        for words in (["/dev/zero", "data/ada.json"], ["--lines", "/dev/zero", "data/rows.jsonl"],
+                      ["--lines", "--jobs", "2", "/dev/zero", "data/rows.jsonl"]):
             with self.subTest(words):
                 status, out, said = self.ended(*SOME[1:], *words)
                 self.assertEqual(status, 3)

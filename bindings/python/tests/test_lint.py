@@ -2,8 +2,12 @@
 import json
 import unittest
 
+import jschema
 from commands import Case
+from jschema.library import find_library
 from jschema.lint import RULES, lint, lint_all
+from lsp_client import once
+from random_patterns import Maker
 
 URI = "https://example.com/s"
 # A schema, and what is found: the rule, the severity, a part of the message, and the place.
@@ -81,6 +85,38 @@ FOUND = (
                                          ("accepts-nothing", "warning", "isn't of the type integer", "/const")),
 )
 
+OPTIONS = {"patterns": "ecma", "numbers": "exact"}
+ALONE = "^(?=.{3,500}$)[a-z]+(?:-[a-z]+)*$"
+TEXTS = "without `.` and `e`; `--numbers texts` makes a text of it"
+# The same where patterns and numbers are rewritten.
+REWRITTEN = (
+    ({"pattern": r"^(?!aws:)\w+(?<!-)$", "minimum": 0.5, "maximum": 1e30, "multipleOf": 0.01, "enum": [1.0, 2.5]},),
+    ({"patternProperties": {ALONE: {}}, "additionalProperties": False},),
+    ({"patternProperties": {r"^\d+$": {"properties": {"a": {"maxLength": 2.0}}}, "^(?!x-)": {}}},),
+    ({"pattern": "(?!b)b*(?=.{1,1024}$)c+d"},
+     ("pattern", "error", "`(?=` at 8 is a look-ahead, which can't be rewritten exactly", "/pattern")),
+    ({"pattern": "^(?!a)x+(?!c*(?=.{1,900}$)d+)[cd]+$"},
+     ("pattern", "error", "`(?=` at 14 is a look-ahead, which can't be rewritten exactly", "/pattern")),
+    ({"pattern": "(?<!(a|b+)c)(?<!.*d{900})e"},
+     ("pattern", "error", "`(?<!` at 13 is a negative look-behind, which can't be rewritten exactly", "/pattern")),
+    ({"pattern": r"^(?!a)(b)\1$"}, ("pattern", "error", r"`\1` at 10 is a back-reference", "/pattern")),
+    ({"pattern": "^(?!a)x[b-a]"}, ("pattern", "error", "of ECMA-262 (see character 12)", "/pattern")),
+    ({"pattern": r"^(?!a)\p{L}\p{Graph}"}, ("pattern", "error", r"`\p{Graph}` at 12 is a property", "/pattern")),
+    ({"pattern": r"^(?:\p{L}{1000}){1000}$"}, ("pattern", "error", "takes too much memory", "/pattern")),
+    ({"patternProperties": {ALONE: {}}},
+     ("pattern", "error", "`(?=` at 2 is a look-ahead, which needs a name alone", f"/patternProperties/{ALONE}")),
+    ({"patternProperties": {r"^\d$": {"pattern": "("}, ALONE: {}}, "additionalProperties": False},
+     ("pattern", "error", "(see character 2)", r"/patternProperties/^\d$/pattern"),
+     ("pattern", "error", "needs a name alone", f"/patternProperties/{ALONE}")),
+    ({"patternProperties": {r"^(?=.{3,500}$)\p{L}+\p{Graph}": {}}, "additionalProperties": False},
+     ("pattern", "error", "is a property", r"/patternProperties/^(?=.{3,500}$)\p{L}+\p{Graph}")),
+    ({"default": 0.5}, ("number", "error", TEXTS, "/default")),
+    ({"properties": {"a": {"minLength": 1.5, "examples": [1.0, {"b": -2.5}]}}},
+     ("number", "error", "without `.` and `e`, and this can't be rewritten", "/properties/a/minLength"),
+     ("number", "error", TEXTS, "/properties/a/examples/1/b")),
+    ({"const": 0.5, "required": [2**70]}, ("number", "error", "2^64 - 1, and this can't be rewritten", "/required/0")),
+)
+
 
 def found(schema, **how):
     return lint(json.dumps(schema).encode(), URI, **how)
@@ -100,6 +136,57 @@ class Rules(unittest.TestCase):
                     seen.add(rule)
         self.assertEqual(seen, set(RULES))
 
+    def test_rewritten(self):
+        """What can be rewritten is no error; of what can't be, the part that can't is named."""
+        for schema, *expected in REWRITTEN:
+            with self.subTest(schema):
+                findings = [it for it in found(schema, **OPTIONS) if it.severity == "error"]
+                self.assertEqual([(it.rule, it.place) for it in sorted(findings, key=lambda it: it.place)],
+                                 sorted((rule, place) for rule, _, _, place in expected))
+                for rule, _, message, place in expected:
+                    self.assertTrue(any(message in it.message for it in findings if it.place == place), findings)
+        self.assertEqual(found({"default": 0.5, "examples": [1e30]}, numbers="texts"), [])
+        with self.assertRaises(ValueError):
+            found({}, patterns="perl")
+
+    def test_numbers_as_they_are_written(self):
+        """An integer with a minus before zero is none that the validator takes; rewritten it is 0."""
+        [finding] = lint(b'{"maximum": -0}', URI)
+        self.assertEqual((finding.rule, finding.message), ("number", "the validator takes no minus before zero"))
+        self.assertEqual(lint(b'{"maximum": -0}', URI, numbers="exact"), [])
+        # More digits than are computed with.
+        [finding] = lint(b'{"maximum": 1.' + b"1" * 2000 + b"}", URI, numbers="exact")
+        self.assertEqual((finding.rule, finding.place), ("number", "/maximum"))
+
+    def test_rewritten_of_older_drafts(self):
+        """Draft-03 has no `allOf`, to which look-around could be rewritten."""
+        if find_library() is None:
+            self.skipTest("no library")
+        schema = {"$schema": "http://json-schema.org/draft-04/schema#", "pattern": "^(?!.*a)[^b]+$"}
+        self.assertEqual(found(schema, **OPTIONS), [])
+        schema["$schema"] = "http://json-schema.org/draft-03/schema#"
+        [finding] = found(schema, **OPTIONS)
+        self.assertEqual((finding.rule, finding.message[-39:]), ("pattern", "which can't be rewritten in this schema"))
+
+    def test_random_patterns(self):
+        """A pattern has an error, and one that says what of it isn't read, if and only if the validator refuses it."""
+        once(self)
+        maker, refused = Maker(1), 0
+        for _ in range(300):
+            schema = {maker.random.choice(["pattern", "patternProperties"]): maker.pattern()[0]}
+            if "patternProperties" in schema:
+                schema = {"patternProperties": {schema["patternProperties"]: True},
+                          "additionalProperties": maker.random.choice([False, True])}
+            with self.subTest(schema):
+                errors = [it.rule for it in found(schema, **OPTIONS) if it.severity == "error"]
+                try:
+                    jschema.Schemas({URI: schema}, **OPTIONS).close()
+                    self.assertEqual(errors, [])
+                except jschema.Refused:
+                    refused += 1
+                    self.assertEqual(errors, ["pattern"])
+        self.assertGreater(refused, 5)
+
     def test_older_drafts(self):
         """A keyword of the document's own dialect is none that can't act; one of a later dialect is."""
         for dialect, keyword in (("http://json-schema.org/draft-07/schema#", "dependencies"),
@@ -117,6 +204,22 @@ class Rules(unittest.TestCase):
         self.assertEqual((typed.range.begin[1:], typed.range.end[1:]), ((2, 10), (2, 20)))
         self.assertEqual((reference.range.begin[1:], reference.range.end[1:]), ((3, 31), (3, 37)))
         self.assertEqual(typed.suggestion, "required")
+
+    def test_parts(self):
+        """Of a pattern the part is meant that isn't read, as it is written."""
+        for text, kind, line, begin, end in (
+                (r'{"pattern": "é\u00e9\ud83d\ude00(a)\\1b"}', "json", 1, 36, 39),
+                (r'{"patternProperties": {"(?>é)": {}}}', "json", 1, 25, 28),
+                ("patternProperties:\n  '(a)\\1':\n    title: a", "yaml", 2, 7, 9),
+                ("pattern: é(a)\\1", "yaml", 1, 14, 16),
+                (r'pattern: "\x41(a)\\1"', "yaml", 1, 10, 22), ('{"pattern": "(b"}', "json", 1, 13, 17),
+                (r'{"pattern": "b\"[b-a]a"}', "json", 1, 21, 22), (r'{"pattern": "\\p{Graph}"}', "json", 1, 14, 24)):
+            with self.subTest(text):
+                try:
+                    [finding] = lint(text.encode(), URI, kind=kind, **OPTIONS)
+                except ImportError as error:
+                    self.skipTest(str(error))
+                self.assertEqual((finding.range.begin[1:], finding.range.end[1:]), ((line, begin), (line, end)))
 
     def test_broken(self):
         for text, kind, line, column in ((b'{"a":\n }', "json", 2, 2), (b"a: [", "yaml", 1, 5), (b"a =", "toml", 1, 4),
@@ -175,6 +278,18 @@ class Commands(Case):
             self.assertEqual(self.run_inside("lint", "--format", "short", "status.json")[2], status)
         said = "failed: nowhere.json: No such file or directory\n\n0 errors, 0 warnings, 0 notes, 1 failed\n"
         self.assertEqual(self.run_inside("lint", "nowhere.json"), ("", said, 4))
+
+    def test_options(self):
+        """They are those of the validation, with its defaults."""
+        self.write("people.json", r'{"pattern": "^(?!a)\\w", "minimum": 0.5, "examples": [0.5]}')
+        for options, rules in (((), ["number"]), (("--numbers", "texts"), []),
+                               (("--patterns", "regex", "--numbers", "texts"), ["pattern"]),
+                               (("--numbers", "whole"), ["number", "number"])):
+            out, _, status = self.run_inside("lint", "--format", "json", "people.json", *options)
+            with self.subTest(options):
+                self.assertEqual([it["rule"] for it in json.loads(out)[0]["findings"]], rules)
+                self.assertEqual(status, 3 if rules else 0)
+        self.assertEqual(self.run_inside("lint", "people.json", "--patterns", "perl")[2], 2)
 
     def test_formats(self):
         self.write("f.json", '{"then": {}}')

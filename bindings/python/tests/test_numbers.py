@@ -7,7 +7,7 @@ import jschema
 from jschema.numbers import Number, exact_text, number
 from jschema.library import find_library
 from jschema.rewriting import Rewriting
-from random_numbers import compared
+from random_numbers import DRAFTS, compared
 
 URI = "urn:x"
 LEAST, GREATEST = -2**63, 2**64 - 1
@@ -117,22 +117,37 @@ class Schemas(unittest.TestCase):
         """Up to draft-04 `1.0` is no integer, so there it stays refused; without `integer` it's the same as 1."""
         if find_library() is None:
             self.skipTest("no library")
-        with jschema.Schemas({URI: {"type": "integer"}}, default_dialect="draft-04", numbers="exact") as schemas:
-            self.assertEqual(refused(schemas.is_valid, URI, "1.0"), ("NotWhole", ""))
-            self.assertTrue(schemas.is_valid(URI, "-0"))
-        with jschema.Schemas({URI: {"minimum": 1}}, default_dialect="draft-04", numbers="exact") as schemas:
-            self.assertTrue(schemas.is_valid(URI, "1.0"))
+        four, later = "http://json-schema.org/draft-04/schema#", "https://json-schema.org/draft/2020-12/schema"
+        inner = {"$schema": four, "id": "urn:y", "items": {"type": "integer"}}
+        for draft, schema in (
+                ("draft-04", {"type": "integer"}), ("draft-04", {"items": {"type": ["integer", "null"]}}),
+                ("draft-03", {"disallow": "integer"}), ("draft-03", {"extends": {"type": [{"type": "integer"}]}}),
+                ("draft-04", {"properties": {"$schema": {"type": "integer"}}}),
+                (None, {"$schema": four, "type": "integer"}), (None, {"$schema": later, "$defs": {"a": inner}}),
+                (None, '{"$schema": "http://json-schema.org/draft\\u002d04/schema#", "type": "\\u0069nteger"}')):
+            with self.subTest(schema):
+                with jschema.Schemas({URI: schema}, default_dialect=draft, numbers="exact") as schemas:
+                    self.assertEqual(refused(schemas.is_valid, URI, "[1.0]"), ("NotWhole", "/0"))
+                    self.assertEqual(refused(schemas.is_valid, URI, [1.0]), ("NotWhole", "/0"))
+                    schemas.is_valid(URI, "[-0]")
+        for draft, schema in (("draft-04", {"minimum": 1}), (None, {"$schema": four, "title": "an integer"}),
+                              (None, {"$schema": four, "type": "number"}),
+                              (None, {"$schema": later, "type": "integer", "title": "not as in draft-04"})):
+            with self.subTest(schema):
+                with jschema.Schemas({URI: schema}, default_dialect=draft, numbers="exact") as schemas:
+                    self.assertTrue(schemas.is_valid(URI, "1.0"))
+                    self.assertTrue(schemas.is_valid(URI, 1.0))
 
     def test_random(self):
         try:
             import jsonschema
         except ImportError:
             self.skipTest("pip's jsonschema isn't installed")
-        if os.environ.get("JSCHEMA_LIBRARY") != "off":
-            self.skipTest("with the program alone")
-        verdicts, valid, failed = compared(1, 40, ["2020-12"])
+        drafts = ["2020-12"] if os.environ.get("JSCHEMA_LIBRARY") == "off" else [*DRAFTS]
+        verdicts, valid, refusals, failed = compared(1, 40 * len(drafts), drafts)
         self.assertEqual(failed, [])
         self.assertGreater(valid, verdicts // 5)
+        self.assertEqual(refusals > 0, len(drafts) > 1)
 
     def test_what_stays_refused(self):
         self.assertEqual(refused(jschema.Schemas, {URI: '{"minimum": 0.5}'}), ("NotWhole", "/minimum"))
@@ -167,6 +182,40 @@ class Schemas(unittest.TestCase):
                          ("NotWhole", "/minimum"))
         with self.assertRaises(TypeError):
             jschema.Schemas({URI: {"minimum": 0.5, "x": {1: 2}}}, numbers="exact")
+
+
+class Recording:
+    """An engine that takes integers as the validator does, and says which texts it was asked about."""
+
+    def __init__(self):
+        self.asked = []
+
+    add = finish = close = lambda self, *_: None
+
+    def is_valid(self, entry, instance):
+        self.asked.append(instance)
+        if not instance.strip(b"-").isdigit() or instance == b"-0":
+            raise jschema.Refused("instance", "NotWhole", "")
+        return True
+
+    def check(self, entry, instance, format):
+        return jschema.Answer(self.is_valid(entry, instance), b'{"valid":true}\n')
+
+
+class Rewritten(unittest.TestCase):
+    def test_only_what_is_refused(self):
+        """A text that the validator takes has no number to rewrite, so nothing looks for one."""
+        for text, asked in (("12", [b"12"]), ("1.0", [b"1.0", b"1"]), ("-0", [b"-0", b"0"])):
+            engine = Recording()
+            with self.subTest(text), jschema.Schemas({}, engine=engine, numbers="exact") as schemas:
+                self.assertTrue(schemas.is_valid(URI, text))
+                self.assertEqual(schemas.output_text(URI, text), b'{"valid":true}\n')
+                self.assertEqual(engine.asked, asked * 2)
+        for text, asked in (("0.5", [b"0.5"]), ("[1.0", [b"[1.0", b"[1"])):
+            engine = Recording()
+            with self.subTest(text), jschema.Schemas({}, engine=engine, numbers="exact") as schemas:
+                self.assertEqual(refused(schemas.is_valid, URI, text), ("NotWhole", ""))
+                self.assertEqual(engine.asked, asked)
 
 
 class Errors(unittest.TestCase):

@@ -25,6 +25,7 @@ WRITTEN = [
     (r"\uD83D\uDE00", r"\x{1F600}"),
     (r"[\uD800-\uDFFF]", r"[^\x{0}-\x{10FFFF}]"),
     (r"[\w-.]", r"[\-.0-9A-Z_a-z]"),
+    (r"[\p{L}-_]", r"[\-_\p{L}]"),
     (r"a{", r"a\{"),
     (r"\<", "<"),
     (r"a\Z", "a$"),
@@ -33,7 +34,8 @@ WRITTEN = [
     (r"(?i:a\d)b", "(?:(?i:[a][0-9]))b"),
 ]
 THE_SAME = ["^abc$", r"\t\x41A\/\-\_", r"\p{Lu}", "[a-z_-]", "(?<n>a)|b{2,3}?", "(?i)a", r"\Aa\z", "]"]
-LEFT = [r"(a)\1", r"(?<n>a)\k<n>", r"(?!\s*$).+", "x*(?<=ab*c)d", "a**", "[b-a]", "(?s).", "[[:alpha:]]", "(", r"\q",
+LEFT = [r"(a)\1", r"(?<n>a)\k<n>", "(?=.{1,1024}$)a[^/]+/b", "^a*(?!.*bd{900})[a-z]+$", "(?:(?=.*b)[ab])*c", "a**",
+        "[b-a]", "(?s).", "[[:alpha:]]", "(", r"\q",
         "a{,2}", r"\b{start}a", r"\x{41}", r"\pL"]
 
 # The forms of look-around that are rewritten, each with texts that match, and texts that don't.
@@ -58,8 +60,20 @@ FORMS = [
     ("of a word, anywhere", r"foo(?!bar)", ["foo", "foobaz", "foobarfoo"], ["foobar"]),
     ("behind a word, anywhere", r"(?<!\$)\b[0-9]+", ["1", "a 1"], ["$1", "a"]),
     ("of a word that must be there", r"a(?=bc)", ["abc", "xabcd"], ["ab", "a"]),
+    ("of any length", r"^a*(?=.*:)[a-z:]+$", ["a:", ":", "ab:c"], ["ab", "a:B", "", "a\n:"]),
+    ("of any length, which isn't there", r"(?!\s*$).+", ["a", " a", "a "], ["", " ", "\n \n"]),
+    ("of any length, which isn't there before a sign", r"^a*(?!b+c)[abc]+$", ["bb", "aca", "abbcc"], ["bc", "bbcb"]),
+    ("of any length, which is nowhere", r"^[a-z]+\.(?!.*--)[a-z-]+$", ["a.b", "a.-b-"], ["a.b--", "a.", "a--.b"]),
+    ("of any length, and in a name", r"^(?!.*--)[a-z-]+$", ["a", "-a-b-"], ["a--b", "--", ""]),
+    ("of any length, with another in it", r"^a*(?!b*(?!c+d))[bcd]+$", ["cd", "acd", "ccdb"], ["ab", "bc", "d"]),
+    ("of any length, behind", r"^[a-z:]+(?<=:.*)a*$", [":a", "b:ba"], ["ab", "a", ""]),
+    ("of a bounded length, anywhere", r"(?=.{1,4}$)[a-z](-*[a-z])*", ["a-b", "abcdef"], ["", "a----", "-"]),
+    ("beyond its group", r"^(x+(?=.*1)[a-z]+|y)[0-9]+$", ["xa1", "xxb01", "y2"], ["xa2", "y", "x1"]),
     ("repeated, which isn't of the flag u", r"^(\/(?!\.)+[^\/]+){1,2}$", ["/a", "/a/b"], ["/.a", "/a/.", "/"]),
 ]
+
+# A name that is no single pattern.
+LONG = "^(?=.{3,500}$)[a-z]+(?:-[a-z]+)*$"
 
 
 class Written(unittest.TestCase):
@@ -138,31 +152,33 @@ class Names(unittest.TestCase):
             self.assertEqual([it for it in good + bad if schemas.is_valid(URI, it)], good)
 
     def test_open(self):
-        """One pattern is enough where look-around is short."""
+        """One pattern is enough unless the look-around counts far."""
         self.verdicts({"patternProperties": {"^(?!x-).+$": {"type": "null"}}},
                       [{"a": None, "x-a": 1}, {"x": None, "": 1}], [{"a": 1}, {"x": 1}, {"y-": 1}])
+        self.verdicts({"patternProperties": {"^(?!.*--)[a-z-]+$": {"type": "null"}}},
+                      [{"a-b": None, "a--b": 1}], [{"a-b": 1}, {"-": 1}])
 
     def test_closed(self):
         """Else `propertyNames` says it, where each other name is refused."""
-        schema = {"properties": {"id": True}, "patternProperties": {r"^(?!.*--)[a-z-]+$": {"type": "null"}},
+        schema = {"properties": {"ID": True}, "patternProperties": {LONG: {"type": "null"}},
                   "additionalProperties": False}
-        self.verdicts({**schema, "properties": {"ID": True}}, [{"a-b": None}, {"ID": 1}, {}],
-                      [{"a--b": None}, {"a": 1}, {"A": None}])
-        self.verdicts(schema, [{"id": None}], [{"id": 1}, {"--": None}])
+        self.verdicts(schema, [{"a-b": None}, {"ID": 1}, {}],
+                      [{"a" * 501: None}, {"a": None}, {"abc": 1}, {"ABC": None}])
+        self.verdicts({**schema, "properties": {"a-b": True}}, [{"a-b": None}], [{"a-b": 1}, {"a--b": None}])
+        self.verdicts({"patternProperties": {LONG: True}, "additionalProperties": False}, [{"abc": 1}], [{"a": 1}])
         with jschema.Schemas({URI: schema}, patterns="ecma") as schemas:
-            [error] = schemas.errors(URI, b'{"a--b": null}')
+            [error] = schemas.errors(URI, b'{"b": null}')
             self.assertEqual((error.message, error.keyword, error.instance_location, error.is_about_name),
-                             ("false schema", "additionalProperties", "/a--b", False))
+                             ("false schema", "additionalProperties", "/b", False))
 
     def test_left(self):
         """Where other names are allowed, or one is meant that the weaker pattern matches, it is refused as it was."""
-        name = r"^(?!.*--)[a-z-]+$"
-        for more in ({}, {"additionalProperties": True}, {"properties": {"a--b": True}, "additionalProperties": False}):
+        for more in ({}, {"additionalProperties": True}, {"properties": {"a": True}, "additionalProperties": False}):
             with self.subTest(more):
                 with self.assertRaises(jschema.Refused) as caught:
-                    jschema.Schemas({URI: {"patternProperties": {name: {}}, **more}}, patterns="ecma")
+                    jschema.Schemas({URI: {"patternProperties": {LONG: {}}, **more}}, patterns="ecma")
                 self.assertEqual((caught.exception.kind, caught.exception.place),
-                                 ("BadPattern", f"/patternProperties/{name}"))
+                                 ("BadPattern", f"/patternProperties/{LONG}"))
 
     def test_entries(self):
         """Of an older draft, too: an entry has the places of the upgraded schema, an error those of the author's."""

@@ -21,9 +21,9 @@ Validates JSON files against a JSON Schema, of draft 2020-12 or an older one.
   --ref FOLDER        a folder of documents, of which those are taken that are referred to
   --no-ref-siblings   don't look up the document of a relative reference beside the file that refers to it
   --format FORMAT     text (the default): each problem with its line. short: a line for each. json: an array with an
-                      object for each file. github: annotations in GitHub Actions. sarif, junit: for code scanning
-                      and tests. flag, basic, detailed, verbose, merged: the validator's output, a line for each
-                      instance
+                      object for each file. github: annotations in GitHub Actions. html: a page. sarif, junit: for
+                      code scanning and tests. flag, basic, detailed, verbose, merged: the validator's output, a line
+                      for each instance
   --input KIND        what the files are: json, or jsonc, JSON with comments (default: what the suffix says, else json)
   --lines             each line of a file is an instance; empty lines don't count
   --default-dialect DIALECT
@@ -35,8 +35,8 @@ Validates JSON files against a JSON Schema, of draft 2020-12 or an older one.
   --verbose           list the documents that were found for references
   --version           show the versions of the package and of the module that checks
 
-The command of the Python package has more: lint, --formats, YAML and TOML, the format html, patterns of ECMA-262 and
-numbers with fractions (--patterns regex and --numbers whole are taken, since they are so here).
+The command of the Python package has more: lint, --formats, YAML and TOML, patterns of ECMA-262 and numbers with
+fractions (--patterns regex and --numbers whole are taken, since they are so here).
 
 exit status, the highest that applies: 0 all are valid, 1 some are invalid, 2 the arguments are wrong,
 3 an input is refused, 4 out of memory, or a read or write failed
@@ -79,7 +79,6 @@ const WITH_VALUE = {
   },
   "--ref": (given, value) => given.refs.push(value),
   "--format": (given, value) => {
-    if (value === "html") throw wrong("the format html is one of the Python package's command");
     given.format = chosen("--format", value, CHOICES);
   },
   "--input": (given, value) => {

@@ -8,6 +8,8 @@ const CONTROL = /[\x00-\x1f\x7f-\x9f\u2028\u2029]/g;
 export class Report {
   /** The format of the validator's output that is written, if that is. */
   output = undefined;
+  /** Whether the tree of the errors is shown. */
+  tree = false;
   // How many results have each status, and how many errors there are.
   #statuses = [0, 0, 0, 0, 0];
   #errors = 0;

@@ -1,5 +1,6 @@
 /** How results are written: for people, for other programs, or as the validator's output. */
 import { FORMATS } from "../engine.js";
+import { HtmlReport } from "./html_report.js";
 import { GithubReport, ShortReport } from "./line_reports.js";
 import { JunitReport } from "./junit_report.js";
 import { JsonReport, OutputReport } from "./machine_reports.js";
@@ -7,7 +8,8 @@ import { SarifReport } from "./sarif_report.js";
 import { TextReport } from "./text_report.js";
 
 const REPORTS = {
-  text: TextReport, short: ShortReport, json: JsonReport, github: GithubReport, sarif: SarifReport, junit: JunitReport,
+  text: TextReport, short: ShortReport, json: JsonReport, github: GithubReport, html: HtmlReport, sarif: SarifReport,
+  junit: JunitReport,
 };
 
 /** What `--format` may name. */

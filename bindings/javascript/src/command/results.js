@@ -28,17 +28,19 @@ export class Checker {
   #engine;
   #places;
   #output;
+  #tree;
 
   /**
    * `engine` says where values stand in instances, and `places` where keywords do in schemas; `output` is the format of
-   * the validator's output, where the report writes that.
+   * the validator's output, where the report writes that, and `tree` whether it shows the tree of the errors.
    */
-  constructor({ schemas, entry, engine, places, output }) {
+  constructor({ schemas, entry, engine, places, output, tree }) {
     this.#schemas = schemas;
     this.#entry = entry;
     this.#engine = engine;
     this.#places = places;
     this.#output = output;
+    this.#tree = tree;
   }
 
   /** What comes of an instance. */
@@ -62,7 +64,8 @@ export class Checker {
     }
     // (So most instances end, without an output.)
     if (this.#schemas.isValid(this.#entry, json)) return { input, status: STATUS.VALID, problems: [] };
-    return { input, status: STATUS.INVALID, problems: this.#errors(input) };
+    const output = this.#tree ? this.#schemas.outputText(this.#entry, json, "detailed") : undefined;
+    return { input, status: STATUS.INVALID, problems: this.#errors(input), output };
   }
 
   /** The errors of an invalid instance, those deepest in it first: they say most precisely what to change. */

@@ -30,7 +30,8 @@ export async function validate(given) {
   }
   noteUpgrade(documents);
   const places = new Places(documents, engine);
-  const checker = new Checker({ schemas, entry: documents[0].uri, engine, places, output: report.output });
+  const { output, tree } = report;
+  const checker = new Checker({ schemas, entry: documents[0].uri, engine, places, output, tree });
   const progress = new Progress(given.lines ? undefined : files.length);
   return reported(report, progress, checker, inputs(files, given.input, given.lines));
 }

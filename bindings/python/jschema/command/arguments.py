@@ -6,6 +6,8 @@ from typing import NamedTuple, NoReturn, Optional
 
 from ..dialects import DRAFTS, dialect_called
 from ..engine import FORMATS
+from ..interface import REWRITING
+from ..rewriting import Options, options_of
 from ..sources import KINDS
 from .files import Misuse
 
@@ -14,7 +16,8 @@ USAGES = {
     "validate": "[--ref [URI=]FILE|FOLDER]... [--format FORMAT] [--input KIND] [--formats] [--lines] [--jobs N] "
                 "[--default-dialect DIALECT | --no-upgrade] [--patterns SYNTAX] [--numbers RANGE] "
                 "(SCHEMA | --schema SCHEMA) INSTANCE...",
-    "lint": "[--ref [URI=]FILE|FOLDER]... [--format FORMAT] [--input KIND] SCHEMA...",
+    "lint": "[--ref [URI=]FILE|FOLDER]... [--format FORMAT] [--input KIND] [--patterns SYNTAX] [--numbers RANGE] "
+            "SCHEMA...",
 }
 EXAMPLES = {"validate": "person.schema.json ada.json", "lint": "person.schema.json"}
 STATUSES = {
@@ -40,6 +43,8 @@ class Arguments(NamedTuple):
     format: str
     input: Optional[str]
     verbose: bool
+    #: What is rewritten.
+    rewriting: Options
     #: The files that are looked at: instances, or for `lint` schemas.
     files: list[str]
     formats: bool = False
@@ -49,9 +54,6 @@ class Arguments(NamedTuple):
     #: upgraded.
     default_dialect: Optional[str] = None
     upgrade: bool = True
-    #: How patterns and numbers are read, as `Schemas` has it.
-    patterns: Optional[str] = None
-    numbers: Optional[str] = None
 
 
 class Version(Exception):
@@ -109,6 +111,10 @@ def _add_common(parser: argparse.ArgumentParser, formats: tuple[str, ...], shown
     parser.add_argument("--input", choices=KINDS, metavar="KIND",
                         help="what the files are: json, jsonc (JSON with comments), yaml or toml (default: what the "
                              "suffix says, else json)")
+    for name, (argument, words) in REWRITING.items():
+        default, *others = (f"{word}: {meaning}" for word, meaning in words.items())
+        parser.add_argument(f"--{name}", choices=[*words], metavar=argument,
+                            help="; ".join((f"{default} (the default)", *others)))
     parser.add_argument("--verbose", action="store_true", help="list the documents that were found for references")
     parser.add_argument("--version", action=_Version, nargs=0,
                         help="show the versions of the package and the library, and which engine checks")
@@ -132,14 +138,8 @@ def _validate(name: str) -> _Parser:
     parser.add_argument("--no-upgrade", dest="upgrade", action="store_false",
                         help=f"refuse schemas of older drafts, from {DRAFTS[0]} to {DRAFTS[-2]}, which are upgraded to "
                              f"{DRAFTS[-1]} otherwise")
-    parser.add_argument("--patterns", choices=("ecma", "regex"), default="ecma", metavar="SYNTAX",
-                        help="the syntax of patterns: ecma, ECMA-262, look-around too where it can be rewritten (the "
-                             "default), or regex, that of the validator")
-    parser.add_argument("--numbers", choices=("exact", "texts", "whole"), default="exact", metavar="RANGE",
-                        help="the numbers that are read: exact, fractions in schemas, and 1.0 as the integer 1 (the "
-                             "default), texts, where fractions in a schema's annotations become texts too, or whole, "
-                             "those of the validator")
-    parser.add_argument("--jobs", type=_jobs, default=1, metavar="N", help="how many checks run at once (default: 1)")
+    parser.add_argument("--jobs", type=_jobs, default=1, metavar="N",
+                        help="how many checks run at once, with --lines each in a process of its own (default: 1)")
     parser.add_argument("files", nargs="*", metavar="INSTANCE",
                         help="a file; a folder, for the files in it, at any depth, whose suffix is of a kind (with "
                              "--lines .jsonl and .ndjson); or -, standard input")
@@ -179,7 +179,7 @@ def of_command(command: str, words: list[str], name: str) -> Arguments:
         if not given.files:
             parser.error("the following arguments are required: SCHEMA")
         return Arguments("lint", None, given.ref, given.ref_siblings, given.format, given.input, given.verbose,
-                         given.files)
+                         options_of(vars(given)), given.files)
     parser = _validate(name)
     given = parser.read(words)
     schemas = given.schema or given.files[:1]
@@ -193,6 +193,5 @@ def of_command(command: str, words: list[str], name: str) -> Arguments:
     if given.default_dialect and not given.upgrade:
         parser.error("--default-dialect says what to upgrade from, and --no-upgrade upgrades nothing")
     return Arguments("validate", schemas[0], given.ref, given.ref_siblings, given.format, given.input, given.verbose,
-                     files, given.formats, given.lines, given.jobs, given.default_dialect, given.upgrade,
-                     None if given.patterns == "regex" else given.patterns,
-                     None if given.numbers == "whole" else given.numbers)
+                     options_of(vars(given)), files, given.formats, given.lines, given.jobs, given.default_dialect,
+                     given.upgrade)

@@ -1,12 +1,13 @@
-"""The files that are looked at, read. Of each no more is read than the validator takes, and one byte."""
+"""The files that are looked at, read. Of a text little more is read than the validator takes: of a file a byte, and of
+a line a block."""
 from __future__ import annotations
 
 import errno
 import os
 import stat
 import sys
-from collections.abc import Iterable, Iterator
-from io import BufferedReader
+from collections.abc import Iterable, Iterator, Sequence
+from io import BufferedReader, FileIO
 from typing import NamedTuple, Optional, Union
 
 from ..extras import MissingLibrary
@@ -15,7 +16,9 @@ from ..sources import JsonSource, Source, Unreadable, kind_of, read
 from .files import STDIN, File
 
 _BLOCK = 1 << 16
+_BLOCK_OF_LINES = 1 << 18
 _NOTHING = JsonSource("json", b"", b"")
+_BLANKS = b" \t\r\n"
 
 
 class Input(NamedTuple):
@@ -28,20 +31,33 @@ class Input(NamedTuple):
     fault: Optional[Union[OSError, MissingLibrary, Unreadable]] = None
 
 
-def inputs(files: Iterable[File], kind: Optional[str] = None, lines: bool = False) -> Iterator[Input]:
-    """What is in files, read one after another. With `lines` each line is an instance; empty lines don't count.
+class Lines(NamedTuple):
+    """Lines of a file that follow one another, without their ends; or why there are none."""
 
-    Without a kind, that of each file is what its suffix says.
-    """
+    file: str
+    #: The number of the first.
+    line: int
+    texts: Sequence[bytes]
+    fault: Optional[OSError] = None
+
+    def inputs(self) -> Iterator[Input]:
+        """Each line as an instance. Empty lines don't count."""
+        if self.fault is not None:
+            yield Input(self.file, self.line, _NOTHING, self.fault)
+        for number, text in enumerate(self.texts, self.line):
+            # (Of a line that is too large the rest isn't known.)
+            if text.strip(_BLANKS) or len(text) > LARGEST_TEXT:
+                yield Input(self.file, number, JsonSource("json", text, text))
+
+
+def inputs(files: Iterable[File], kind: Optional[str] = None) -> Iterator[Input]:
+    """What is in files, read one after another. Without a kind, that of each file is what its suffix says."""
     for it in files:
-        shown = "<stdin>" if it.name == STDIN else it.name
+        shown = _shown(it)
         try:
             if it.fault is not None:
                 raise it.fault
-            with _opened(it.name) as file:
-                if lines:
-                    yield from _lines(file, shown)
-                    continue
+            with open(_opened(it.name), "rb", closefd=it.name != STDIN) as file:
                 data = _text(file)
             for source in _sources(data, kind or kind_of(it.name)):
                 yield Input(shown, source.first_line, source)
@@ -52,18 +68,39 @@ def inputs(files: Iterable[File], kind: Optional[str] = None, lines: bool = Fals
             yield Input(shown, 1, JsonSource("json", data, b""), refused)
 
 
+def lines(files: Iterable[File]) -> Iterator[Lines]:
+    """The lines of files, read one after another: those together that one read brings, and of a live stream those that
+    are there."""
+    for it in files:
+        shown, number = _shown(it), 1
+        try:
+            if it.fault is not None:
+                raise it.fault
+            with open(_opened(it.name), "rb", buffering=0, closefd=it.name != STDIN) as file:
+                for texts in _lines(file):
+                    yield Lines(shown, number, texts)
+                    number += len(texts)
+        except OSError as error:
+            yield Lines(shown, 1, (), error)
+
+
+def _shown(file: File) -> str:
+    return "<stdin>" if file.name == STDIN else file.name
+
+
 def _sources(data: bytes, kind: str) -> list[Source]:
     """The sources of a text. One that is too large is left to the validator, which says so."""
     return read(data, kind if len(data) <= LARGEST_TEXT else "json")
 
 
-def _opened(name: str) -> BufferedReader:
+def _opened(name: str) -> Union[str, int]:
+    """What to open for a file that is named."""
     if name != STDIN:
-        return open(name, "rb")
+        return name
     if sys.stdin is None:
         raise OSError(errno.EBADF, "standard input is closed")
     # (A reader of its own: Python ends with a fault where another thread reads from its own one.)
-    return open(sys.stdin.fileno(), "rb", closefd=False)
+    return sys.stdin.fileno()
 
 
 def _text(file: BufferedReader) -> bytes:
@@ -73,20 +110,33 @@ def _text(file: BufferedReader) -> bytes:
     return begin if len(begin) < _BLOCK else begin + file.read(LARGEST_TEXT + 1 - _BLOCK)
 
 
-def _lines(file: BufferedReader, shown: str) -> Iterator[Input]:
-    """The lines of a file. After one that is too large nothing more is read of a device or a pipe: it may not end."""
-    number = 0
-    while line := file.readline(LARGEST_TEXT + 1):
-        number += 1
-        is_whole = line.endswith(b"\n") or len(line) <= LARGEST_TEXT
-        if not is_whole and line.endswith(b"\r") and file.peek(1)[:1] == b"\n":
-            is_whole = True
-            file.readline(1)
-        if line.strip(b" \t\r\n"):
-            text = line.rstrip(b"\r\n") if is_whole else line
-            yield Input(shown, number, JsonSource("json", text, text))
-        if not is_whole:
+def _lines(file: FileIO) -> Iterator[list[bytes]]:
+    """The lines of a file, those of a read together. Of one that is too large there is its beginning, and after that
+    nothing more is read of a device or a pipe: it may not end."""
+    begun, is_cut = bytearray(), False
+    while data := _block(file):
+        if is_cut:
+            _, end, data = data.partition(b"\n")
+            is_cut = not end
+        texts = data.split(b"\n")
+        begun += texts[0]
+        if len(texts) > 1:
+            texts[0] = bytes(begun)
+            begun[:] = texts.pop()
+            yield [text.removesuffix(b"\r") for text in texts]
+        elif len(begun) > LARGEST_TEXT + 1:
+            yield [bytes(begun)]
             if not stat.S_ISREG(os.fstat(file.fileno()).st_mode):
                 return
-            while (rest := file.readline(_BLOCK)) and not rest.endswith(b"\n"):
-                pass
+            begun.clear()
+            is_cut = True
+    if begun:
+        yield [bytes(begun.removesuffix(b"\r"))]
+
+
+def _block(file: FileIO) -> bytes:
+    """What is there of a file, up to a block; nothing at its end."""
+    data: Optional[bytes] = file.read(_BLOCK_OF_LINES)
+    if data is None:
+        raise BlockingIOError(errno.EAGAIN, os.strerror(errno.EAGAIN))
+    return data

@@ -2,7 +2,7 @@
 from __future__ import annotations
 
 import threading
-from collections.abc import Iterable, Iterator
+from collections.abc import Generator, Iterable, Iterator
 from queue import SimpleQueue
 from typing import Callable, Generic, Optional, TypeVar
 
@@ -13,8 +13,9 @@ _Result = TypeVar("_Result")
 _AHEAD = 4
 
 
-def side_by_side(call: Callable[[_Given], _Result], given: Iterable[_Given], jobs: int) -> Iterator[_Result]:
-    """What a call answers for each of the given, in their order, each as soon as it is known. Up to `jobs` calls run at
+def side_by_side(call: Callable[[_Given], _Result], given: Iterable[_Given],
+                 jobs: int) -> Generator[_Result, None, None]:
+    """What a call returns for each of the given, in their order, each as soon as it is known. Up to `jobs` calls run at
     once.
 
     Where the iterator is closed, what waits is dropped, and nobody waits for what runs.

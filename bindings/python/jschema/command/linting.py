@@ -49,7 +49,7 @@ def _results(given: Sequence[Input], arguments: Arguments) -> Iterator[Result]:
                 result = _result(it, [broken(it.source)])
         results.append(result)
     beside = referred(files, arguments)
-    found = iter(lint_documents(documents, [it for it in map(walked, beside) if it]))
+    found = iter(lint_documents(documents, [it for it in map(walked, beside) if it], arguments.rewriting))
     return iter([_result(it, next(found)) if result is None else result for it, result in zip(given, results)])
 
 

@@ -1,7 +1,7 @@
 """The result of each file or instance."""
 from __future__ import annotations
 
-from collections.abc import Iterable, Iterator, Sequence
+from collections.abc import Generator, Iterable, Sequence
 from enum import IntEnum
 from typing import TYPE_CHECKING, NamedTuple, Optional
 
@@ -58,16 +58,20 @@ class Checker:
     def __init__(self, schemas: Schemas, entry: str, places: Places, wanted: Wanted) -> None:
         self._schemas, self._entry, self._places, self._wanted = schemas, entry, places, wanted
 
-    def results(self, given: Iterable[Input], jobs: int) -> Iterator[Result]:
+    def results(self, given: Iterable[Input], jobs: int) -> Generator[Result, None, None]:
         """The results in the order of the instances. Up to `jobs` checks run at once."""
-        return map(self.result, given) if jobs == 1 else side_by_side(self.result, given, jobs)
+        yield from map(self.result, given) if jobs == 1 else side_by_side(self.result, given, jobs)
+
+    @property
+    def missing(self) -> dict[str, str]:
+        """The formats that couldn't be checked, with what to install."""
+        return {} if self._wanted.formats is None else self._wanted.formats.missing
 
     def result(self, given: Input) -> Result:
         """What comes of an instance."""
-        if isinstance(given.fault, Refused):
-            return refusal(given, given.fault)
-        if given.fault is not None:
-            return failure(given, given.fault)
+        fault = given.fault
+        if fault is not None:
+            return refusal(given, fault) if isinstance(fault, Refused) else failure(given, fault)
         try:
             return self._judged(given)
         except Refused as refused:

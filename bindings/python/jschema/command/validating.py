@@ -2,7 +2,8 @@
 from __future__ import annotations
 
 import sys
-from collections.abc import Iterable, Sequence
+from collections.abc import Generator, Iterable, Sequence
+from contextlib import closing
 from typing import TYPE_CHECKING
 
 from ..dialects import DRAFTS, LATEST, dialect_called
@@ -13,8 +14,8 @@ from ..sources import JsonSource
 from ..upgrading import may_be_older
 from .arguments import Arguments
 from .documents import document, referred
-from .files import files_of, suffixes
-from .inputs import Input, inputs
+from .files import File, files_of, suffixes
+from .inputs import Input, inputs, lines
 from .places import Places
 from .reports import Report, report_for
 from .results import Checker, Result, Status, Wanted, refusal
@@ -35,7 +36,7 @@ def validate(arguments: Arguments) -> int:
         schema = document(arguments.schema, "--schema", arguments.input, assumed)
         documents = [schema, *referred([schema], arguments, assumed)]
         schemas = Schemas(((it.uri, it.source.json) for it in documents), default_dialect=arguments.default_dialect,
-                          upgrade=arguments.upgrade, patterns=arguments.patterns, numbers=arguments.numbers)
+                          upgrade=arguments.upgrade, **arguments.rewriting._asdict())
     except UnreadableFile as error:
         report.refused_schema(unreadable_schema(error))
         return Status.REFUSED
@@ -43,15 +44,25 @@ def validate(arguments: Arguments) -> int:
         report.refused_schema(refused_schema(documents, refused))
         return Status.REFUSED
     _note_upgrade(documents)
-    formats = _formats() if arguments.formats else None
-    progress = Progress(None if arguments.lines else len(files))
+    wanted = Wanted(report.output, report.tree, _formats() if arguments.formats else None)
     with schemas:
-        checker = Checker(schemas, schema.uri, Places(documents), Wanted(report.output, report.tree, formats))
-        given = inputs(files, arguments.input, arguments.lines)
-        status = reported(report, progress, checker.results(given, arguments.jobs))
-    for message in sorted(set(formats.missing.values())) if formats is not None else ():
+        checker = Checker(schemas, schema.uri, Places(documents), wanted)
+        with closing(_results(checker, files, arguments)) as results:
+            status = reported(report, Progress(None if arguments.lines else len(files)), results)
+    for message in sorted(set(checker.missing.values())):
         print(f"jschema: {message}", file=sys.stderr)
     return status
+
+
+def _results(checker: Checker, files: Sequence[File], arguments: Arguments) -> Generator[Result, None, None]:
+    """The results of the instances in files."""
+    if not arguments.lines:
+        return checker.results(inputs(files, arguments.input), arguments.jobs)
+    if arguments.jobs == 1:
+        return checker.results((it for some in lines(files) for it in some.inputs()), jobs=1)
+    # (Imported where it is needed, so that a validation starts sooner.)
+    from .parallel import results_of_lines
+    return results_of_lines(checker, lines(files), arguments.jobs)
 
 
 def _note_upgrade(documents: Sequence[SchemaFile]) -> None:

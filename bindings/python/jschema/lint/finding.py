@@ -33,6 +33,8 @@ class Found(NamedTuple):
     is_name: bool
     message: str
     suggestion: Optional[str] = None
+    #: From which character of the name, or of the string, to which one it is meant; None for all.
+    part: Optional[tuple[int, int]] = None
 
 
 class Finding(NamedTuple):

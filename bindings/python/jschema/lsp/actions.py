@@ -7,17 +7,15 @@ from typing import Any, NamedTuple, Optional
 from ..locations import pointer, steps
 from ..resources import value_of
 from .client import Client
-from .completion import written
 from .diagnostics import Diagnostic, Missing
 from .documents import Document
+from .members import EMPTY, names_in, values_of, written
 from .ranges import Span
 from .schemas import SchemaSet
 from .tree import Node
-from .workspace import Choice, Workspace
+from .workspace import Workspace
 
 QUICK_FIX = "quickfix"
-# What stands for a value of a type until somebody writes another.
-_EMPTY = {"string": "", "integer": 0, "number": 0, "boolean": False, "array": [], "object": {}}
 # How many references lead from one to the next at most.
 _MOST_REFERENCES = 10
 
@@ -61,8 +59,8 @@ def _edits(workspace: Workspace, document: Document, diagnostic: Diagnostic) -> 
     if isinstance(diagnostic.remedy, str):
         yield _renamed(document, diagnostic.span, diagnostic.remedy)
     elif diagnostic.remedy is not None:
-        choice = workspace.choice_of(document)
-        edit = _inserted(document, choice.set, diagnostic.remedy) if isinstance(choice, Choice) else None
+        choice = workspace.known_choice_of(document)
+        edit = None if choice is None else _inserted(document, choice.set, diagnostic.remedy)
         if edit is not None:
             yield edit
 
@@ -79,11 +77,10 @@ def _inserted(document: Document, schemas: SchemaSet, missing: Missing) -> Optio
     trees = document.trees()
     node = trees[missing.source].find(steps(missing.instance)) if missing.source < len(trees) else None
     required = schemas.find(missing.keyword)
-    names = None if required is None else value_of(required)
-    if node is None or node.kind != "object" or required is None or not isinstance(names, list):
+    if node is None or node.kind != "object" or required is None:
         return None
     present = {str(child.key) for child in node.children}
-    lacking = [it for it in dict.fromkeys(names) if isinstance(it, str) and it not in present]
+    lacking = [it for it in names_in(value_of(required)) if it not in present]
     schema = missing.keyword.rpartition("/")[0]
     is_yaml = document.kind == "yaml"
     members = [f"{written(it, is_yaml)}: {written(_value(schemas, schema, it), is_yaml)}" for it in lacking]
@@ -117,14 +114,13 @@ def _value(schemas: SchemaSet, schema: str, name: str) -> Any:
         about = schemas.schema(location)
         if not isinstance(about, dict):
             return None
-        for word in ("const", "default"):
-            if word in about:
-                return about[word]
-        if isinstance(about.get("enum"), list) and about["enum"]:
-            return about["enum"][0]
+        listed = about.get("enum")
+        known = [*values_of(about), *(listed if isinstance(listed, list) else ())]
+        if known:
+            return known[0]
         kind = about.get("type")
         if isinstance(kind, (str, list)) and kind:
-            return _EMPTY.get(kind if isinstance(kind, str) else str(kind[0]))
+            return EMPTY.get(kind if isinstance(kind, str) else str(kind[0]))
         target = schemas.referred(location, about["$ref"]) if isinstance(about.get("$ref"), str) else None
         if target is None:
             return None

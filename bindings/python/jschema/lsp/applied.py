@@ -41,7 +41,10 @@ def applied(choice: Choice, text: str, node: Node, present: Any = ...) -> list[A
         answer = schemas.check(choice.entry, json.dumps(sketch).encode(), "verbose")
     except Refused:
         return []
-    return list(dict.fromkeys(_walk(parse(answer.text), location, present is ...)))
+    found = dict.fromkeys(_walk(parse(answer.text), location, present is ...))
+    written = [(it, schemas.written_schema(it.location)) for it in found]
+    # (What was made of a pattern is no schema of the author's.)
+    return [it._replace(location=uri) for it, uri in written if uri is not None]
 
 
 def _walk(root: dict[str, Any], location: str, is_open: bool) -> Iterator[Applied]:

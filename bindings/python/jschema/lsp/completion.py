@@ -5,7 +5,7 @@ from __future__ import annotations
 import json
 import re
 from collections.abc import Iterator
-from typing import Any, NamedTuple, Optional
+from typing import Any, NamedTuple
 
 from ..resources import value_of
 from .applied import applied, shallow
@@ -14,6 +14,7 @@ from .context import Context, contexts
 from .documents import Document
 from .hover import shown
 from .keywords import names_of_keywords, values_of_keyword
+from .members import EMPTY, names_in, values_of, written
 from .references import targets
 from .workspace import Choice, Workspace
 
@@ -24,8 +25,8 @@ _PLAIN, _SNIPPET = 1, 2
 # The values of types that have few.
 _OF_TYPES: dict[str, tuple[Any, ...]] = {"boolean": (True, False), "null": (None,)}
 _DEPRECATED = 1
-# A scalar that YAML reads as the string that it looks like.
-_BARE = re.compile(r"(?!(?:null|Null|NULL|true|True|TRUE|false|False|FALSE)$)[A-Za-z_/$][\w./$-]*(?: [\w./$-]+)*")
+# The types whose values stand between two signs.
+_ENCLOSED = ("string", "object", "array")
 
 
 class Suggestion(NamedTuple):
@@ -53,8 +54,8 @@ def completion(workspace: Workspace, document: Document, offset: int, client: Cl
 
 
 def _of_instance(workspace: Workspace, document: Document, context: Context) -> Iterator[Suggestion]:
-    choice = workspace.choice_of(document)
-    if not isinstance(choice, Choice):
+    choice = workspace.known_choice_of(document)
+    if choice is None:
         return
     present = _present(context) if context.is_name else ...
     for it in applied(choice, context.text, context.node, present):
@@ -71,15 +72,14 @@ def _present(context: Context) -> dict[str, Any]:
 
 def _names(choice: Choice, schema: dict[str, Any], location: str, present: Any) -> Iterator[Suggestion]:
     """The members that a schema knows, and the object doesn't have yet."""
-    required = schema.get("required")
-    needed = [it for it in required if isinstance(it, str)] if isinstance(required, list) else []
+    needed = names_in(schema.get("required"))
     properties = schema.get("properties")
     members = properties if isinstance(properties, dict) else {}
     names = schema.get("propertyNames")
-    allowed = names.get("enum") if isinstance(names, dict) else None
-    for name in dict.fromkeys([*needed, *members, *(allowed if isinstance(allowed, list) else ())]):
+    allowed = names_in(names.get("enum")) if isinstance(names, dict) else []
+    for name in dict.fromkeys([*needed, *members, *allowed]):
         below = members.get(name, {})
-        if isinstance(name, str) and name not in present and below is not False:
+        if name not in present and below is not False:
             yield Suggestion(name, _PROPERTY, _described(choice, below, location), name in needed)
 
 
@@ -146,13 +146,6 @@ def _item(document: Document, context: Context, it: Suggestion, client: Client) 
     return item
 
 
-def written(value: Any, is_yaml: bool) -> str:
-    """A value as it is written."""
-    if is_yaml and isinstance(value, str) and _BARE.fullmatch(value):
-        return value
-    return json.dumps(value, ensure_ascii=False)
-
-
 def _name_text(document: Document, context: Context, it: Suggestion, client: Client) -> tuple[str, bool]:
     """What is inserted for a name, and whether it is a snippet. Where a colon follows, nothing is added."""
     is_yaml = document.kind == "yaml"
@@ -170,10 +163,11 @@ def _name_text(document: Document, context: Context, it: Suggestion, client: Cli
 def _first_value(schema: Any, is_yaml: bool, has_snippets: bool) -> tuple[str, bool]:
     """What is inserted as the value of a new member, and whether it is a snippet."""
     about = schema if isinstance(schema, dict) else {}
-    known = about.get("const", about.get("default"))
-    if "const" in about or "default" in about and not isinstance(known, (dict, list)):
-        return written(known, is_yaml), False
-    brackets = {"string": '""', "object": "{}", "array": "[]"}.get(str(about.get("type")))
+    known = values_of(about)
+    if known and ("const" in about or not isinstance(known[0], (dict, list))):
+        return written(known[0], is_yaml), False
     if is_yaml or not has_snippets:
         return "", False
-    return ("$1" if brackets is None or "enum" in about else f"{brackets[0]}$1{brackets[1]}"), True
+    kind = about.get("type")
+    begin, end = json.dumps(EMPTY[kind]) if kind in _ENCLOSED and "enum" not in about else ("", "")
+    return f"{begin}$1{end}", True

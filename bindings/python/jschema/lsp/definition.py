@@ -6,7 +6,7 @@ from typing import Any
 from .applied import applied
 from .documents import Document
 from .tree import Node
-from .workspace import Choice, Workspace
+from .workspace import Workspace
 
 
 def definition(workspace: Workspace, document: Document, offset: int) -> list[dict[str, Any]]:
@@ -28,8 +28,8 @@ def _of_reference(workspace: Workspace, document: Document, node: Node) -> list[
 
 
 def _of_value(workspace: Workspace, document: Document, node: Node) -> list[dict[str, Any]]:
-    choice = workspace.choice_of(document)
-    if not isinstance(choice, Choice):
+    choice = workspace.known_choice_of(document)
+    if choice is None:
         return []
     found = choice.set
     if node.pointer() == "/$schema":

@@ -118,7 +118,7 @@ class Diagnoses:
         if found is None:
             return
         texts = [(uri, text.reading.characters.data, text.kind) for uri, text in found.documents]
-        of_lint = [_of_lint(document, it) for it in lint_all(texts)[0]]
+        of_lint = [_of_lint(document, it) for it in lint_all(texts, options=found.options)[0]]
         if found.refused is not None and not any(it.severity == ERROR for it in of_lint):
             yield _refused_schema(document, found, found.refused)
         yield from of_lint

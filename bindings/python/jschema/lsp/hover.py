@@ -11,7 +11,7 @@ from ..resources import value_of
 from .applied import applied
 from .documents import Document
 from .tree import Node
-from .workspace import Choice, Workspace
+from .workspace import Workspace
 
 _WORDS = ("title", "description", "default", "examples", "deprecated")
 _LONGEST = 200
@@ -35,8 +35,8 @@ def _notes(workspace: Workspace, document: Document, index: int, node: Node) -> 
     """What each schema that applies at a value says."""
     if workspace.is_schema(document):
         return _of_reference(workspace, document, node)
-    choice = workspace.choice_of(document)
-    if not isinstance(choice, Choice):
+    choice = workspace.known_choice_of(document)
+    if choice is None:
         return []
     sources = document.reading().sources
     if index < len(sources) and choice.set.schemas is not None:

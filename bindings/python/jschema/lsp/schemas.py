@@ -13,6 +13,7 @@ from ..limits import LARGEST_TEXT
 from ..locations import pointer, steps
 from ..lookup import Lookup, SchemaFile, file_url, is_absolute, schema_file, schemas_in, walked
 from ..resources import Target, value_of
+from ..rewriting import Options, options_of
 from ..schemas import Schemas
 from ..sources import Source, kind_of
 from ..uris import document_of, fragment_of, joined
@@ -53,12 +54,15 @@ class SchemaText:
 class SchemaSet:
     """A schema with the documents that it refers to, registered with the validator."""
 
-    def __init__(self, documents: list[tuple[str, SchemaText]]) -> None:
+    def __init__(self, documents: list[tuple[str, SchemaText]], options: Options) -> None:
         self.documents = documents
+        #: What is rewritten in them.
+        self.options = options
         self.schemas: Optional[Schemas] = None
         self.refused: Optional[Refused] = None
         try:
-            self.schemas = Schemas((uri, text.json) for uri, text in documents)
+            self.schemas = Schemas(((uri, text.json) for uri, text in documents), patterns=options.patterns,
+                                   numbers=options.numbers)
         except Refused as refused:
             self.refused = refused
         found = [walked(SchemaFile(text.path, uri, text.source)) for uri, text in documents if text.source is not None]
@@ -134,14 +138,15 @@ class Store:
         # The open document of a path, if there is one.
         self._opened = opened
         self._folders: list[str] = []
+        self._options = options_of({})
         self._texts: dict[str, SchemaText] = {}
         self._sets: dict[str, SchemaSet] = {}
         self._lookup = Lookup([], beside=True)
         self._by_uri: Optional[dict[str, str]] = None
 
-    def refer_to(self, folders: Iterable[str]) -> None:
-        """Takes folders in which documents are found by their URI."""
-        self._folders = [*folders]
+    def configure(self, folders: Iterable[str], options: Options) -> None:
+        """Takes folders in which documents are found by their URI, and what is rewritten."""
+        self._folders, self._options = [*folders], options
         self.forget()
 
     def forget(self) -> None:
@@ -213,7 +218,7 @@ class Store:
                 text = self._text(os.path.normpath(taken.file.path))
                 if text is not None:
                     documents.append((taken.file.uri, text))
-        return SchemaSet(documents)
+        return SchemaSet(documents, self._options)
 
     def _stamp(self, path: str) -> Optional[Hashable]:
         document = self._opened(path)

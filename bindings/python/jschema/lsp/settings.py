@@ -1,4 +1,5 @@
-"""Which schema belongs to which file: the client's settings, and catalogues in SchemaStore's form."""
+"""Which schema belongs to which file, and how schemas are read: the client's settings, and catalogues in SchemaStore's
+form."""
 from __future__ import annotations
 
 import json
@@ -7,6 +8,7 @@ import re
 from dataclasses import dataclass, field
 from typing import Any, Callable, Union
 
+from ..interface import REWRITING
 from .ranges import path_of
 
 #: A schema as a setting names it: a URL, a path, or the schema itself.
@@ -38,6 +40,8 @@ class Settings:
     associations: list[Association] = field(default_factory=list)
     #: Files and folders of schemas that others refer to by their `$id`.
     references: list[str] = field(default_factory=list)
+    #: The words for what is rewritten, by the names in `REWRITING`, as far as they are set.
+    rewriting: dict[str, str] = field(default_factory=dict)
 
     def schema_of(self, path: str) -> Union[Association, None]:
         """The first association that a file has."""
@@ -60,6 +64,12 @@ def read(given: Any, folder: str, warn: Callable[[str], None]) -> Settings:
     for name in _list(given, "catalogs", warn):
         _read_catalogue(settings, os.path.join(folder, str(name)), warn)
     settings.references += [os.path.normpath(os.path.join(folder, str(it))) for it in _list(given, "references", warn)]
+    for name, (_, words) in REWRITING.items():
+        word = given.get(name)
+        if isinstance(word, str) and word in words:
+            settings.rewriting[name] = word
+        elif word is not None:
+            warn(f"{name} isn't {' or '.join(words)}")
     return settings
 
 

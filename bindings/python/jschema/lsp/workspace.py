@@ -7,6 +7,7 @@ from collections.abc import Iterable
 from typing import NamedTuple, Optional
 from urllib.parse import unquote
 
+from ..rewriting import options_of
 from .documents import Document
 from .ranges import Span, path_of
 from .schemas import SchemaSet, Store
@@ -53,7 +54,8 @@ class Workspace:
         for it in given:
             self.settings.associations += it.associations
             self.settings.references += it.references
-        self.store.refer_to(self.settings.references)
+            self.settings.rewriting = {**it.rewriting, **self.settings.rewriting}
+        self.store.configure(self.settings.references, options_of(self.settings.rewriting))
 
     def open(self, document: Document) -> None:
         """Takes a document that was opened."""
@@ -92,6 +94,11 @@ class Workspace:
             return self.schema_of(name, folder)
         association = None if document.path is None else self.settings.schema_of(document.path)
         return None if association is None else self.schema_of(association.schema, association.folder)
+
+    def known_choice_of(self, document: Document) -> Optional[Choice]:
+        """The same; None also where that schema isn't there."""
+        choice = self.choice_of(document)
+        return choice if isinstance(choice, Choice) else None
 
     def schema_of(self, named: Named, folder: str) -> Choice | Unknown:
         """The schema with a name: a URL, or a path from a folder; or the schema that stands in a setting."""

@@ -11,13 +11,13 @@ from functools import lru_cache
 from typing import Any, Optional
 
 from . import looking
-from .looking import Combination, Every, Not, Plain
-from .nodes import has_look
+from .combinations import Combination, Every, Not, Plain
+from .nodes import Alternatives, has_look, looks, with_look
 from .pushing import NotExact
 from .syntax import NotRead, Read
 from .writing import written
 
-__all__ = ["Combination", "Every", "Not", "Plain", "read", "read_single", "schema_of", "text_of"]
+__all__ = ["Combination", "Every", "Not", "Plain", "left", "read", "read_single", "schema_of", "text_of", "texts_of"]
 
 
 @lru_cache(maxsize=10_000)
@@ -50,6 +50,13 @@ def text_of(plain: Plain) -> str:
     return written(plain.body)
 
 
+def texts_of(given: Combination) -> list[str]:
+    """The texts of all patterns in a combination."""
+    if isinstance(given, Plain):
+        return [text_of(given)]
+    return [text for it in ((given.of,) if isinstance(given, Not) else given.of) for text in texts_of(it)]
+
+
 def schema_of(given: Combination) -> dict[str, Any]:
     """A schema that is valid for the strings that a combination matches, and for what is no string."""
     if isinstance(given, Plain):
@@ -58,3 +65,22 @@ def schema_of(given: Combination) -> dict[str, Any]:
         # (A `pattern` says nothing of what is no string, and a `not` of it would.)
         return {"not": {"type": "string", **schema_of(given.of)}}
     return {"allOf" if isinstance(given, Every) else "anyOf": [schema_of(it) for it in given.of]}
+
+
+def left(pattern: str) -> Optional[int]:
+    """Where the first look-around stands in a pattern that can't be rewritten. None where there is none, and where the
+    pattern isn't read."""
+    try:
+        body = Read(pattern).alternatives
+    except (NotRead, RecursionError):
+        return None
+    places = looks(body)
+    return next((at for at in places if not _is_exact(with_look(body, at))), None if _is_exact(body) else places[0])
+
+
+def _is_exact(body: Alternatives) -> bool:
+    try:
+        looking.combination(body)
+    except (NotExact, RecursionError):
+        return False
+    return True

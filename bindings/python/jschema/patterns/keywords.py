@@ -14,22 +14,42 @@ _FOUR, _SIX = 1, 2
 NO_MATCH, FALSE_SCHEMA = "no match", "false schema"
 
 
-def rewrite_pattern(schema: dict[str, Any], dialect: int) -> Iterator[Change]:
-    """Rewrites `pattern`: into another, and where that isn't enough what stands beside it in `allOf`."""
+def of_pattern(schema: dict[str, Any], dialect: int) -> Optional[Combination]:
+    """What `pattern` is rewritten to. None where it stays."""
     pattern = schema.get("pattern")
     found = read(pattern) if isinstance(pattern, str) else None
-    if isinstance(found, Plain):
-        schema["pattern"] = text_of(found)
-        yield Change(("pattern",), ("pattern",))
-    if found is None or isinstance(found, Plain) or not _has_conditions(schema, dialect):
+    return found if isinstance(found, Plain) or _has_conditions(schema, dialect) else None
+
+
+def of_names(schema: dict[str, Any], dialect: int) -> dict[str, tuple[Plain, Optional[Every]]]:
+    """What names in `patternProperties` are rewritten to: a pattern, and where that matches more than the name does,
+    what `propertyNames` has to say. Others stay."""
+    named = schema.get("patternProperties")
+    made: dict[str, tuple[Plain, Optional[Every]]] = {}
+    for name in named if isinstance(named, dict) else ():
+        found = _read_name(name)
+        if isinstance(found, Plain):
+            made[name] = found, None
+        elif isinstance(found, Every):
+            weaker = found.of[-1]
+            if isinstance(weaker, Plain) and _is_closed(schema, dialect, found, weaker):
+                made[name] = weaker, found
+    return made
+
+
+def rewrite_pattern(schema: dict[str, Any], dialect: int) -> Iterator[Change]:
+    """Rewrites `pattern`: into another, and where that isn't enough what stands beside it in `allOf`."""
+    found = of_pattern(schema, dialect)
+    if found is None:
         return
-    conditions = [*found.of] if isinstance(found, Every) else [found]
-    last = conditions[-1]
+    *conditions, last = found.of if isinstance(found, Every) else (found,)
     if isinstance(last, Plain):
         schema["pattern"] = text_of(last)
-        del conditions[-1]
+        if not conditions:
+            yield Change(("pattern",), ("pattern",))
     else:
         del schema["pattern"]
+        conditions.append(last)
     for it in conditions:
         yield _with_condition(schema, schema_of(it), ("pattern",), NO_MATCH)
 
@@ -39,19 +59,15 @@ def rewrite_names(schema: dict[str, Any], dialect: int, free: Callable[[str, str
     named = schema.get("patternProperties")
     if not isinstance(named, dict):
         return
-    plain: dict[str, Plain] = {}
-    for name in named:
-        found = _read_name(name)
-        if isinstance(found, Plain):
-            plain[name] = found
-        elif isinstance(found, Every) and isinstance(found.of[-1], Plain) and _is_closed(schema, dialect, found):
+    rewritten = of_names(schema, dialect)
+    for _, whole in rewritten.values():
+        if whole is not None:
             # (Every other name is refused, so it is enough to refuse these.)
-            plain[name] = found.of[-1]
-            yield _with_condition(schema, _names_allowed(schema, found), ("additionalProperties",), FALSE_SCHEMA)
+            yield _with_condition(schema, _names_allowed(schema, whole), ("additionalProperties",), FALSE_SCHEMA)
     schema["patternProperties"] = {}
     # (In their order, as the author has them.)
     for name, value in named.items():
-        made = free(name, text_of(plain[name])) if name in plain else name
+        made = free(name, text_of(rewritten[name][0])) if name in rewritten else name
         schema["patternProperties"][made] = value
         if made != name:
             yield Change(("patternProperties", name), ("patternProperties", made))
@@ -62,7 +78,7 @@ def _read_name(name: str) -> Optional[Combination]:
     return found if found is None or isinstance(found, Plain) else read_single(name) or found
 
 
-def _is_closed(schema: dict[str, Any], dialect: int, wanted: Every) -> bool:
+def _is_closed(schema: dict[str, Any], dialect: int, wanted: Every, weaker: Plain) -> bool:
     """Whether the one pattern's names, and those in `properties`, are all that there may be; and the weaker pattern
     matches none of the latter that the whole doesn't."""
     if dialect < _SIX or not _has_conditions(schema, dialect) or len(schema["patternProperties"]) != 1:
@@ -70,8 +86,7 @@ def _is_closed(schema: dict[str, Any], dialect: int, wanted: Every) -> bool:
     if schema.get("additionalProperties") is not False or not isinstance(schema.get("properties", {}), dict):
         return False
     try:
-        return not any(matches(wanted.of[-1], name) and not matches(wanted, name)
-                       for name in schema.get("properties", ()))
+        return not any(matches(weaker, name) and not matches(wanted, name) for name in schema.get("properties", ()))
     except NotExact:
         return False
 

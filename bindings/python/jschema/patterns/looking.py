@@ -4,61 +4,31 @@
 """
 from __future__ import annotations
 
-from dataclasses import dataclass
+from collections.abc import Iterable
 from typing import Callable, Optional, Union
 
+from .automata import taken
 from .characters import ANY, Characters
+from .combinations import NEVER, Combination, Not, Plain, every, some
 from .nodes import (END, START, Alternatives, Group, Look, Node, Repeat, Sequence, has_look, least_width, repeated,
                     width)
 from .pushing import NotExact, Pusher, mirrored, shortened, words
 
-
-@dataclass(frozen=True)
-class Plain:
-    """A pattern without look-around."""
-
-    body: Alternatives
-
-
-@dataclass(frozen=True)
-class Not:
-    """What a combination doesn't match."""
-
-    of: Combination
-
-
-@dataclass(frozen=True)
-class Every:
-    """What each of several combinations matches."""
-
-    of: tuple[Combination, ...]
-
-
-@dataclass(frozen=True)
-class Some:
-    """What one of several combinations matches."""
-
-    of: tuple[Combination, ...]
-
-
-Combination = Union[Plain, Not, Every, Some]
-
-NEVER = Plain(((Characters(()),),))
 _MOST_SEQUENCES = 40
-# The most nodes that are looked at, each time that they are.
-_MOST_NODES = 5000
+# The most nodes that are looked at, each time that they are; and how many an automaton counts as.
+_MOST_NODES, _AUTOMATON = 5000, 250
 
 
 def combination(body: Alternatives) -> Combination:
     """The combination that matches the same texts. Raises `NotExact`."""
     return _Rewriter((_Rewriter.from_start_alone, _Rewriter.short, _Rewriter.at_start, _Rewriter.at_end,
-                      _Rewriter.in_all_places, _Rewriter.long, _Rewriter.distributed)).combined(body)
+                      _Rewriter.in_all_places, *_ALONE)).combined(body)
 
 
 def single(body: Alternatives) -> Optional[Plain]:
     """One pattern without look-around that matches the same texts, if there is one that isn't much larger."""
     try:
-        found = _Rewriter((_Rewriter.short, _Rewriter.long, _Rewriter.distributed)).combined(body)
+        found = _Rewriter((_Rewriter.short, *_ALONE)).combined(body)
     except NotExact:
         return None
     return found if isinstance(found, Plain) else None
@@ -85,7 +55,7 @@ class _Rewriter:
     def combined(self, body: Alternatives) -> Combination:
         """The combination of alternatives: those without look-around are one pattern."""
         found = [it for it in (self._sequence(opened(it)) for it in body) if it != NEVER]
-        return _some(*found) if found else NEVER
+        return some(*found) if found else NEVER
 
     def _sequence(self, sequence: Sequence) -> Combination:
         self._nodes += 1 + len(sequence)
@@ -109,38 +79,20 @@ class _Rewriter:
         from_start = self._sequence((START, *sequence))
         if not look.is_negated:
             return from_start
-        return _some(from_start, self._sequence((ANY, *sequence[1:])))
+        return some(from_start, self._sequence((ANY, *sequence[1:])))
 
     def at_start(self, sequence: Sequence) -> Optional[Combination]:
         """A look-around so many characters behind the start."""
-        anchor = _anchor(sequence)
-        if anchor is None:
-            return None
-        for index, look in enumerate(sequence):
-            place = width(sequence[:index])
-            if place is None:
-                return None
-            if isinstance(look, Look):
-                found = _from_start(look, place)
-                if found is not None:
-                    return self._with_condition(sequence, index, found)
-        return None
+        found = _first_condition(sequence)
+        return None if found is None else self._with_condition(sequence, *found)
 
     def at_end(self, sequence: Sequence) -> Optional[Combination]:
         """A look-around so many characters before the end."""
-        turned = mirrored(sequence)
-        if _anchor(turned) is None:
+        found = _first_condition(mirrored(sequence))
+        if found is None:
             return None
-        for index, look in enumerate(turned):
-            place = width(turned[:index])
-            if place is None:
-                return None
-            if isinstance(look, Look):
-                found = _from_start(look, place)
-                if found is not None:
-                    body = tuple(map(mirrored, found))
-                    return self._with_condition(sequence, len(sequence) - 1 - index, body)
-        return None
+        index, body = found
+        return self._with_condition(sequence, len(sequence) - 1 - index, tuple(map(mirrored, body)))
 
     def _with_condition(self, sequence: Sequence, index: int, body: Alternatives) -> Combination:
         """A sequence without the look-around at an index, and that the text is as that wants it."""
@@ -150,7 +102,7 @@ class _Rewriter:
         rest = self._sequence(sequence[:index] + sequence[index + 1:])
         if condition == NEVER:
             return rest if look.is_negated else NEVER
-        return _every(Not(condition) if look.is_negated else condition, rest)
+        return every(Not(condition) if look.is_negated else condition, rest)
 
     def in_all_places(self, sequence: Sequence) -> Optional[Combination]:
         """`^((?!A)c)*$`: `A` is at none of the places, so nowhere."""
@@ -174,7 +126,7 @@ class _Rewriter:
         if len(others) == 1 and isinstance(first, Characters):
             one = first
         rest = (*sequence[:-2], Repeat(one, last.least, last.most), END)
-        return _every(Not(self.combined(body)), self._sequence(rest))
+        return every(Not(self.combined(body)), self._sequence(rest))
 
     def short(self, sequence: Sequence) -> Optional[Combination]:
         """Look-arounds for one character, here and in groups."""
@@ -196,6 +148,17 @@ class _Rewriter:
                     return self._sequence((*sequence[:index], inside, *sequence[index + 1:]))
         return None
 
+    def of_any_length(self, sequence: Sequence) -> Optional[Combination]:
+        """A look-around, and what stands beside it up to the end, read side by side."""
+        for index, node in enumerate(sequence):
+            if isinstance(node, Look) and not has_look(sequence[index + 1:] if node.is_ahead else sequence[:index]):
+                self._nodes += _AUTOMATON
+                found = _turned(sequence, index,
+                                lambda look, rest: taken(look.is_negated, _without_look(look.body), rest))
+                if found is not None:
+                    return self.combined(tuple(found))
+        return None
+
     def distributed(self, sequence: Sequence) -> Optional[Combination]:
         """Each alternative of the first group with look-around, with what stands around the group."""
         index = next(index for index, it in enumerate(sequence) if has_look(it))
@@ -212,6 +175,8 @@ class _Rewriter:
 
 
 _Rule = Callable[[_Rewriter, Sequence], Optional[Combination]]
+# The rules that make patterns alone, after that for one character.
+_ALONE: tuple[_Rule, ...] = (_Rewriter.long, _Rewriter.of_any_length, _Rewriter.distributed)
 
 
 def _anchor(sequence: Sequence) -> Optional[int]:
@@ -221,6 +186,21 @@ def _anchor(sequence: Sequence) -> Optional[int]:
             return index
         if width(node) != 0:
             return None
+    return None
+
+
+def _first_condition(sequence: Sequence) -> Optional[tuple[int, Alternatives]]:
+    """The first look-around that stands so many characters behind the start, and for which it is known what patterns
+    find what it wants: its index, and these."""
+    if _anchor(sequence) is None:
+        return None
+    for index, look in enumerate(sequence):
+        place = width(sequence[:index])
+        if place is None:
+            return None
+        found = _from_start(look, place) if isinstance(look, Look) else None
+        if found is not None:
+            return index, found
     return None
 
 
@@ -263,20 +243,44 @@ def _in_one_place(inner: Sequence, index: int, place: int) -> Optional[Alternati
 def _beside(sequence: Sequence, index: int, is_whole: bool, longest: int, steps: int) -> Optional[list[Sequence]]:
     """The sequences without the look-around at an index that match the same; `is_whole` says that the pattern is no
     longer. None where it is too long, or they are too many."""
+    def pushed(look: Look, rest: Sequence) -> list[Sequence]:
+        wanted = words(look.body)
+        if any(len(it) > longest for it in wanted):
+            raise NotExact
+        return Pusher(look.is_negated, is_whole, steps).pushed(wanted, rest)
+
+    return _turned(sequence, index, pushed)
+
+
+def _turned(sequence: Sequence, index: int,
+            join: Callable[[Look, Sequence], Iterable[Sequence]]) -> Optional[list[Sequence]]:
+    """The sequences with what becomes of the look-around at an index and what follows it; a look-behind is turned for
+    that, with what stands before it. None where that can't be."""
     look, before, after = sequence[index], sequence[:index], sequence[index + 1:]
     assert isinstance(look, Look)
-    turned = look if look.is_ahead else mirrored((look,))[0]
-    assert isinstance(turned, Look)
     try:
-        wanted = words(turned.body)
-        if any(len(it) > longest for it in wanted):
-            return None
-        pusher = Pusher(look.is_negated, is_whole, steps)
         if look.is_ahead:
-            return [before + it for it in pusher.pushed(wanted, after)]
-        return [mirrored(it) + after for it in pusher.pushed(wanted, mirrored(before))]
+            return [before + it for it in join(look, after)]
+        ahead = Look(True, look.is_negated, tuple(map(mirrored, look.body)))
+        return [mirrored(it) + after for it in join(ahead, mirrored(before))]
     except NotExact:
         return None
+
+
+def _without_look(body: Alternatives) -> Alternatives:
+    """The same as what a look-ahead wants without the look-aheads in it."""
+    if not any(map(has_look, body)):
+        return body
+    found = None if any(map(_has_look_behind, body)) else single(body)
+    if found is None:
+        raise NotExact
+    return found.body
+
+
+def _has_look_behind(sequence: Sequence) -> bool:
+    inner = (node.node if isinstance(node, Repeat) else node for node in sequence)
+    return any(isinstance(it, Look) and not it.is_ahead or any(map(_has_look_behind, it.body))
+               for it in inner if isinstance(it, (Look, Group)))
 
 
 def _inside(node: Node, longest: int, steps: int) -> Optional[Node]:
@@ -305,24 +309,3 @@ def _inside(node: Node, longest: int, steps: int) -> Optional[Node]:
                 return None
             waiting.append((*sequence[:index], inside, *sequence[index + 1:]))
     return Group(tuple(found) or NEVER.body)
-
-
-def _every(*parts: Combination) -> Combination:
-    found: list[Combination] = []
-    for it in parts:
-        found += it.of if isinstance(it, Every) else (it,)
-    return Every(tuple(found))
-
-
-def _some(*parts: Combination) -> Combination:
-    plain: Alternatives = ()
-    others: list[Combination] = []
-    for part in parts:
-        for it in part.of if isinstance(part, Some) else (part,):
-            if isinstance(it, Plain):
-                plain += it.body
-            else:
-                others.append(it)
-    found: list[Combination] = [Plain(plain)] if plain else []
-    found += others
-    return found[0] if len(found) == 1 else Some(tuple(found))

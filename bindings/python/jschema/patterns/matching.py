@@ -2,7 +2,7 @@
 from __future__ import annotations
 
 from .characters import Characters
-from .looking import Combination, Every, Not, Plain
+from .combinations import Combination, Every, Not, Plain
 from .nodes import END, START, Assertion, Group, Node, Repeat, Sequence
 from .pushing import NotExact
 

@@ -2,7 +2,7 @@
 from __future__ import annotations
 
 from collections.abc import Iterator
-from dataclasses import dataclass
+from dataclasses import dataclass, field, replace
 from typing import Optional, Union
 
 from .characters import Characters
@@ -22,6 +22,8 @@ class Look:
     is_ahead: bool
     is_negated: bool
     body: Alternatives
+    #: Where it stands in the pattern that was read.
+    at: int = field(default=0, compare=False)
 
 
 @dataclass(frozen=True)
@@ -54,6 +56,35 @@ def has_look(node: Union[Node, Sequence]) -> bool:
     if isinstance(node, Repeat):
         return has_look(node.node)
     return isinstance(node, Look) or isinstance(node, Group) and any(map(has_look, node.body))
+
+
+def looks(body: Alternatives) -> list[int]:
+    """Where the look-arounds of alternatives stand, each before those in it."""
+    found: list[int] = []
+    for node in (node for sequence in body for node in sequence):
+        inner = node.node if isinstance(node, Repeat) else node
+        if isinstance(inner, Look):
+            found.append(inner.at)
+        if isinstance(inner, (Look, Group)):
+            found += looks(inner.body)
+    return found
+
+
+def with_look(body: Alternatives, at: int) -> Alternatives:
+    """Alternatives without all look-arounds but the one that stands there, and those that it stands in."""
+    return tuple(tuple(made for node in sequence for made in _with_look(node, at)) for sequence in body)
+
+
+def _with_look(node: Node, at: int) -> Iterator[Node]:
+    if isinstance(node, Look):
+        if node.at == at or at in looks(node.body):
+            yield replace(node, body=with_look(node.body, at))
+    elif isinstance(node, Group):
+        yield Group(with_look(node.body, at))
+    elif isinstance(node, Repeat) and isinstance(node.node, Group):
+        yield Repeat(Group(with_look(node.node.body, at)), node.least, node.most)
+    else:
+        yield node
 
 
 def least_width(node: Union[Node, Sequence]) -> int:
@@ -101,3 +132,8 @@ def repeated(node: Union[Characters, Group], least: int, most: Optional[int]) ->
     """A node so many times, as short as that can be written."""
     if most != 0:
         yield node if least == most == 1 else Repeat(node, least, most)
+
+
+def fewer(given: Repeat) -> Iterator[Node]:
+    """What is repeated, once less."""
+    return repeated(given.node, max(given.least - 1, 0), None if given.most is None else given.most - 1)

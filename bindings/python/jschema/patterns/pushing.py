@@ -3,16 +3,18 @@ from __future__ import annotations
 
 from collections.abc import Iterator, Sequence as Several
 from itertools import product
-from typing import Union
+from typing import TypeVar, Union
 
 from .characters import ANY, Characters
-from .nodes import END, START, Alternatives, Assertion, Group, Look, Node, Repeat, Sequence, least_width, repeated, size
+from .nodes import (END, START, Alternatives, Assertion, Group, Look, Node, Repeat, Sequence, fewer, least_width,
+                    repeated, size)
 
 #: What a look-around finds: characters, or the end of the text.
 Word = tuple[Union[Characters, Assertion], ...]
 
-# What stands behind a pattern in a text.
-_ANYTHING: Sequence = (Repeat(ANY, 0, None), END)
+_Left = TypeVar("_Left")
+#: What stands behind a pattern in a text.
+ANYTHING: Sequence = (Repeat(ANY, 0, None), END)
 _MOST_WORDS = 64
 _DEEPEST = 60
 _LARGEST = 20_000
@@ -100,11 +102,11 @@ class Pusher:
             raise NotExact
         if () in wanted or not wanted:
             is_met = (() in wanted) != self._is_negated
-            return [() if self._is_whole and rest == _ANYTHING else rest] if is_met else []
+            return [() if self._is_whole and rest == ANYTHING else rest] if is_met else []
         if not rest:
             if not self._is_whole:
                 raise NotExact
-            rest = _ANYTHING
+            rest = ANYTHING
         self._depth += 1
         found = self._by_first(wanted, rest[0], rest[1:])
         self._depth -= 1
@@ -114,7 +116,8 @@ class Pusher:
 
     def _by_first(self, wanted: Several[Word], first: Node, rest: Sequence) -> list[Sequence]:
         if isinstance(first, Characters):
-            return [joined for region, left in _regions(first, wanted)
+            begins = [(begin, word[1:]) for word in wanted if isinstance(begin := word[0], Characters)]
+            return [joined for region, left in regions(first, begins)
                     for joined in _joined(region, self.pushed(left, rest))]
         if isinstance(first, Group):
             return [it for body in first.body for it in self.pushed(wanted, body + rest)]
@@ -131,9 +134,7 @@ class Pusher:
             raise NotExact
         found = self.pushed(wanted, rest) if first.least == 0 else []
         if first.most != 0:
-            most = None if first.most is None else first.most - 1
-            more = repeated(first.node, max(first.least - 1, 0), most)
-            found += self.pushed(wanted, (first.node, *more, *rest))
+            found += self.pushed(wanted, (first.node, *fewer(first), *rest))
         return found
 
 
@@ -143,18 +144,15 @@ def _joined(region: Characters, found: list[Sequence]) -> list[Sequence]:
     return [(region, Group(tuple(found)))]
 
 
-def _regions(given: Characters, wanted: Several[Word]) -> list[tuple[Characters, list[Word]]]:
+def regions(given: Characters, begins: Several[tuple[Characters, _Left]]) -> list[tuple[Characters, list[_Left]]]:
     """The parts of a set by the words that begin with their characters, with what is left of these words."""
-    regions: list[tuple[Characters, list[Word]]] = [(given, [])]
-    for word in wanted:
-        begin = word[0]
-        if not isinstance(begin, Characters):
-            continue
+    found: list[tuple[Characters, list[_Left]]] = [(given, [])]
+    for begin, rest in begins:
         if begin.is_folded != given.is_folded:
             raise NotExact
-        split = [it for region, left in regions
-                 for it in ((region.both(begin), [*left, word[1:]]), (region.minus(begin), left))]
-        regions = [it for it in split if not it[0].is_empty]
-        if len(regions) > _MOST_WORDS:
+        split = [it for region, left in found
+                 for it in ((region.both(begin), [*left, rest]), (region.minus(begin), left))]
+        found = [it for it in split if not it[0].is_empty]
+        if len(found) > _MOST_WORDS:
             raise NotExact
-    return regions
+    return found

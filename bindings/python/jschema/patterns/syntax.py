@@ -29,15 +29,22 @@ _DEEPEST = 100
 class NotRead(ValueError):
     """A pattern that isn't read here: it is malformed, has a back-reference, or is read in several ways."""
 
+    #: Up to which character it was read.
+    at = 0
+
 
 class Read:
     """A pattern that was read, and whether `regex` reads the same text otherwise, or not at all."""
 
     def __init__(self, pattern: str) -> None:
         reader = _Reader(pattern)
-        self.alternatives = reader.alternatives(0)
-        if reader.at < len(pattern) or reader.has_single_bracket and reader.has_bracket_in_class:
-            raise NotRead
+        try:
+            self.alternatives = reader.alternatives(0)
+            if reader.at < len(pattern) or reader.has_single_bracket and reader.has_bracket_in_class:
+                raise NotRead
+        except NotRead as error:
+            error.at = reader.at
+            raise
         self.differs = reader.differs
 
 
@@ -112,7 +119,7 @@ class _Reader:
         return least, most
 
     def _group(self, depth: int) -> Node:
-        folded = self.is_folded
+        folded, begin = self.is_folded, self.at
         look = self._take(_LOOK)
         if look is not None:
             self.differs = True
@@ -129,7 +136,7 @@ class _Reader:
         self.is_folded = folded
         if not self._skip(")"):
             raise NotRead
-        return Group(body) if look is None else Look(not look[1], look[2] == "!", body)
+        return Group(body) if look is None else Look(not look[1], look[2] == "!", body, begin)
 
     def _atom(self, sign: str) -> Node:
         if sign == "\\":
@@ -220,6 +227,7 @@ class _Reader:
                 self.at += 1
                 high = self._class_member()
                 given += self._range(low, high)
+                properties += high.properties
             else:
                 given += low.ranges
             properties += low.properties
@@ -244,13 +252,12 @@ class _Reader:
         return _member(ord(sign))
 
     def _range(self, low: _Member, high: _Member) -> Ranges:
-        """The characters from one to another. Beside a class the hyphen stands for itself, as before the flag `u`."""
+        """The characters from one to another. Beside a class the hyphen stands for itself, as before the flag `u`, and
+        so it does beside a property for those who read that."""
         if low.code is not None and high.code is not None:
             if high.code < low.code:
                 raise NotRead
             return ranges([(low.code, high.code)])
-        if low.properties or high.properties:
-            raise NotRead
         self.differs = True
         return (*low.ranges, *high.ranges, (0x2D, 0x2D))
 

@@ -90,12 +90,10 @@ class Source:
 class JsonSource(Source):
     """JSON, or JSON with comments: then `json` has blanks in their place, so each byte keeps its place."""
 
-    def __init__(self, kind: str, data: bytes, json: bytes) -> None:
-        super().__init__(kind, data, json)
-        self._is_json = False
-        # (Made when they are needed.)
-        self._read: Optional[Text] = None
-        self._lines: Optional[Text] = None
+    _is_json = False
+    # (Made when they are needed.)
+    _read: Optional[Text] = None
+    _lines: Optional[Text] = None
 
     def trust(self, read: Optional[Text] = None) -> None:
         self._is_json = True
