@@ -150,6 +150,11 @@ start:
   ret i32 2
 }
 
+define noundef i32 @jschema_origins(ptr noundef %handle, ptr noundef %dialect, i64 noundef %dialect_length, ptr noundef %document, i64 noundef %document_length, ptr noundef %pointers, i64 noundef %pointers_length, ptr noundef %ends, i64 noundef %ends_length) #0 {
+start:
+  ret i32 2
+}
+
 define void @jschema_free(ptr noundef %handle) #0 {
 start:
   ret void
