@@ -4,8 +4,8 @@ import { pointer, steps } from "./locations.js";
 import { originalOf } from "./originals.js";
 import { Document, originalLocation } from "./resources.js";
 
-// What a document of an older draft has somewhere. (A slash may be escaped.)
-const OLDER = /json-schema\.org\\?\/draft(?:-0[3467]|\\?\/2019-09)\\?\//;
+// What a document of an older draft has somewhere. (A slash may be escaped; and any character as its number.)
+const OLDER = /json-schema\.org\\?\/draft(?:-0[3467]|\\?\/2019-09)\\?\/|\\u00/;
 
 /**
  * The number of the dialect that is assumed where a document names none; undefined where nothing is upgraded.

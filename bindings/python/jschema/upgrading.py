@@ -18,8 +18,8 @@ from .program import ProgramEngine, find_program, find_upgrader
 from .resources import Document, document, original_location
 from .sources import read
 
-# What a document of an older draft has somewhere. (A slash may be escaped.)
-_OLDER = re.compile(rb"json-schema\.org\\?/draft(?:-0[3467]|\\?/2019-09)\\?/")
+# What a document of an older draft has somewhere. (A slash may be escaped; and any character as its number.)
+_OLDER = re.compile(rb"json-schema\.org\\?/draft(?:-0[3467]|\\?/2019-09)\\?/|\\u00")
 
 
 def may_be_older(text: bytes, assumed: int = LATEST) -> bool:
