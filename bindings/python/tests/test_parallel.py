@@ -215,8 +215,8 @@ class Blocks(unittest.TestCase):
 class Paces(unittest.TestCase):
     """How many lines a process gets at once."""
 
-    def counts(self, pace, count):
-        given = Lines("x", 7, [b"%d" % number for number in range(count)])
+    def counts(self, pace, count, is_live=False):
+        given = Lines("x", 7, [b"%d" % number for number in range(count)], is_live=is_live)
         portions = [*pace.portions([given])]
         self.assertEqual([text for it in portions for text in it.texts], given.texts)
         self.assertEqual([it.line for it in portions], [7 + int(it.texts[0]) for it in portions])
@@ -230,7 +230,6 @@ class Paces(unittest.TestCase):
         for count in (1, 2, 4, 8):
             pace.took(count, 0.0001)
         self.assertEqual(self.counts(pace, 40), [16, 16, 8])
-        # (Lines of a live stream come one by one, however quick they are.)
         pace.took(1, 0.0001)
         self.assertEqual(self.counts(pace, 16), [16])
         pace.took(16, 30)
@@ -241,6 +240,13 @@ class Paces(unittest.TestCase):
         for _ in range(20):
             pace.took(1000, 0)
         self.assertEqual(max(self.counts(pace, 1000)), 256)
+
+    def test_live(self):
+        """Each line of a live stream is reported as soon as it is checked, however quick those before it were."""
+        pace = _Pace()
+        for _ in range(20):
+            pace.took(1000, 0)
+        self.assertEqual(self.counts(pace, 5, is_live=True), [1] * 5)
 
     def test_nothing(self):
         """What can't be read is a portion of its own."""

@@ -39,6 +39,8 @@ class Lines(NamedTuple):
     line: int
     texts: Sequence[bytes]
     fault: Optional[OSError] = None
+    #: Whether more may be written while they are checked, as into a pipe.
+    is_live: bool = False
 
     def inputs(self) -> Iterator[Input]:
         """Each line as an instance. Empty lines don't count."""
@@ -77,8 +79,9 @@ def lines(files: Iterable[File]) -> Iterator[Lines]:
             if it.fault is not None:
                 raise it.fault
             with open(_opened(it.name), "rb", buffering=0, closefd=it.name != STDIN) as file:
+                is_live = not stat.S_ISREG(os.fstat(file.fileno()).st_mode)
                 for texts in _lines(file):
-                    yield Lines(shown, number, texts)
+                    yield Lines(shown, number, texts, is_live=is_live)
                     number += len(texts)
         except OSError as error:
             yield Lines(shown, 1, (), error)

@@ -62,13 +62,16 @@ class _Pace:
         self._count = 1
 
     def portions(self, given: Iterable[Lines]) -> Iterator[Lines]:
-        """The same lines, as many at once as are checked soon."""
+        """The same lines, as many at once as are checked soon; of a live stream one at a time."""
         for lines in given:
-            begin, count = 0, self._count
+            begin, count = 0, self._next(lines)
             while begin + count < len(lines.texts):
                 yield lines._replace(line=lines.line + begin, texts=lines.texts[begin:begin + count])
-                begin, count = begin + count, self._count
+                begin, count = begin + count, self._next(lines)
             yield lines._replace(line=lines.line + begin, texts=lines.texts[begin:])
+
+    def _next(self, lines: Lines) -> int:
+        return 1 if lines.is_live else self._count
 
     def took(self, count: int, seconds: float) -> None:
         """Takes how long some lines took."""
