@@ -1,3 +1,8 @@
+pub mod MemberLoops
+pub mod NameTables
+pub mod Standing
+pub mod Listing
+pub mod Indexing
 pub mod Rows
 pub mod OnLiterals
 pub mod SchemaBelow

@@ -13,14 +13,14 @@ use Rattle.js_bundle.specs.declared.refusal.RefusalKind.{RefusalKind}
 use Rattle.js_bundle.specs.declared.refusal.RefusalKind.TheVariants.{BadKeyword, NotASchema, BadId, BadAnchor}
 use Rattle.js_bundle.specs.declared.refusal.RefusalKind.TheVariants.{DuplicateUri, DuplicateAnchor, UnknownDialect}
 use Rattle.js_bundle.specs.declared.refusal.RefusalKind.TheVariants.{Unresolved, BadReference}
-use Rattle.js_places.specs.Document.{Documents}
-use Rattle.js_places.specs.Keyword.{Text}
-use Rattle.js_places.specs.Url.{printed, without_fragment, parsed}
-use Rattle.js_places.specs.Place.{holding}
-use Rattle.js_places.specs.Resource.{Site, sites}
-use Rattle.js_places.specs.Names.{named}
-use Rattle.js_places.specs.Location.{absolute_location}
-use Rattle.js_places.specs.Target.{ref_target, dynamic_ref_target}
+use Rattle.js_bundle.specs.Document.{Documents}
+use Rattle.js_bundle.specs.Keyword.{Text}
+use Rattle.js_bundle.specs.Url.{printed, without_fragment, parsed}
+use Rattle.js_bundle.specs.Place.{holding}
+use Rattle.js_bundle.specs.Resource.{Site, sites}
+use Rattle.js_bundle.specs.Names.{named}
+use Rattle.js_bundle.specs.Location.{absolute_location}
+use Rattle.js_bundle.specs.Target.{ref_target, dynamic_ref_target}
 use Rattle.js_bundle.specs.Refusals.{refusals}
 
 abbrev at_uri : Option Parts → Value → Documents

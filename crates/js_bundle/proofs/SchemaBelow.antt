@@ -9,14 +9,14 @@ use Rattle.std.proofs.lemmas.Option.{slice_get-get_or, slice_get-map, slice_get_
 use Rattle.js_doc.specs.Seen.{value_of}
 use Rattle.js_doc.specs.Value.{Value, Values, items}
 use Rattle.js_doc.specs.declared.doc.Doc.{Doc}
-use Rattle.js_places.specs.declared.scan.holding.Holding.{Holding}
-use Rattle.js_places.specs.declared.scan.holding.Holding.TheVariants.{One, Listed, Named, Nothing}
-use Rattle.js_places.specs.Document.{Documents}
-use Rattle.js_places.specs.Keyword.{Text, argument}
-use Rattle.js_places.specs.Place.{holding, values}
-use Rattle.js_places.specs.Names.{stands_at}
-use Rattle.js_places.specs.Resource.{Site, sites}
-use Rattle.js_places.specs.PlaceNumber.{place_at}
+use Rattle.js_bundle.specs.declared.scan.holding.Holding.{Holding}
+use Rattle.js_bundle.specs.declared.scan.holding.Holding.TheVariants.{One, Listed, Named, Nothing}
+use Rattle.js_bundle.specs.Document.{Documents}
+use Rattle.js_bundle.specs.Keyword.{Text, argument}
+use Rattle.js_bundle.specs.Place.{holding, values}
+use Rattle.js_bundle.specs.Names.{stands_at}
+use Rattle.js_bundle.specs.Resource.{Site, sites}
+use Rattle.js_bundle.specs.PlaceNumber.{place_at}
 use Rattle.js_bundle.specs.Schemas.{Finds, FindsSchema, Holds, Step, Alone, Index, Name, fits, step_tokens, below}
 use Rattle.js_bundle.specs.code.PlaceBelow.{held_in, value_at_step}
 

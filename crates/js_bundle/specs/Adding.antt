@@ -13,9 +13,9 @@ use Rattle.js_doc.specs.declared.reading.ReadFault.{ReadFault}
 use Rattle.js_doc.specs.declared.reading.ReadFault.TheVariants as read_fault
 use Rattle.js_bundle.specs.declared.bundle.UriFault.{UriFault}
 use Rattle.js_bundle.specs.declared.bundle.UriFault.TheVariants as fault
-use Rattle.js_places.specs.Document.{Document, Documents}
-use Rattle.js_places.specs.Keyword.{Text}
-use Rattle.js_places.specs.Url.{longest_uri, without_fragment, raw_fragment}
+use Rattle.js_bundle.specs.Document.{Document, Documents}
+use Rattle.js_bundle.specs.Keyword.{Text}
+use Rattle.js_bundle.specs.Url.{longest_uri, without_fragment, raw_fragment}
 
 abbrev pub most_documents : ℕ
 most_documents = 1000

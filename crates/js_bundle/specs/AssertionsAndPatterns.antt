@@ -5,8 +5,8 @@ use Rattle.js_doc.specs.Value.{Value, Named}
 use Rattle.js_doc.specs.Parts.{members_of}
 use Rattle.js_assert.specs.Assertion.{Asserted, asserted}
 use Rattle.js_bundle.specs.declared.check.assertions_and_patterns.BuiltPattern.{BuiltPattern}
-use Rattle.js_places.specs.Keyword.{Text}
-use Rattle.js_places.specs.Resource.{Site}
+use Rattle.js_bundle.specs.Keyword.{Text}
+use Rattle.js_bundle.specs.Resource.{Site}
 
 -- ---- assertions
 

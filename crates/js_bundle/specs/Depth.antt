@@ -5,9 +5,9 @@ use Rattle.std.specs.List.{AllByRecursion}
 use Rattle.js_doc.specs.Value.{Value}
 use Rattle.js_doc.specs.Parts.{members_of}
 use Rattle.js_assert.specs.Pattern.{nests_too_deep}
-use Rattle.js_places.specs.Document.{Documents}
-use Rattle.js_places.specs.Keyword.{Text, as_text}
-use Rattle.js_places.specs.Resource.{Site, sites}
+use Rattle.js_bundle.specs.Document.{Documents}
+use Rattle.js_bundle.specs.Keyword.{Text, as_text}
+use Rattle.js_bundle.specs.Resource.{Site, sites}
 
 -- the patterns that a keyword holds: the argument of `pattern`, the names of `patternProperties`
 abbrev pub patterns_held : Text × Value → List Text

@@ -2,18 +2,18 @@
 use Rattle.std.specs.Prelude.{◌≡◌, ℕ, List, Bool, false, Option, Some, None, option_map}
 use Rattle.std.specs.Prelude.{option_and_then, unwrap_or, codes, if◌then◌else◌}
 use Rattle.url.specs.Parts.{Parts}
-pub use Rattle.js_places.specs.Finding.{number_named, under_number, is_pointer_read, IfNotRead, tokens_of}
+pub use Rattle.js_bundle.specs.code.PlaceNumbers.{number_named, under_number, is_pointer_read, IfNotRead, tokens_of}
 use Rattle.js_bundle.specs.declared.refusal.Refusal.{Refusal}
 use Rattle.js_bundle.specs.declared.check.fault.CheckFault.{CheckFault}
 use Rattle.js_bundle.specs.declared.check.fault.CheckFault.TheVariants.{Memory, Refused}
 use Rattle.js_bundle.specs.declared.check.references.DynamicReference.{DynamicReference}
-use Rattle.js_places.specs.Keyword.{Text, text_argument}
-use Rattle.js_places.specs.Names.{named}
+use Rattle.js_bundle.specs.Keyword.{Text, text_argument}
+use Rattle.js_bundle.specs.Names.{named}
 use Rattle.std.specs.Option.{option_map_or}
-use Rattle.js_places.specs.Document.{Documents}
-use Rattle.js_places.specs.PlaceNumber.{place_at}
-use Rattle.js_places.specs.Resource.{Site, sites}
-use Rattle.js_places.specs.Target.{reference, first_target, is_dynamic, outermost, dynamic_ref_target}
+use Rattle.js_bundle.specs.Document.{Documents}
+use Rattle.js_bundle.specs.PlaceNumber.{place_at}
+use Rattle.js_bundle.specs.Resource.{Site, sites}
+use Rattle.js_bundle.specs.Target.{reference, first_target, is_dynamic, outermost, dynamic_ref_target}
 
 -- that of a reference's first target
 abbrev pub number_of_target : List Site → Text → Site → Option ℕ

@@ -3,14 +3,14 @@
 use Rattle.std.specs.Prelude.{◌≡◌, ℕ, List, true, Some, codes}
 use Rattle.js_doc.specs.Value.{Value}
 use Rattle.js_bundle.specs.Candidate.{IsClear}
-use Rattle.js_places.specs.Document.{Documents}
-use Rattle.js_places.specs.Keyword.{Text, has_argument}
+use Rattle.js_bundle.specs.Document.{Documents}
+use Rattle.js_bundle.specs.Keyword.{Text, has_argument}
 use Rattle.js_bundle.specs.Refusals.{candidates}
-use Rattle.js_places.specs.Resource.{Site, sites}
-use Rattle.js_places.specs.PlaceNumber.{place_at}
+use Rattle.js_bundle.specs.Resource.{Site, sites}
+use Rattle.js_bundle.specs.PlaceNumber.{place_at}
 use Rattle.js_bundle.specs.Schemas.{below, Holds, Step}
-use Rattle.js_places.specs.Seen.{AreRead}
-use Rattle.js_places.specs.Target.{ref_target, dynamic_ref_target}
+use Rattle.js_bundle.specs.Seen.{AreRead}
+use Rattle.js_bundle.specs.Target.{ref_target, dynamic_ref_target}
 
 pub record FindsAll (documents : Documents) (place : Site) : Type 0 where
   -- the place below it has the schema that is held

@@ -5,19 +5,19 @@ use Rattle.indexmap.specs.IndexMap.{get}
 use Rattle.js_bundle.specs.declared.check.Checked.{Checked}
 use Rattle.js_bundle.specs.AssertionsAndPatterns.{assertions_at, patterns_at}
 use Rattle.js_bundle.specs.Candidate.{IsClear}
-use Rattle.js_places.specs.Document.{Documents}
-use Rattle.js_places.specs.code.SparseList.{IsSparseList}
-use Rattle.js_places.specs.code.Edges.{edges_from, edges_of}
+use Rattle.js_bundle.specs.Document.{Documents}
+use Rattle.js_bundle.specs.code.SparseList.{IsSparseList}
+use Rattle.js_bundle.specs.code.Edges.{edges_from, edges_of}
 use Rattle.js_bundle.specs.Finding.{dynamic_at, number_of_target}
-use Rattle.js_places.specs.Finding.{under_number}
-use Rattle.js_places.specs.code.PartsByPlace.{ArePartsByPlace}
-use Rattle.js_places.specs.code.Index.{IsIndexOf}
-use Rattle.js_places.specs.KeywordName.{member_keywords}
+use Rattle.js_bundle.specs.code.PlaceNumbers.{under_number}
+use Rattle.js_bundle.specs.code.PartsByPlace.{ArePartsByPlace}
+use Rattle.js_bundle.specs.code.Index.{IsIndexOf}
+use Rattle.js_bundle.specs.KeywordName.{member_keywords}
 use Rattle.js_bundle.specs.Refusals.{candidates}
-use Rattle.js_places.specs.Resource.{sites}
-use Rattle.js_places.specs.ResourceTable.{IsResourceTable}
-use Rattle.js_places.specs.Seen.{AreRead}
-use Rattle.js_places.specs.code.StoredLocation.{stored_location}
+use Rattle.js_bundle.specs.Resource.{sites}
+use Rattle.js_bundle.specs.ResourceTable.{IsResourceTable}
+use Rattle.js_bundle.specs.Seen.{AreRead}
+use Rattle.js_bundle.specs.code.StoredLocation.{stored_location}
 use Rattle.js_bundle.specs.code.CheckedSite.{checked_site, checked_site_of}
 
 pub record IsCheckOf (documents : Documents) (checked : Checked) : Type 0 where

@@ -3,13 +3,13 @@
 use Rattle.std.specs.Prelude.{◌≡◌, ℕ, true, Some}
 use Rattle.url.specs.Parts.{Parts}
 use Rattle.js_bundle.specs.Candidate.{IsClear}
-use Rattle.js_places.specs.Document.{Documents}
-use Rattle.js_places.specs.Keyword.{Text}
-use Rattle.js_places.specs.Names.{is_known_as, names}
+use Rattle.js_bundle.specs.Document.{Documents}
+use Rattle.js_bundle.specs.Keyword.{Text}
+use Rattle.js_bundle.specs.Names.{is_known_as, names}
 use Rattle.js_bundle.specs.Refusals.{candidates}
-use Rattle.js_places.specs.Resource.{Site, sites}
-use Rattle.js_places.specs.PlaceNumber.{place_at}
-use Rattle.js_places.specs.Seen.{AreRead}
+use Rattle.js_bundle.specs.Resource.{Site, sites}
+use Rattle.js_bundle.specs.PlaceNumber.{place_at}
+use Rattle.js_bundle.specs.Seen.{AreRead}
 
 -- two places of which the test holds are one
 abbrev pub AreOne : Documents → (Site → Type 0) → Type 0

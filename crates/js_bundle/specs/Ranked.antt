@@ -3,12 +3,12 @@
 use Rattle.std.specs.Prelude.{◌≡◌, ℕ, Bool, true, Some, slice_get}
 use Rattle.js_doc.specs.Value.{Value}
 use Rattle.js_doc.specs.Parts.{members_of}
-use Rattle.js_places.specs.declared.keyword_name.KeywordName.{KeywordName}
-use Rattle.js_places.specs.declared.keyword_name.KeywordName.TheVariants as name
-use Rattle.js_places.specs.Keyword.{Text, argument}
-use Rattle.js_places.specs.KeywordName.{keyword_name}
-use Rattle.js_places.specs.Place.{items_in}
-use Rattle.js_places.specs.declared.scan.holding.Holding.TheVariants.{One, Listed, Named, Nothing}
+use Rattle.js_bundle.specs.declared.keyword_name.KeywordName.{KeywordName}
+use Rattle.js_bundle.specs.declared.keyword_name.KeywordName.TheVariants as name
+use Rattle.js_bundle.specs.Keyword.{Text, argument}
+use Rattle.js_bundle.specs.KeywordName.{keyword_name}
+use Rattle.js_bundle.specs.Place.{items_in}
+use Rattle.js_bundle.specs.declared.scan.holding.Holding.TheVariants.{One, Listed, Named, Nothing}
 use Rattle.js_bundle.specs.Schemas.{Step, Alone, Index, Name, fits}
 
 abbrev pub is_alone : Step → Bool

@@ -19,11 +19,11 @@ use Rattle.js_bundle.specs.declared.refusal.RefusalKind.TheVariants.{TooManyPlac
 use Rattle.js_bundle.specs.declared.check.fault.CheckFault.{CheckFault}
 use Rattle.js_bundle.specs.declared.check.fault.CheckFault.TheVariants as fault
 use Rattle.js_bundle.specs.Candidate.{Candidate, IsFirst, decided_in}
-use Rattle.js_places.specs.Document.{Documents}
-use Rattle.js_places.specs.Keyword.{Text, text_argument}
-use Rattle.js_places.specs.Url.{is_empty, longest_uri, without_fragment, printed, raw_fragment, decoded_fragment}
-use Rattle.js_places.specs.Resource.{Site, sites}
-use Rattle.js_places.specs.Names.{is_root, is_known_as, belongs_to, makes, is_read, named, is_anchor_name}
+use Rattle.js_bundle.specs.Document.{Documents}
+use Rattle.js_bundle.specs.Keyword.{Text, text_argument}
+use Rattle.js_bundle.specs.Url.{is_empty, longest_uri, without_fragment, printed, raw_fragment, decoded_fragment}
+use Rattle.js_bundle.specs.Resource.{Site, sites}
+use Rattle.js_bundle.specs.Names.{is_root, is_known_as, belongs_to, makes, is_read, named, is_anchor_name}
 use Rattle.js_bundle.specs.Shape.{is_schema, is_shaped}
 
 -- ---- a line of the list

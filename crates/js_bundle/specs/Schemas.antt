@@ -11,19 +11,19 @@ use Rattle.js_doc.specs.Pointer.{Tokens}
 use Rattle.js_doc.specs.Value.{Value}
 use Rattle.js_doc.specs.Parts.{members_of}
 use Rattle.js_assert.specs.Assertion.{Asserted, asserted}
-use Rattle.js_places.specs.declared.scan.holding.Holding.{Holding}
-use Rattle.js_places.specs.declared.scan.holding.Holding.TheVariants.{One, Listed, Named}
+use Rattle.js_bundle.specs.declared.scan.holding.Holding.{Holding}
+use Rattle.js_bundle.specs.declared.scan.holding.Holding.TheVariants.{One, Listed, Named}
 use Rattle.js_bundle.specs.declared.place.Step as rust
 use Rattle.js_bundle.specs.declared.place.Step.TheVariants as rust_step
 use Rattle.js_bundle.specs.declared.refusal.EntryFault.{EntryFault}
 use Rattle.js_bundle.specs.declared.refusal.EntryFault.TheVariants as fault
-use Rattle.js_places.specs.Document.{Documents}
-use Rattle.js_places.specs.Keyword.{Text, argument, has_argument}
-use Rattle.js_places.specs.Names.{stands_at, known_as, named, is_read}
-use Rattle.js_places.specs.Place.{holding, items_in}
-pub use Rattle.js_places.specs.PlaceNumber.{place_at, is_place, path_at}
-use Rattle.js_places.specs.Resource.{Site, sites}
-use Rattle.js_places.specs.Url.{longest_uri, decoded_fragment}
+use Rattle.js_bundle.specs.Document.{Documents}
+use Rattle.js_bundle.specs.Keyword.{Text, argument, has_argument}
+use Rattle.js_bundle.specs.Names.{stands_at, known_as, named, is_read}
+use Rattle.js_bundle.specs.Place.{holding, items_in}
+pub use Rattle.js_bundle.specs.PlaceNumber.{place_at, is_place, path_at}
+use Rattle.js_bundle.specs.Resource.{Site, sites}
+use Rattle.js_bundle.specs.Url.{longest_uri, decoded_fragment}
 
 -- ---- numbers
 

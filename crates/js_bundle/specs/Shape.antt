@@ -3,8 +3,8 @@ use Rattle.std.specs.Prelude.{List, [], ◌∷◌, Bool, true, false, ◌||◌, 
 use Rattle.std.specs.List.{list_any}
 use Rattle.js_doc.specs.Value.{Value, list, object, item}
 use Rattle.js_assert.specs.Shape.{is_boolean, is_string}
-use Rattle.js_places.specs.Keyword.{Text}
-use Rattle.js_places.specs.Place.{list_of_schemas, object_of_schemas}
+use Rattle.js_bundle.specs.Keyword.{Text}
+use Rattle.js_bundle.specs.Place.{list_of_schemas, object_of_schemas}
 
 abbrev pub is_filled_list : Value → Bool
 is_filled_list (list (item v vs)) = true

@@ -10,16 +10,16 @@ ghost use Rattle.js_bundle.specs.Adding.{IsUriFault, refusal_of_read};
 ghost use Rattle.js_bundle.specs.Candidate.{IsClear};
 ghost use Rattle.js_bundle.specs.Depth.{NoneTooDeep};
 ghost use Rattle.js_bundle.specs.Refusals.{candidates, refusals, IsRefusalOf, refusal_of};
-ghost use Rattle.js_places.specs.Seen.{document_of};
-ghost use Rattle.js_places.specs.Url as spec;
+ghost use Rattle.js_bundle.specs.Seen.{document_of};
+ghost use Rattle.js_bundle.specs.Url as spec;
 
 use crate::check::check_whole;
 use crate::check::fault::CheckFault;
+use crate::document::Document;
 use crate::refusal::{Refusal, RefusalKind};
 use crate::schemas::Schemas;
+use crate::uri::{LONGEST, has_no_fragment, without_fragment};
 use js_doc::{Doc, Pointer, ReadFault, read};
-use js_places::Document;
-use js_places::uri::{LONGEST, has_no_fragment, without_fragment};
 use std::alloc::Global;
 use std::marker::Model;
 use std::sync::Arc;
@@ -43,13 +43,13 @@ impl Drop for Bundle {
 
 impl Model for Bundle {
     ghost use Rattle.std.specs.Prelude.{map};
-    ghost use Rattle.js_places.specs.Document.{Documents, documents_code};
+    ghost use Rattle.js_bundle.specs.Document.{Documents, documents_code};
 
     ghost Value = { Documents };
 
     ghost coded = { documents_code };
 
-    ghost use Rattle.js_places.specs.Seen.{document_of, AreRead};
+    ghost use Rattle.js_bundle.specs.Seen.{document_of, AreRead};
 
     ghost view = { λ b. map document_of b.documents.items };
 

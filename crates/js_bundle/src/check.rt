@@ -3,20 +3,20 @@ ghost use Rattle.std.specs.Prelude.{◌≡◌, codes, map, nat_eq, OnOk, IfOk, I
 ghost use Rattle.indexmap.specs.IndexMap.{get};
 ghost use Rattle.js_bundle.specs.AssertionsAndPatterns.{assertions_at, patterns_at};
 ghost use Rattle.js_bundle.specs.Candidate.{IsClear, IsStopped};
-ghost use Rattle.js_places.specs.code.SparseList.{IsSparseList};
-ghost use Rattle.js_places.specs.code.Edges.{edges_from, edges_of};
+ghost use Rattle.js_bundle.specs.code.SparseList.{IsSparseList};
+ghost use Rattle.js_bundle.specs.code.Edges.{edges_from, edges_of};
 ghost use Rattle.js_bundle.specs.Finding.{dynamic_at, number_of_target};
-ghost use Rattle.js_places.specs.Finding.{under_number};
-ghost use Rattle.js_places.specs.code.PartsByPlace.{ArePartsByPlace};
-ghost use Rattle.js_places.specs.code.Index.{IsIndexOf};
-ghost use Rattle.js_places.specs.code.Positions.{ArePositionsOf};
-ghost use Rattle.js_places.specs.KeywordName.{member_keywords};
+ghost use Rattle.js_bundle.specs.code.PlaceNumbers.{under_number};
+ghost use Rattle.js_bundle.specs.code.PartsByPlace.{ArePartsByPlace};
+ghost use Rattle.js_bundle.specs.code.Index.{IsIndexOf};
+ghost use Rattle.js_bundle.specs.code.Positions.{ArePositionsOf};
+ghost use Rattle.js_bundle.specs.KeywordName.{member_keywords};
 ghost use Rattle.js_bundle.specs.Refusals.{candidates, second_pass};
-ghost use Rattle.js_places.specs.Resource.{sites};
-ghost use Rattle.js_places.specs.ResourceTable.{AreRooted, IsResourceTable};
-ghost use Rattle.js_places.specs.code.Scan.{site_of};
-ghost use Rattle.js_places.specs.Seen.{document_of, AreRead};
-ghost use Rattle.js_places.specs.code.StoredLocation.{stored_location};
+ghost use Rattle.js_bundle.specs.Resource.{sites};
+ghost use Rattle.js_bundle.specs.ResourceTable.{AreRooted, IsResourceTable};
+ghost use Rattle.js_bundle.specs.code.Scan.{site_of};
+ghost use Rattle.js_bundle.specs.Seen.{document_of, AreRead};
+ghost use Rattle.js_bundle.specs.code.StoredLocation.{stored_location};
 ghost use Rattle.js_bundle.specs.code.CheckedSite.{checked_site, checked_site_of};
 
 pub(crate) mod assertions_and_patterns;
@@ -33,10 +33,14 @@ use crate::check::fault::CheckFault;
 use crate::check::first_pass::{Passed, first_pass};
 use crate::check::lookup::Lookup;
 use crate::check::references::{References, resolve_all};
-use js_places::{
-    Document, Edges, Index, KeywordTable, Resources, Site, StoredLocation, edges_in, resources_of,
-    scan_all,
-};
+use crate::document::Document;
+use crate::index::Index;
+use crate::index::edges::{Edges, edges_in};
+use crate::index::keyword_table::KeywordTable;
+use crate::index::resource_table::{Resources, resources_of};
+use crate::index::stored_location::StoredLocation;
+use crate::scan::scan_all;
+use crate::scan::site::Site;
 use std::alloc::Global;
 
 /// What is kept of checked documents, place by place.

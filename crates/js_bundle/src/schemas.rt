@@ -1,19 +1,21 @@
 //! Finished schemas: places, and what stands there.
 ghost use Rattle.std.specs.Prelude.{◌≡◌, ◌++◌, Some, true, map, option_map, IfOk, string_bytes};
 ghost use Rattle.js_doc.specs.Seen.{value_of};
-ghost use Rattle.js_places.specs.Finding.{tokens_of};
-ghost use Rattle.js_places.specs.Location.{absolute_location, canonical, location};
-ghost use Rattle.js_places.specs.PlaceNumber.{is_place, place_at};
+ghost use Rattle.js_bundle.specs.code.PlaceNumbers.{tokens_of};
+ghost use Rattle.js_bundle.specs.Location.{absolute_location, canonical, location};
+ghost use Rattle.js_bundle.specs.PlaceNumber.{is_place, place_at};
 ghost use Rattle.js_bundle.specs.Schemas.{place_numbers};
-ghost use Rattle.js_places.specs.Seen.{document_of};
+ghost use Rattle.js_bundle.specs.Seen.{document_of};
 ghost use Rattle.js_bundle.specs.code.CheckedSite.{checked_site, checked_site_of};
 
 use crate::bundle::Bundle;
 use crate::check::Checked;
 use crate::check::checked_site::CheckedSite;
+use crate::document::Document;
+use crate::index::location::absolute_location;
 use crate::place::Place;
+use crate::uri;
 use js_doc::{Doc, Memory, Pointer};
-use js_places::{Document, absolute_location, uri};
 use std::alloc::Global;
 use std::marker::Model;
 
@@ -33,14 +35,14 @@ impl Drop for Schemas {
 
 impl Model for Schemas {
     ghost use Rattle.std.specs.Prelude.{map};
-    ghost use Rattle.js_places.specs.Document.{Documents, documents_code};
+    ghost use Rattle.js_bundle.specs.Document.{Documents, documents_code};
 
     ghost Value = { Documents };
 
     ghost coded = { documents_code };
 
     ghost use Rattle.js_bundle.specs.Finished.{IsCheckOf};
-    ghost use Rattle.js_places.specs.Seen.{document_of};
+    ghost use Rattle.js_bundle.specs.Seen.{document_of};
 
     ghost view = { λ s. map document_of s.documents.items };
 

@@ -4,10 +4,15 @@ ghost use Rattle.js_bundle.specs.contracts.schemas.Schemas as Finished;
 
 use crate::check::checked_site::CheckedSite;
 use crate::check::references::References;
+use crate::document::Document;
+use crate::index::Index;
+use crate::index::edges::Edges;
+use crate::index::keyword_table::KeywordTable;
+use crate::index::resource_table::Resources;
+use crate::index::stored_location::StoredLocation;
 use crate::schemas::Schemas;
 use js_assert::sharing_laws::{assertions_cross, patterns_cross};
 use js_doc::Text;
-use js_places::{Document, Edges, Index, KeywordTable, Resources, StoredLocation};
 use std::sync::Arc;
 
 /// Schemas may be sent to another thread, and shared by several.

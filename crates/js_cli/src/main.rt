@@ -1,13 +1,9 @@
 //! The program `jschema`: a schema and an instance in, the verdict out.
 #![tactic(auto)]
 
-mod disk;
-
-use disk::Disk;
-use js_command::{FAILED, MISUSED, USAGE, command};
+use js_command::{Disk, FAILED, USAGE, command, program_arguments};
 use js_output::{Sink, Source};
-use std::env;
-use std::io::{BufWriter, ErrorKind};
+use std::io::BufWriter;
 use std::process::ExitCode;
 
 fn main(rt: HostRuntime) -> ExitCode {
@@ -16,13 +12,9 @@ fn main(rt: HostRuntime) -> ExitCode {
 
 fn status(rt: &HostRuntime) -> u8 {
     let mut faults = Sink::new(rt.stderr());
-    let words = match words_given(rt) {
+    let words = match program_arguments(rt) {
         Ok(words) => words,
-        Err(NoWords::Memory) => return FAILED,
-        Err(NoWords::NotUtf8) => {
-            let _ = faults.write_all(USAGE);
-            return MISUSED;
-        }
+        Err(reason) => return reason.report_usage(USAGE, &mut faults),
     };
     let mut lent = Vec::new(rt.alloc());
     for word in &words {
@@ -48,27 +40,4 @@ fn status(rt: &HostRuntime) -> u8 {
     // Dropping the buffer would write again what a failed write left in it.
     drop(buffered.into_parts());
     status
-}
-
-// Why there are no arguments: memory ran out, or one isn't UTF-8.
-#[derive(Drop)]
-enum NoWords {
-    Memory,
-    NotUtf8,
-}
-
-// The arguments after the program's name.
-fn words_given(rt: &HostRuntime) -> Result<Vec<String>, NoWords> {
-    let all = match env::args(rt) {
-        Ok(all) => all,
-        Err(error) if error.kind() == ErrorKind::OutOfMemory => return Err(NoWords::Memory),
-        Err(_) => return Err(NoWords::NotUtf8),
-    };
-    let mut words = Vec::new(rt.alloc());
-    for word in all.skip(1) {
-        if words.push(word).is_err() {
-            return Err(NoWords::Memory);
-        }
-    }
-    Ok(words)
 }

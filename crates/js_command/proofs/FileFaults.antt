@@ -9,8 +9,7 @@ use Rattle.js_output.specs.declared.fault.Fault.{Fault}
 use Rattle.js_output.specs.declared.fault.Fault.TheVariants as fault
 use Rattle.js_command.specs.Answer.{AreContents}
 use Rattle.js_command.specs.Files.{ContentsByPath, MayFit, IsFileFault, IsFirstFileFault}
-use Rattle.js_command.specs.Words.{DocumentPairs, files_of}
-use Rattle.js_command.specs.code.Tasks.{pairs_seen}
+use Rattle.js_command.specs.Words.{DocumentPairs, files_of, pairs_seen}
 use Rattle.js_command.specs.declared.words.DocumentFile.{DocumentFile}
 
 -- what was taken fits

@@ -6,7 +6,7 @@ use Rattle.js_output.specs.Device.{IsLeft, input_limit}
 use Rattle.js_output.specs.Documents.{DocumentTexts}
 use Rattle.js_command.specs.Answer.{AreContents}
 use Rattle.js_command.specs.Files.{ContentsByPath}
-use Rattle.js_command.specs.code.Tasks.{pairs_seen}
+use Rattle.js_command.specs.Words.{pairs_seen}
 use Rattle.js_command.specs.declared.words.DocumentFile.{DocumentFile}
 
 -- whatever documents the rest holds, these stand before them

@@ -6,7 +6,7 @@ use Rattle.js_output.specs.declared.fault.Fault.TheVariants as fault
 use Rattle.js_command.specs.Answer.{UsesInput}
 use Rattle.js_command.specs.Status.{fault_status, misuse_status}
 use Rattle.js_command.specs.Words.{Request, pair, check, suite, places}
-use Rattle.js_command.specs.code.Tasks.{first_fault, IsMisuse, IsReadOrMemory, ReadsInput}
+use Rattle.js_command.specs.code.Tasks.{answer_after_flush, IsMisuse, IsReadOrMemory, ReadsInput}
 use Rattle.js_command.specs.declared.words.Misuse.{Misuse}
 use Rattle.js_command.specs.declared.words.Misuse.TheVariants as misuse
 
@@ -17,14 +17,14 @@ pair_reads (Err _) failed read stands = subst IsReadOrMemory (sym ((read (λ e. 
 pair_reads (Ok valid) failed read stands = subst IsReadOrMemory (sym ((read (λ e. cc)).1 stands)) tt
 
 reads_first : {B : Type 0} (answer : Result Bool Fault) (flushed : Result B Fault) → IsReadOrMemory answer
-    → IsReadOrMemory (first_fault answer flushed)
+    → IsReadOrMemory (answer_after_flush answer flushed)
 reads_first (Err f) flushed h = h
 reads_first (Ok valid) flushed h = absurd h
 
 -- a flush doesn't matter
 pub input_after : {D B : Type 0} (request : Request) (old new : Tracked D) (answer : Result Bool Fault)
     (flushed : Result B Fault) → ReadsInput request old new answer
-    → ReadsInput request old new (first_fault answer flushed)
+    → ReadsInput request old new (answer_after_flush answer flushed)
 input_after pair old new answer flushed h = λ stands. reads_first answer flushed (h stands)
 input_after (check format instance entry pairs) old new answer flushed h = h
 input_after (suite file pairs) old new answer flushed h = h

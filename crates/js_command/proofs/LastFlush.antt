@@ -9,7 +9,7 @@ use Rattle.js_output.specs.Outcome.{Output}
 use Rattle.js_output.specs.declared.fault.Fault.{Fault}
 use Rattle.js_output.specs.declared.fault.Fault.TheVariants as fault
 use Rattle.js_command.specs.Answer.{Performs, IsReported, IsReason}
-use Rattle.js_command.specs.code.Tasks.{first_fault}
+use Rattle.js_command.specs.code.Tasks.{answer_after_flush}
 
 -- a text that went out whole is a prefix of itself
 pub whole_begins : (old between new : Option (List ℕ)) (text : List ℕ) → Appends old between text → Keeps between new
@@ -68,14 +68,14 @@ flushed_at_last true old between new is none counts last stays =
 pub reported_after : {D B : Type 0} (P : Result Output Fault → Type 0) (taken : D
     → Option (List ℕ)) (old between new : Tracked D) (answer : Result Bool Fault) (flushed : Result B Fault)
     → Performs P taken old between answer → Keeps (taken between.device) (taken new.device)
-    → IfOk (first_fault answer flushed) (λ valid. IsReported P valid (taken old.device) (taken new.device))
+    → IfOk (answer_after_flush answer flushed) (λ valid. IsReported P valid (taken old.device) (taken new.device))
 reported_after P taken old between new (Err f) flushed h kept = tt
 reported_after P taken old between new (Ok valid) (Err f) h kept = tt
 reported_after P taken old between new (Ok valid) (Ok b) (output, h, same, sent) kept =
     (output, h, same, Appends-kept (taken old.device) (taken between.device) (taken new.device) output.text sent.0 kept)
 
 pub whole_after : {B : Type 0} (answer : Result Bool Fault) (flushed : Result B Fault) (failed : Bool)
-    → failed ≡ is_err flushed → OnOk (first_fault answer flushed) (failed ≡ false)
+    → failed ≡ is_err flushed → OnOk (answer_after_flush answer flushed) (failed ≡ false)
 whole_after (Err f) flushed failed is = tt
 whole_after (Ok valid) (Err f) failed is = tt
 whole_after (Ok valid) (Ok b) failed is = is
@@ -84,7 +84,7 @@ pub nothing_after : {D B : Type 0} (taken : D
     → Option (List ℕ)) (old between new : Tracked D) (answer : Result Bool Fault) (flushed : Result B Fault)
     → IfErr answer (λ e. e ≢ fault.Write → between ≡ old) → Keeps (taken between.device) (taken new.device)
     → IfErr flushed (λ e. e ≡ fault.Write)
-    → IfErr (first_fault answer flushed) (λ e. e ≢ fault.Write → Keeps (taken old.device) (taken new.device))
+    → IfErr (answer_after_flush answer flushed) (λ e. e ≢ fault.Write → Keeps (taken old.device) (taken new.device))
 nothing_after taken old between new (Err f) flushed nothing kept write = λ other.
     subst (λ s. Keeps (taken s.device) (taken new.device)) (nothing other) kept
 nothing_after taken old between new (Ok valid) (Err f) nothing kept write = λ other. absurd (other write)
@@ -95,7 +95,7 @@ pub reason_after : {D B : Type 0} (P : Result Output Fault → Type 0) (taken : 
     → Performs P taken old between answer → Keeps (taken between.device) (taken new.device)
     → new.failed ≡ is_err flushed → (between.failed ≡ true → new ≡ between)
     → IfErr flushed (λ e. e ≡ fault.Write)
-    → IfErr (first_fault answer flushed) (IsReason P (taken old.device) (taken new.device) new.failed)
+    → IfErr (answer_after_flush answer flushed) (IsReason P (taken old.device) (taken new.device) new.failed)
 reason_after P taken old between new (Err f) flushed h kept failed stays write =
     reason_of P taken old between new f h kept stays
 reason_after P taken old between new (Ok valid) (Err f) h kept failed stays write =

@@ -8,46 +8,46 @@ use Rattle.clap.specs.Simple.{Shape}
 use Rattle.clap.specs.Kinds.{Kinds}
 use Rattle.clap.specs.Faults.{word_fault}
 use Rattle.clap.proofs.OnLiterals.{clap_on_literals}
-use Rattle.js_command.specs.Plain.{is_flag, dashes, has_some}
+use Rattle.js_command.specs.Plain.{is_flag, dashes, has_more}
 
 -- ---- words
 
 -- a text that begins with a hyphen has a character
-hyphen_has : (bs : Text) → has_some (chars (45 ∷ bs)) ≡ true
+hyphen_has : (bs : Text) → has_more (chars (45 ∷ bs)) ≡ true
 unfolding clap_on_literals
 hyphen_has [] = refl
 hyphen_has (b ∷ bs) = refl
 
-none_has : has_some (chars []) ≡ false
+none_has : has_more (chars []) ≡ false
 unfolding clap_on_literals
 none_has = refl
 
 -- what follows a hyphen, where the word is no flag: nothing, or no character
-short_rest : (x : ℕ) (xs : Text) (v : Bool) → (x == 45) ≡ v → has_some (chars (x ∷ xs)) ≡ false → v ≡ false
+short_rest : (x : ℕ) (xs : Text) (v : Bool) → (x == 45) ≡ v → has_more (chars (x ∷ xs)) ≡ false → v ≡ false
 short_rest x xs false is none = refl
 short_rest x xs true is none =
-    sym (subst (λ b. has_some (chars (b ∷ xs)) ≡ true) (sym (eqb-true x 45 is)) (hyphen_has xs)) ∙ none
+    sym (subst (λ b. has_more (chars (b ∷ xs)) ≡ true) (sym (eqb-true x 45 is)) (hyphen_has xs)) ∙ none
 
 abbrev pub at_word : Bool → Text → Bool → Type 0
-at_word v bs is = (v && has_some (chars bs)) ≡ is
+at_word v bs is = (v && has_more (chars bs)) ≡ is
 
 no_long : (word : Text) → is_flag word ≡ false → long_of word ≡ None
 no_long [] h = refl
 no_long (b ∷ bs) h = after b bs (b == 45) refl h
   where
-    after : (b : ℕ) (bs : Text) (v : Bool) → (b == 45) ≡ v → ((b == 45) && has_some (chars bs)) ≡ false
+    after : (b : ℕ) (bs : Text) (v : Bool) → (b == 45) ≡ v → ((b == 45) && has_more (chars bs)) ≡ false
         → long_of (b ∷ bs) ≡ None
     after b bs false is h = rw is refl
     after b [] true is h = rw is refl
     after b (x ∷ xs) true is h =
-        let none : has_some (chars (x ∷ xs)) ≡ false = subst (λ v. at_word v (x ∷ xs) false) is h in
+        let none : has_more (chars (x ∷ xs)) ≡ false = subst (λ v. at_word v (x ∷ xs) false) is h in
         rw (is, short_rest x xs (x == 45) refl none) refl
 
-some_is : (l : List ℕ) → has_some l ≡ true → (y : ℕ) × (ys : List ℕ) × (l ≡ y ∷ ys)
+some_is : (l : List ℕ) → has_more l ≡ true → (y : ℕ) × (ys : List ℕ) × (l ≡ y ∷ ys)
 some_is [] h = absurd (true≢false (sym h))
 some_is (y ∷ ys) h = (y, ys, refl)
 
-none_is : (l : List ℕ) → has_some l ≡ false → l ≡ []
+none_is : (l : List ℕ) → has_more l ≡ false → l ≡ []
 none_is [] h = refl
 none_is (y ∷ ys) h = absurd (true≢false h)
 
@@ -61,11 +61,11 @@ no_short [] h = inl refl
 no_short (b ∷ bs) h = after b bs (b == 45) refl h
   where
     after : (b : ℕ) (bs : Text) (v : Bool) → (b == 45) ≡ v
-        → ((b == 45) && has_some (chars bs)) ≡ false → HasNoShort (b ∷ bs)
+        → ((b == 45) && has_more (chars bs)) ≡ false → HasNoShort (b ∷ bs)
     after b bs false is h = inl (rw is refl)
     after b [] true is h = inl (rw is refl)
     after b (x ∷ xs) true is h =
-        let none : has_some (chars (x ∷ xs)) ≡ false = subst (λ v. at_word v (x ∷ xs) false) is h in
+        let none : has_more (chars (x ∷ xs)) ≡ false = subst (λ v. at_word v (x ∷ xs) false) is h in
         inr (x, xs, rw (is, short_rest x xs (x == 45) refl none) refl, none_is _ none)
 
 -- a flag is a long one, or a short one that is a character
@@ -79,15 +79,15 @@ long_or_short [] is other = absurd (true≢false (sym is))
 long_or_short (b ∷ bs) is other = after b bs (b == 45) refl is other
   where
     doubled : (b x : ℕ) (xs : Text) (v : Bool) → (b == 45) ≡ true → (x == 45) ≡ v → bytes_eq (b ∷ x ∷ xs) dashes ≡ false
-        → has_some (chars (x ∷ xs)) ≡ true → IsLongOrShort (b ∷ x ∷ xs)
+        → has_more (chars (x ∷ xs)) ≡ true → IsLongOrShort (b ∷ x ∷ xs)
     doubled b x [] true e f other some = absurd (true≢false (sym (ap₂ (λ v w. v && (w && true)) e f) ∙ other))
     doubled b x (y ∷ ys) true e f other some = inl (name_and_value (y ∷ ys), rw (e, f) refl)
     doubled b x xs false e f other some = let first = some_is _ some in
         inr (x, xs, first.0, first.1, rw (e, f) refl, rw (e, f) refl, first.2)
 
-    after : (b : ℕ) (bs : Text) (v : Bool) → (b == 45) ≡ v → ((b == 45) && has_some (chars bs)) ≡ true
+    after : (b : ℕ) (bs : Text) (v : Bool) → (b == 45) ≡ v → ((b == 45) && has_more (chars bs)) ≡ true
         → bytes_eq (b ∷ bs) dashes ≡ false → IsLongOrShort (b ∷ bs)
-    after b bs false e is other = absurd (true≢false (sym is ∙ ap (λ v. v && has_some (chars bs)) e))
+    after b bs false e is other = absurd (true≢false (sym is ∙ ap (λ v. v && has_more (chars bs)) e))
     after b [] true e is other = absurd (true≢false (sym (subst (λ v. at_word v [] true) e is) ∙ none_has))
     after b (x ∷ xs) true e is other = doubled b x xs (x == 45) e refl other (subst (λ v. at_word v (x ∷ xs) true) e is)
 

@@ -20,20 +20,20 @@ use Rattle.js_eval.specs.Result.{standard_limits}
 use Rattle.js_output.specs.declared.suite_lines.Counts.{Counts}
 use Rattle.js_output.specs.declared.fault.Fault.{Fault}
 use Rattle.js_output.specs.declared.fault.Fault.TheVariants as fault
-use Rattle.js_tree.specs.declared.forms.Format.{Format}
+use Rattle.js_tree.specs.declared.formats.Format.{Format}
 use Rattle.js_command.specs.Answer.{AreContents, OverFiles, OverTexts, PlacesOutcome, RequestOutcome}
 use Rattle.js_command.specs.Answer.{SuiteReported, all_passed, suite_output, WordsOutcome}
 use Rattle.js_command.specs.Answer.{Performs, IsPartlyReported, IsReason}
 use Rattle.js_command.specs.Files.{ContentsByPath, IsFirstFileFault}
 use Rattle.js_command.specs.Status.{misuse_status}
 use Rattle.js_command.specs.code.Taken.{AreFinishedAs}
-use Rattle.js_command.specs.code.Tasks.{judging_seen, pairs_seen, request_by}
+use Rattle.js_command.specs.code.Tasks.{judging_seen, request_by}
 use Rattle.js_command.specs.declared.words.Judgement.{Judgement}
 use Rattle.js_command.specs.declared.words.Misuse.{Misuse}
 use Rattle.js_command.specs.declared.words.Misuse.TheVariants as misuse
 use Rattle.js_command.specs.declared.words.Subject.{Subject}
 use Rattle.js_command.specs.declared.words.Subject.TheVariants as subject
-use Rattle.js_command.specs.Words.{DocumentPairs, files_of, Request, pair, places, request_of}
+use Rattle.js_command.specs.Words.{DocumentPairs, files_of, Request, pair, places, request_of, pairs_seen}
 use Rattle.js_command.proofs.FileFaults.{input_fault}
 use Rattle.js_output.proofs.Answering.{after-clear, input-within, reports-early, reports-map}
 use Rattle.js_output.proofs.CauseLists.{fails-append}

@@ -4,14 +4,14 @@ use Rattle.std.specs.Prelude.{None, option_map, ◌==◌, if◌then◌else◌}
 use Rattle.std.specs.Str.{bytes_eq, chars}
 use Rattle.clap.specs.Words.{Text}
 
-abbrev pub has_some : List ℕ → Bool
-has_some [] = false
-has_some (x ∷ xs) = true
+abbrev pub has_more : List ℕ → Bool
+has_more [] = false
+has_more (x ∷ xs) = true
 
 -- a word that begins with `-` (45) and has more characters
 abbrev pub is_flag : Text → Bool
 is_flag [] = false
-is_flag (b ∷ bs) = (b == 45) && has_some (chars bs)
+is_flag (b ∷ bs) = (b == 45) && has_more (chars bs)
 
 abbrev pub dashes : Text
 dashes = 45 ∷ 45 ∷ []

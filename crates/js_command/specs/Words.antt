@@ -4,14 +4,19 @@ use Rattle.std.specs.Str.{bytes_eq}
 use Rattle.std.specs.Borrow.{Bor}
 use Rattle.clap.specs.Words.{Text}
 use Rattle.js_command.specs.Plain.{plain_of}
-use Rattle.js_tree.specs.declared.forms.Format.{Format}
-use Rattle.js_tree.specs.declared.forms.Format.TheVariants.{Flag, Basic, Detailed, Merged, Verbose}
+use Rattle.js_tree.specs.declared.formats.Format.{Format}
+use Rattle.js_tree.specs.declared.formats.Format.TheVariants.{Flag, Basic, Detailed, Merged, Verbose}
+use Rattle.js_command.specs.declared.words.DocumentFile.{DocumentFile}
 use Rattle.js_command.specs.declared.words.Misuse.{Misuse}
 use Rattle.js_command.specs.declared.words.Misuse.TheVariants as misuse
 
 -- URIs, each with the file of its document
 abbrev pub DocumentPairs : Type 0
 DocumentPairs = List (Text × Text)
+
+-- of documents that the words name
+abbrev pub pairs_seen : List DocumentFile → DocumentPairs
+pairs_seen ds = map (λ d. (d.uri.now, d.file.now)) ds
 
 -- the files of the documents
 abbrev pub files_of : DocumentPairs → List Text
@@ -85,7 +90,11 @@ request_of (name ∷ words) =
 abbrev pub words_of : List (Bor Text) → List Text
 words_of words = map (λ w. w.now) words
 
+-- what is reported of a URI without a file
+abbrev pub pairs_usage_line : List ℕ
+pairs_usage_line = codes "usage: URI and FILE come in pairs" ++ 10 ∷ []
+
 -- what is reported of misused words
 abbrev pub usage_line : Misuse → List ℕ
-usage_line misuse.OddPairs = codes "usage: URI and FILE come in pairs" ++ 10 ∷ []
+usage_line misuse.OddPairs = pairs_usage_line
 usage_line _ = codes "usage: jschema (check FORMAT INSTANCE ENTRY | suite SUITE | places) [URI FILE]..." ++ 10 ∷ []

@@ -1,16 +1,15 @@
 //! The schema documents that the words name, as their files hold them.
-ghost use Rattle.std.specs.Prelude.{◌≡◌, ◌≢◌, ◌≤◌, ◌∷◌, ◌++◌, [], None, IfOk, IfErr, OnOk, length};
+ghost use Rattle.std.specs.Prelude.{◌≡◌, ◌≢◌, ◌≤◌, ◌∷◌, ◌++◌, [], None, IfOk, IfErr, length};
 ghost use Rattle.js_output.specs.Device.{IsLeft, input_limit};
 ghost use Rattle.js_output.specs.Documents.{DocumentTexts};
 ghost use Rattle.js_command.specs.Files.{IsFirstFileFault};
-ghost use Rattle.js_command.specs.Words.{files_of};
-ghost use Rattle.js_command.specs.code.Tasks.{pairs_seen};
+ghost use Rattle.js_command.specs.Words.{files_of, pairs_seen};
 ghost use Rattle.js_command.specs.code.Taken.{AreFinishedAs, AreKept, AreTaken};
 
 use crate::files::Files;
 use crate::words::DocumentFile;
-use js_output::{Bundle, Fault, Schemas, add_document, finish_bundle};
-use std::alloc::{AllocFailed, Global};
+use js_output::{Bundle, Fault, Schemas, add_document_text, finish_bundle};
+use std::alloc::Global;
 
 /// Schema documents whose files were read. A refusal of one waits until all files were read.
 #[derive(Drop)]
@@ -46,14 +45,14 @@ impl Taken {
         ensures { (texts : DocumentTexts) → AreKept texts self.old.bundle self.old.refused
             → AreKept (texts ++ (uri.now, text.now) ∷ []) self.new.bundle self.new.refused }
     {
-        match add_document(&mut self.bundle, uri, text) {
+        match add_document_text(&mut self.bundle, uri, text) {
             Ok(()) => {}
             Err(fault) => self.refused = Some(fault),
         }
     }
 
     /// The documents' schemas; or the first refusal of a document, and then of all.
-    pub(crate) fn finish(self, alloc: Global) -> Result<Schemas, Fault>
+    pub(crate) fn into_schemas(self, alloc: Global) -> Result<Schemas, Fault>
         ensures { (texts : DocumentTexts) → AreKept texts self.bundle self.refused
             → AreFinishedAs texts result }
     {
@@ -110,11 +109,4 @@ pub(crate) fn take_texts<F: Files>(
     let documents = take_documents(alloc, documents, files)?;
     let judged = files.take(alloc, file)?;
     Ok(Texts { documents, judged })
-}
-
-/// Adds an item at the end.
-pub(crate) fn append<T: Drop>(list: &mut Vec<T>, item: T) -> Result<(), AllocFailed<T>>
-    ensures { OnOk result (list.new.items ≡ list.old.items ++ item ∷ []) }
-{
-    list.push(item)
 }

@@ -10,7 +10,7 @@ ghost use Rattle.js_command.specs.declared.words.Misuse.{Misuse};
 ghost use Rattle.js_command.specs.Answer.{RequestOutcome, WordsOutcome, IsReported, IsPartlyReported, IsReason};
 ghost use Rattle.js_command.specs.Answer.{IsWrittenOrFailed, UsesInput};
 ghost use Rattle.js_command.specs.Status.{fault_status};
-ghost use Rattle.js_command.specs.code.Tasks.{ReadsInput, first_fault, request_seen};
+ghost use Rattle.js_command.specs.code.Tasks.{ReadsInput, answer_after_flush, request_seen};
 
 use crate::files::Files;
 use crate::messages::{report, report_misuse};
@@ -135,12 +135,15 @@ fn perform_whole<F: Files, R: Read, W: Write>(
 {
     let answer = perform(alloc, task, files, input, out);
     let flushed = out.flush();
-    first_fault(answer, flushed)
+    answer_after_flush(answer, flushed)
 }
 
 // A fault of the last flush counts only if none came before.
-fn first_fault(answer: Result<bool, Fault>, flushed: Result<(), Fault>) -> Result<bool, Fault>
-    ensures { result ≡ first_fault answer flushed }
+fn answer_after_flush(
+    answer: Result<bool, Fault>,
+    flushed: Result<(), Fault>,
+) -> Result<bool, Fault>
+    ensures { result ≡ answer_after_flush answer flushed }
 {
     let valid = answer?;
     flushed?;

@@ -1,9 +1,9 @@
 //! The tasks, each over its files.
 ghost use Rattle.std.specs.Prelude.{◌≡◌, ◌≢◌, None, false, IfErr};
 ghost use Rattle.js_output.specs.Device.{Unflushed};
-ghost use Rattle.js_command.specs.Words.{places};
+ghost use Rattle.js_command.specs.Words.{places, pairs_seen};
 ghost use Rattle.js_command.specs.Answer.{RequestOutcome, Performs, all_passed};
-ghost use Rattle.js_command.specs.code.Tasks.{ReadsInput, judging_seen, pairs_seen, request_seen};
+ghost use Rattle.js_command.specs.code.Tasks.{ReadsInput, judging_seen, request_seen};
 
 use crate::documents::{Texts, take_documents, take_texts};
 use crate::files::Files;
@@ -49,7 +49,7 @@ fn perform_judging<F: Files, W: Write>(
 {
     let texts = take_texts(alloc, judging.documents.as_slice(), judging.file, files)?;
     let Texts { documents, judged } = texts;
-    let schemas = documents.finish(alloc)?;
+    let schemas = documents.into_schemas(alloc)?;
     let text = judged.as_slice();
     match &judging.subject {
         Subject::Instance(format, entry) => run_text(alloc, &schemas, entry, text, *format, out),
@@ -80,7 +80,7 @@ fn perform_places<F: Files, W: Write>(
     ensures unflushed { Unflushed out.old out.new }
 {
     let taken = take_documents(alloc, documents, files)?;
-    let schemas = taken.finish(alloc)?;
+    let schemas = taken.into_schemas(alloc)?;
     let text = list_places(alloc, &schemas)?;
     out.write_all(text.as_bytes())?;
     Ok(true)

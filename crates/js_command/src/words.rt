@@ -1,12 +1,12 @@
 //! The program's arguments, and the task that they name.
 ghost use Rattle.std.specs.Prelude.{◌≡◌, Ok, Some, IfOk, IfErr, ◌<◌, length, option_map, codes};
 ghost use Rattle.clap.specs.Words.{found_of, first_of, all_of, rows_of, subcommand_rows_of};
-ghost use Rattle.js_command.specs.Words.{request_of, words_of, pairs_in, format_of, places_by};
-ghost use Rattle.js_command.specs.code.Tasks.{request_seen, pairs_seen, IsMisuse, IsNoPairs};
+ghost use Rattle.js_command.specs.Words.{request_of, words_of, pairs_in, format_of, places_by, pairs_seen};
+ghost use Rattle.js_command.specs.code.Tasks.{request_seen, IsMisuse, IsNoPairs};
 ghost use Rattle.js_command.specs.Found.{entered, request_in, check_in, suite_in, pairs_of};
 
-use crate::documents::append;
 use crate::grammar::grammar;
+use crate::lists::append;
 use clap::ArgMatches;
 use clap::error::ErrorKind;
 use js_output::Format;
@@ -17,7 +17,7 @@ pub const USAGE: &[u8] =
     b"usage: jschema (check FORMAT INSTANCE ENTRY | suite SUITE | places) [URI FILE]...\n";
 
 /// The usage text if a URI has no file.
-pub(crate) const PAIRS_USAGE: &[u8] = b"usage: URI and FILE come in pairs\n";
+pub const PAIRS_USAGE: &[u8] = b"usage: URI and FILE come in pairs\n";
 
 /// What the words ask for.
 #[derive(Drop)]
@@ -47,11 +47,13 @@ pub(crate) enum Subject<'a> {
     Suite,
 }
 
-/// A schema document: its URI, and its file.
+/// A schema document that the words name.
 #[derive(Clone, Copy, Drop)]
-pub(crate) struct DocumentFile<'a> {
-    pub(crate) uri: &'a str,
-    pub(crate) file: &'a str,
+pub struct DocumentFile<'a> {
+    /// Its URI.
+    pub uri: &'a str,
+    /// The path of its file.
+    pub file: &'a str,
 }
 
 /// Why the words name no task.

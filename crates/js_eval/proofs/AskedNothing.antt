@@ -8,7 +8,7 @@ use Rattle.js_assert.specs.Argument.{has}
 use Rattle.js_bundle.specs.Document.{Documents}
 use Rattle.js_eval.specs.code.Applied.{applied_of}
 use Rattle.js_eval.specs.code.Asked.{IsApplied, IsOne, one_asked}
-use Rattle.js_walk.specs.declared.instance.Applied.{Applied}
+use Rattle.js_eval.specs.declared.instance.Applied.{Applied}
 
 -- no name is one of no members'
 pub none_named : (ms : Named) → filter (λ m. has {A = Value} m.0 []) ms ≡ []

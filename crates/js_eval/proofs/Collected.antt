@@ -8,8 +8,8 @@ use Rattle.js_tree.proofs.WholeTreeCollected.{boxed_held}
 use Rattle.js_tree.proofs.FlatFormCollected.{flat_held}
 use Rattle.js_tree.proofs.VerdictCollected.{verdict_held}
 use Rattle.js_eval.specs.Collected.{VerdictIsCollected, TreeIsCollected, RowsAreCollected}
-use Rattle.js_walk.specs.Result.{AreAtMostStandard, ResultTree, IsWithinLimits}
-use Rattle.js_walk.specs.declared.walking.limits.Limits.{Limits}
+use Rattle.js_eval.specs.Result.{AreAtMostStandard, ResultTree, IsWithinLimits}
+use Rattle.js_eval.specs.declared.evaluation.limits.Limits.{Limits}
 
 height_le_nodes : {A : Type 0} (f : Forest A) → height f ≤ node_count f
 height_le_nodes empty = omega arith

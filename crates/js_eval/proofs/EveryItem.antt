@@ -7,11 +7,11 @@ use Rattle.std.proofs.lemmas.Bool.{ne_eqb}
 use Rattle.std.proofs.lemmas.Bool.Decides.{nat_tests}
 use Rattle.js_doc.specs.Value.{Value}
 use Rattle.js_assert.specs.Argument.{values}
-use Rattle.js_walk.specs.Applications.{Application, among_indexes, indexed, indexed_from}
-use Rattle.js_walk.specs.Evaluated.{index_in_step, indexes_applied}
+use Rattle.js_eval.specs.Applications.{Application, among_indexes, indexed, indexed_from}
+use Rattle.js_eval.specs.Evaluated.{index_in_step, indexes_applied}
 use Rattle.js_eval.specs.Laws.{is_every_item, are_each_among}
-use Rattle.js_walk.specs.Note.{are_all_items}
-use Rattle.js_walk.proofs.Lists.{and_same}
+use Rattle.js_eval.specs.Note.{are_all_items}
+use Rattle.js_eval.proofs.Lists.{and_same}
 
 abbrev positions_of : List (ℕ × Value) → List ℕ
 positions_of es = map (λ e. e.0) es

@@ -1,8 +1,8 @@
 -- The examples, by computing what the definitions say.
 use Rattle.std.specs.Prelude.{◌≡◌, false, true, refl}
 use Rattle.js_assert.specs.Keyword.{keyword_named}
-use Rattle.js_walk.specs.Kind.{kind}
-use Rattle.js_walk.specs.Verdict.{within}
+use Rattle.js_eval.specs.Kind.{kind}
+use Rattle.js_eval.specs.Verdict.{within}
 use Rattle.js_eval.specs.Examples.{Shown}
 
 differ : false ≡ true → ⊥

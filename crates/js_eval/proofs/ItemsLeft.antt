@@ -11,7 +11,7 @@ use Rattle.js_doc.specs.Value.{Value}
 use Rattle.js_doc.specs.Seen.{value_of}
 use Rattle.js_doc.specs.declared.doc.Doc.{Doc}
 use Rattle.js_doc.specs.declared.doc.Doc.TheVariants as doc
-use Rattle.js_walk.specs.Applications.{among_indexes, indexed_from}
+use Rattle.js_eval.specs.Applications.{among_indexes, indexed_from}
 use Rattle.js_eval.specs.code.Cursors.{AreMarked, is_marked, items_left}
 
 at_least : (marks : List Bool) (docs : List Doc) (i : ℕ) (d : Doc) → i < length docs

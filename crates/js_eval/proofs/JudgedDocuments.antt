@@ -8,11 +8,11 @@ use Rattle.js_bundle.specs.Place.{holding}
 use Rattle.js_bundle.specs.Resource.{sites}
 use Rattle.js_bundle.specs.Url.{printed, without_fragment, uri_of}
 use Rattle.js_bundle.proofs.OnLiterals.{url_on_literals}
-use Rattle.js_walk.specs.Bundle.{schemas_of}
+use Rattle.js_eval.specs.Bundle.{schemas_of}
 use Rattle.js_eval.specs.Examples.{obj, arr, str, num, only, of_type}
-use Rattle.js_walk.specs.Kind.{kind}
-use Rattle.js_walk.specs.SchemaSet.{Text}
-use Rattle.js_walk.specs.Verdict.{within}
+use Rattle.js_eval.specs.Kind.{kind}
+use Rattle.js_eval.specs.SchemaSet.{Text}
+use Rattle.js_eval.specs.Verdict.{within}
 use Rattle.js_assert.specs.Keyword.{keyword_named}
 use Rattle.js_doc.specs.Value.{truth}
 

@@ -18,23 +18,23 @@ use Rattle.js_bundle.specs.Document.{Documents}
 use Rattle.js_bundle.specs.KeywordName.{keyword_name}
 use Rattle.js_bundle.specs.Resource.{Site}
 use Rattle.js_bundle.specs.Schemas.{is_place, place_at}
-use Rattle.js_places.specs.declared.keyword_name.KeywordName.{KeywordName}
-use Rattle.js_places.specs.declared.keyword_name.KeywordName.TheVariants.{AssertionUpToIf, AssertionBehindIf}
-use Rattle.js_walk.specs.Bundle.{schemas_of}
-use Rattle.js_walk.specs.Keywords.{Keyword, has_node, is_else, is_after_if, comes_before_else, comes_after_else}
-use Rattle.js_walk.specs.Kind.{Applicator, applicators, kind, kind_in}
-use Rattle.js_walk.specs.Passes.{passes_of}
-use Rattle.js_walk.specs.Sited.{numbered_site}
-use Rattle.js_walk.specs.Walk.Progress.{keywords_at, passes_at}
-use Rattle.js_walk.specs.Walk.Visited.{AreJudged, is_visited, may_apply}
+use Rattle.js_bundle.specs.declared.keyword_name.KeywordName.{KeywordName}
+use Rattle.js_bundle.specs.declared.keyword_name.KeywordName.TheVariants.{AssertionUpToIf, AssertionBehindIf}
+use Rattle.js_eval.specs.Bundle.{schemas_of}
+use Rattle.js_eval.specs.Keywords.{Keyword, has_node, is_else, is_after_if, comes_before_else, comes_after_else}
+use Rattle.js_eval.specs.Kind.{Applicator, applicators, kind, kind_in}
+use Rattle.js_eval.specs.Passes.{passes_of}
+use Rattle.js_eval.specs.Sited.{numbered_site}
+use Rattle.js_eval.specs.Walk.Progress.{keywords_at, passes_at}
+use Rattle.js_eval.specs.Walk.Visited.{AreJudged, is_visited, may_apply}
 use Rattle.js_eval.specs.code.Leaves.{has_leaf}
-use Rattle.js_walk.specs.code.Standard.{kind_by, turn_by_name, keyword_names_of}
-use Rattle.js_walk.specs.code.Turns.{turn_by, turn_of, is_ever, in_order}
-use Rattle.js_walk.specs.declared.keywords.kind.Kind.{Kind}
-use Rattle.js_walk.specs.declared.keywords.kind.Kind.TheVariants.{Assertion, Annotation}
-use Rattle.js_walk.proofs.AssertionThere.{place_is, same_members}
-use Rattle.js_walk.proofs.Standard.{kind_is, turn_is}
-use Rattle.js_walk.proofs.Turns.{else_has_node, else_before}
+use Rattle.js_eval.specs.code.Standard.{kind_by, turn_by_name, keyword_names_of}
+use Rattle.js_eval.specs.code.Turns.{turn_by, turn_of, is_ever, in_order}
+use Rattle.js_eval.specs.declared.kinds.kind.Kind.{Kind}
+use Rattle.js_eval.specs.declared.kinds.kind.Kind.TheVariants.{Assertion, Annotation}
+use Rattle.js_eval.proofs.AssertionThere.{place_is, same_members}
+use Rattle.js_eval.proofs.Standard.{kind_is, turn_is}
+use Rattle.js_eval.proofs.Turns.{else_has_node, else_before}
 
 -- ---- a keyword makes an assertion if it is of that kind
 

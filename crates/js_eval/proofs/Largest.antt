@@ -1,6 +1,6 @@
 -- The largest index, which is the last.
 use Rattle.std.proofs.Common.{◌≡◌, ℕ, suc, ◌-◌, ◌<◌, List, [], ◌∷◌, length, get_or, refl, sym, ap, ◌∙◌, arith}
-use Rattle.js_walk.specs.Note.{largest, index}
+use Rattle.js_eval.specs.Note.{largest, index}
 
 last_is : (xs : List ℕ) (d : ℕ) → 0 < length xs → largest xs ≡ index (get_or xs (length xs - 1) d)
 last_is [] d h = absurd (omega arith)

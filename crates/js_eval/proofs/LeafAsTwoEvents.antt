@@ -5,10 +5,10 @@ use Rattle.js_doc.specs.Pointer.{escape}
 use Rattle.js_doc.specs.Value.{Value}
 use Rattle.js_tree.specs.Events.{Event, Passes, closing, opening}
 use Rattle.js_tree.specs.Note.{Note}
-use Rattle.js_rows.specs.RelativeState.{HasLeaf, relative_after, relative_state}
-use Rattle.js_walk.specs.Keywords.{Keyword}
-use Rattle.js_walk.specs.SchemaSet.{Text, SchemaSet}
-use Rattle.js_walk.specs.Walk.Progress.{LeafReported, at_name, says_at}
+use Rattle.js_tree.specs.Rows.RelativeState.{HasLeaf, relative_after, relative_state}
+use Rattle.js_eval.specs.Keywords.{Keyword}
+use Rattle.js_eval.specs.SchemaSet.{Text, SchemaSet}
+use Rattle.js_eval.specs.Walk.Progress.{LeafReported, at_name, says_at}
 use Rattle.js_eval.specs.code.Recorded.{TakesEvent}
 use Rattle.js_eval.specs.declared.reporters.recording.Recording.{Recording}
 

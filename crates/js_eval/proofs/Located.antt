@@ -5,15 +5,15 @@ use Rattle.js_doc.specs.Pointer.{Tokens, pointer_text, token_text}
 use Rattle.js_doc.specs.Value.{Value}
 use Rattle.js_doc.proofs.TokenBytes.{pointer_text-push}
 use Rattle.js_tree.specs.Forest.{Forest, empty, tree}
-use Rattle.js_rows.specs.Relative.{BeginsWith, AreLocated, IsLocated}
-use Rattle.js_rows.specs.RelativeState.{IsRootAt}
-use Rattle.js_walk.specs.Applications.{Application}
-use Rattle.js_walk.specs.Keywords.{Keyword, keywords}
-use Rattle.js_walk.specs.Location.{Location, at_root, step_tokens, at_keyword_named, at_application}
-use Rattle.js_walk.specs.Result.{OutputUnit, ResultTree, schema_unit, keyword_unit}
-use Rattle.js_walk.specs.Result.{AreKeywordNodes, AreSchemaNodes, IsNode, IsResult}
-use Rattle.js_walk.specs.SchemaSet.{SchemaSet, Step, Alone, Index, Name}
-use Rattle.js_walk.specs.Verdict.{within, asks}
+use Rattle.js_tree.specs.Rows.Relative.{BeginsWith, AreLocated, IsLocated}
+use Rattle.js_tree.specs.Rows.RelativeState.{IsRootAt}
+use Rattle.js_eval.specs.Applications.{Application}
+use Rattle.js_eval.specs.Keywords.{Keyword, keywords}
+use Rattle.js_eval.specs.Location.{Location, at_root, step_tokens, at_keyword_named, at_application}
+use Rattle.js_eval.specs.Result.{OutputUnit, ResultTree, schema_unit, keyword_unit}
+use Rattle.js_eval.specs.Result.{AreKeywordNodes, AreSchemaNodes, IsNode, IsResult}
+use Rattle.js_eval.specs.SchemaSet.{SchemaSet, Step, Alone, Index, Name}
+use Rattle.js_eval.specs.Verdict.{within, asks}
 
 -- ---- one step further
 

@@ -8,10 +8,10 @@ use Rattle.std.specs.List.{list_any}
 use Rattle.std.specs.Ordering.{is_eq, nat_cmp}
 use Rattle.std.specs.Str.{bytes_eq}
 use Rattle.js_doc.specs.Value.{Value, Named}
-use Rattle.js_walk.specs.Applications.{among_names}
-use Rattle.js_eval.specs.code.Cursors.{HasNames, is_key}
-use Rattle.js_walk.specs.SchemaSet.{Text}
-use Rattle.js_walk.specs.Seen.{texts_of}
+use Rattle.js_eval.specs.Applications.{among_names}
+use Rattle.js_eval.specs.code.Cursors.{HasNames, is_among_keys}
+use Rattle.js_eval.specs.SchemaSet.{Text}
+use Rattle.js_eval.specs.Seen.{texts_of}
 
 -- where every member is chosen
 pub all_chosen : (ms : Named) → filter (λ m. true) ms ≡ ms
@@ -28,15 +28,15 @@ filter_alike t u same (x ∷ xs) =
 
 -- those that aren't in the set are those that aren't among the names
 pub except_names : (keys : List (Bor Text)) (names : List Text) (ms : Named) → HasNames keys names
-    → filter (λ m. not (is_key keys m.0)) ms ≡ filter (λ m. not (among_names m.0 names)) ms
-except_names keys names ms has = filter_alike (λ (m : List ℕ × Value). not (is_key keys m.0))
+    → filter (λ m. not (is_among_keys keys m.0)) ms ≡ filter (λ m. not (among_names m.0 names)) ms
+except_names keys names ms has = filter_alike (λ (m : List ℕ × Value). not (is_among_keys keys m.0))
     (λ m. not (among_names m.0 names)) (λ m. ap not (has m.0)) ms
 
 -- the names that are in the set are those that are among the names
 pub names_by_set : (keys : List (Bor Text)) (names : List Text) (all found : List Text) → HasNames keys names
-    → found ≡ filter (λ name. is_key keys name) all → found ≡ filter (λ name. among_names name names) all
+    → found ≡ filter (λ name. is_among_keys keys name) all → found ≡ filter (λ name. among_names name names) all
 names_by_set keys names all found has e = e
-    ∙ filter_alike (λ (name : Text). is_key keys name) (λ name. among_names name names) has all
+    ∙ filter_alike (λ (name : Text). is_among_keys keys name) (λ name. among_names name names) has all
 
 -- ---- a set of names, one name more
 
@@ -50,7 +50,7 @@ lend : Text → Bor Text
 lend name = record { ref_ptr = (0, 0); now = name }
 
 pub none_seen : HasNames [] []
-unfolding is_key
+unfolding is_among_keys
 none_seen = λ name. refl
 
 pub name_more : (old new : List (Bor Text)) (names more : List Text) (k : Text)
@@ -58,7 +58,7 @@ pub name_more : (old new : List (Bor Text)) (names more : List Text) (k : Text)
     → ((q : Bor Text) → list_any (λ x. is_eq (slice_cmp nat_cmp q.now x.now)) new
     ≡ cond (is_eq (slice_cmp nat_cmp k q.now)) true (list_any (λ x. is_eq (slice_cmp nat_cmp q.now x.now)) old))
     → HasNames new more
-unfolding is_key lend
+unfolding is_among_keys lend
 name_more old new names more k grown seen updates = λ name.
     let tie : is_eq (slice_cmp nat_cmp k name) ≡ bytes_eq name k = sym (texts_ties k name)
     ∙ nat_list_eq_equiv.symm k name in

@@ -33,23 +33,23 @@ use Rattle.js_bundle.specs.Target.{reference, first_target, ref_target, dynamic_
 use Rattle.js_bundle.specs.Target.{is_dynamic, dynamic_of, dynamic_ref_target}
 use Rattle.js_bundle.specs.Url.{decoded_fragment}
 use Rattle.js_bundle.proofs.SchemaBelow.{is_one, is_listed, is_named}
-use Rattle.js_places.proofs.Standing.{standing}
-use Rattle.js_walk.specs.Applications.{Application, asks_of, indexed, indexed_from}
-use Rattle.js_walk.specs.Bundle.{schemas_of}
-use Rattle.js_walk.specs.Keywords.{Keyword, keywords}
-use Rattle.js_walk.specs.Kind.{Applicator, applicators, kind, kind_in}
+use Rattle.js_bundle.proofs.Standing.{standing}
+use Rattle.js_eval.specs.Applications.{Application, asks_of, indexed, indexed_from}
+use Rattle.js_eval.specs.Bundle.{schemas_of}
+use Rattle.js_eval.specs.Keywords.{Keyword, keywords}
+use Rattle.js_eval.specs.Kind.{Applicator, applicators, kind, kind_in}
 use Rattle.js_eval.specs.Laws.{looked_for, IsFound, IsOfFound, NothingStandsIn}
-use Rattle.js_walk.specs.SchemaSet.{SchemaSet}
-use Rattle.js_walk.specs.code.Holding.{IsIn, held_at}
-use Rattle.js_walk.specs.declared.keywords.kind.Kind.{Kind}
-use Rattle.js_walk.specs.declared.keywords.kind.Kind.TheVariants.{Reference, DynamicReference, AllOf, AnyOf, OneOf, Not}
-use Rattle.js_walk.specs.declared.keywords.kind.Kind.TheVariants.{If, Then, Else, DependentSchemas, PrefixItems, Items}
-use Rattle.js_walk.specs.declared.keywords.kind.Kind.TheVariants.{Contains, Properties, PatternProperties}
-use Rattle.js_walk.specs.declared.keywords.kind.Kind.TheVariants.{AdditionalProperties, PropertyNames, UnevaluatedItems}
-use Rattle.js_walk.specs.declared.keywords.kind.Kind.TheVariants.{UnevaluatedProperties, Assertion, Annotation}
-use Rattle.js_walk.proofs.AssertionThere.{same_members}
-use Rattle.js_walk.proofs.FoundByName.{all_of_filter, keywords_among}
-use Rattle.js_walk.proofs.Holding.{argument_is, items_are}
+use Rattle.js_eval.specs.SchemaSet.{SchemaSet}
+use Rattle.js_eval.specs.code.Holding.{IsIn, held_at}
+use Rattle.js_eval.specs.declared.kinds.kind.Kind.{Kind}
+use Rattle.js_eval.specs.declared.kinds.kind.Kind.TheVariants.{Reference, DynamicReference, AllOf, AnyOf, OneOf, Not}
+use Rattle.js_eval.specs.declared.kinds.kind.Kind.TheVariants.{If, Then, Else, DependentSchemas, PrefixItems, Items}
+use Rattle.js_eval.specs.declared.kinds.kind.Kind.TheVariants.{Contains, Properties, PatternProperties}
+use Rattle.js_eval.specs.declared.kinds.kind.Kind.TheVariants.{AdditionalProperties, PropertyNames, UnevaluatedItems}
+use Rattle.js_eval.specs.declared.kinds.kind.Kind.TheVariants.{UnevaluatedProperties, Assertion, Annotation}
+use Rattle.js_eval.proofs.AssertionThere.{same_members}
+use Rattle.js_eval.proofs.FoundByName.{all_of_filter, keywords_among}
+use Rattle.js_eval.proofs.Holding.{argument_is, items_are}
 
 -- ---- what is found is among the places
 

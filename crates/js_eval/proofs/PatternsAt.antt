@@ -8,11 +8,11 @@ use Rattle.js_bundle.specs.Schemas.{pattern, place_at}
 use Rattle.js_doc.specs.Members.{IsAscending, get}
 use Rattle.js_doc.specs.Parts.{members_of}
 use Rattle.js_doc.specs.Value.{Value, Named}
-use Rattle.js_walk.specs.Sited.{numbered_site}
-use Rattle.js_walk.specs.code.Standing.{IsSchemaAt}
-use Rattle.js_walk.proofs.AssertionThere.{place_is, same_members}
-use Rattle.js_walk.proofs.FoundByName.{AreAmong, each_among}
-use Rattle.js_walk.proofs.Lists.{and_true}
+use Rattle.js_eval.specs.Sited.{numbered_site}
+use Rattle.js_eval.specs.code.Standing.{IsSchemaAt}
+use Rattle.js_eval.proofs.AssertionThere.{place_is, same_members}
+use Rattle.js_eval.proofs.FoundByName.{AreAmong, each_among}
+use Rattle.js_eval.proofs.Lists.{and_true}
 use Rattle.js_eval.specs.code.Patterns.{ArePatternsAt, IsPatternAt}
 
 module _ (documents : Documents) (n : ℕ) (schema : Value) (at : IsSchemaAt documents n schema) where

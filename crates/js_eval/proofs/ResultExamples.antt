@@ -6,9 +6,9 @@ use Rattle.js_bundle.specs.Place.{holding}
 use Rattle.js_bundle.specs.Url.{printed, without_fragment}
 use Rattle.js_bundle.proofs.OnLiterals.{url_on_literals}
 use Rattle.js_eval.specs.Examples.{one_document}
-use Rattle.js_walk.specs.Kind.{kind}
+use Rattle.js_eval.specs.Kind.{kind}
 use Rattle.js_eval.specs.ResultExamples.{GiveTheseResults, chain}
-use Rattle.js_walk.specs.Verdict.{within}
+use Rattle.js_eval.specs.Verdict.{within}
 
 chain_settled : (root : Value) (n : ℕ) (above : List Value)
     → (within (one_document root) (suc n)).settled above (chain n) null ≡ true

@@ -9,9 +9,9 @@ use Rattle.js_assert.specs.Pattern.{matches}
 use Rattle.js_bundle.specs.Resource.{Site}
 use Rattle.js_doc.specs.Members.{get}
 use Rattle.js_doc.specs.Value.{Value, Named}
-use Rattle.js_walk.specs.Applications.{Application, indexed_from, is_property, matches_pattern}
+use Rattle.js_eval.specs.Applications.{Application, indexed_from, is_property, matches_pattern}
 use Rattle.js_eval.specs.code.Cursors.{is_matched, is_named, named_in}
-use Rattle.js_walk.specs.SchemaSet.{Text, Alone, Index, Name}
+use Rattle.js_eval.specs.SchemaSet.{Text, Alone, Index, Name}
 use Rattle.js_eval.proofs.MembersLeft.{filter_alike}
 
 -- a schema on items, and on members, where it stands and what they are

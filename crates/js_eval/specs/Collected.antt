@@ -8,8 +8,8 @@ use Rattle.js_tree.specs.VerdictState.{verdict_after, verdict_start, verdict_sta
 use Rattle.js_tree.specs.declared.collecting.boxed.Boxed.{Boxed}
 use Rattle.js_tree.specs.declared.collecting.flat.Flat.{Flat}
 use Rattle.js_tree.specs.declared.collecting.verdict.Verdict.{Verdict}
-use Rattle.js_walk.specs.Result.{AreAtMostStandard, ResultTree}
-use Rattle.js_walk.specs.declared.walking.limits.Limits.{Limits}
+use Rattle.js_eval.specs.Result.{AreAtMostStandard, ResultTree}
+use Rattle.js_eval.specs.declared.evaluation.limits.Limits.{Limits}
 use Rattle.js_eval.specs.Walked.{IsResultWithin, IsVerdict, LeadsTo}
 
 -- v is evaluated at the place with this number, with these limits, and c is a new collector

@@ -6,11 +6,11 @@ use Rattle.js_doc.specs.Value.{Value, null, truth, whole, text, list, object, it
 use Rattle.js_doc.specs.Members.{get}
 use Rattle.js_assert.specs.Argument.{entries, values}
 use Rattle.js_tree.specs.Forest.{empty, tree}
-use Rattle.js_walk.specs.Location.{at_root}
-use Rattle.js_walk.specs.Note.{Note, silent, error, value}
-use Rattle.js_walk.specs.Result.{OutputUnit, ResultTree, IsResult}
-use Rattle.js_walk.specs.SchemaSet.{Text, SchemaSet, Step, Alone, Index, Name}
-use Rattle.js_walk.specs.Verdict.{Settled, Succeeds, Fails}
+use Rattle.js_eval.specs.Location.{at_root}
+use Rattle.js_eval.specs.Note.{Note, silent, error, value}
+use Rattle.js_eval.specs.Result.{OutputUnit, ResultTree, IsResult}
+use Rattle.js_eval.specs.SchemaSet.{Text, SchemaSet, Step, Alone, Index, Name}
+use Rattle.js_eval.specs.Verdict.{Settled, Succeeds, Fails}
 
 -- ---- The schemas of one document. A place is given by the schema there, which is enough without `$id`. A reference is
 -- `#` and a pointer.
@@ -207,20 +207,20 @@ strict_tree_schema = obj (
     ∷ (codes "$ref", str (codes "tree"))
     ∷ (codes "unevaluatedProperties", truth false) ∷ [])
 
-pub data Resource : Type 0 where
-  extensible : Resource
-  strict : Resource
+pub data TreeResource : Type 0 where
+  extensible : TreeResource
+  strict : TreeResource
 
-abbrev pub tree_root : Resource → Resource × Value
+abbrev pub tree_root : TreeResource → TreeResource × Value
 tree_root extensible = (extensible, tree_schema)
 tree_root strict = (strict, strict_tree_schema)
 
 -- the root of the resource of the first place of the path
-abbrev pub first_root : List (Resource × Value) → Resource × Value
+abbrev pub first_root : List (TreeResource × Value) → TreeResource × Value
 first_root [] = tree_root extensible
 first_root (p ∷ ps) = tree_root p.0
 
-abbrev pub trees : SchemaSet (Resource × Value)
+abbrev pub trees : SchemaSet (TreeResource × Value)
 trees = record {
   schema = λ p. p.1;
   below = λ p keyword step. (p.0, subschema (argument_of keyword p.1) step);

@@ -10,21 +10,21 @@ use Rattle.js_bundle.specs.Resource.{Site, sites}
 use Rattle.js_bundle.specs.Schemas.{place_at, below}
 use Rattle.js_bundle.specs.Seen.{AreRead}
 use Rattle.js_bundle.specs.Target.{ref_target, dynamic_ref_target}
-use Rattle.js_rows.specs.Relative.{IsLocated}
-use Rattle.js_walk.specs.Applications.{Application, asks_of, among_indexes, indexed}
-use Rattle.js_walk.specs.Bundle.{schemas_of}
-use Rattle.js_walk.specs.Evaluated.{indexes_applied}
-use Rattle.js_walk.specs.Keywords.{Keyword, keywords}
-use Rattle.js_walk.specs.Kind.{kind, is_unevaluated_items, is_unevaluated_properties}
-use Rattle.js_walk.specs.Location.{Location}
-use Rattle.js_walk.specs.Note.{are_all_items}
-use Rattle.js_walk.specs.Result.{ResultTree, IsResult, StandsWithin, depth, size}
-use Rattle.js_walk.specs.SchemaSet.{Text, SchemaSet, Step}
-use Rattle.js_walk.specs.Size.{node_total}
-use Rattle.js_walk.specs.Verdict.{Known, within, Settled, gives_names, gives_indexes}
-use Rattle.js_walk.specs.Verdict.{evaluated_names, evaluated_indexes}
-use Rattle.js_walk.specs.declared.keywords.kind.Kind.{Kind}
-use Rattle.js_walk.specs.declared.keywords.kind.Kind.TheVariants.{Reference, DynamicReference, PrefixItems, Contains}
+use Rattle.js_tree.specs.Rows.Relative.{IsLocated}
+use Rattle.js_eval.specs.Applications.{Application, asks_of, among_indexes, indexed}
+use Rattle.js_eval.specs.Bundle.{schemas_of}
+use Rattle.js_eval.specs.Evaluated.{indexes_applied}
+use Rattle.js_eval.specs.Keywords.{Keyword, keywords}
+use Rattle.js_eval.specs.Kind.{kind, is_unevaluated_items, is_unevaluated_properties}
+use Rattle.js_eval.specs.Location.{Location}
+use Rattle.js_eval.specs.Note.{are_all_items}
+use Rattle.js_eval.specs.Result.{ResultTree, IsResult, StandsWithin, depth, size}
+use Rattle.js_eval.specs.SchemaSet.{Text, SchemaSet, Step}
+use Rattle.js_eval.specs.Size.{node_total}
+use Rattle.js_eval.specs.Verdict.{Known, within, Settled, gives_names, gives_indexes}
+use Rattle.js_eval.specs.Verdict.{evaluated_names, evaluated_indexes}
+use Rattle.js_eval.specs.declared.kinds.kind.Kind.{Kind}
+use Rattle.js_eval.specs.declared.kinds.kind.Kind.TheVariants.{Reference, DynamicReference, PrefixItems, Contains}
 
 -- v is judged at a place, to which these places led
 

@@ -7,13 +7,13 @@ use Rattle.js_tree.specs.Forest.{Forest, empty, tree}
 use Rattle.js_bundle.specs.Document.{Documents}
 use Rattle.js_bundle.specs.Resource.{Site, sites}
 use Rattle.js_bundle.specs.Url.{uri_of}
-use Rattle.js_walk.specs.Bundle.{schemas_of}
+use Rattle.js_eval.specs.Bundle.{schemas_of}
 use Rattle.js_eval.specs.Examples.{obj, arr, str, num, only, not_of, one_document}
-use Rattle.js_walk.specs.Location.{at_root}
-use Rattle.js_walk.specs.Note.{Note, silent, error, value, names, index, indexes, truly}
-use Rattle.js_walk.specs.Result.{OutputUnit, ResultTree, IsResult}
-use Rattle.js_walk.specs.SchemaSet.{Text}
-use Rattle.js_walk.specs.Verdict.{Settled}
+use Rattle.js_eval.specs.Location.{at_root}
+use Rattle.js_eval.specs.Note.{Note, silent, error, value, names, index, indexes, truly}
+use Rattle.js_eval.specs.Result.{OutputUnit, ResultTree, IsResult}
+use Rattle.js_eval.specs.SchemaSet.{Text}
+use Rattle.js_eval.specs.Verdict.{Settled}
 
 -- a document under its URI
 abbrev pub document_at : Text → Value → Documents

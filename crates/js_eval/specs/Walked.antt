@@ -2,16 +2,16 @@
 use Rattle.std.specs.Prelude.{◌≡◌, ℕ, Bool, []}
 use Rattle.js_doc.specs.Value.{Value}
 use Rattle.js_tree.specs.Events.{Event, Passes, events}
-use Rattle.js_rows.specs.RelativeState.{AreRowsOf}
+use Rattle.js_tree.specs.Rows.RelativeState.{AreRowsOf}
 use Rattle.js_tree.specs.Trimmed.{trimmed_tree}
-use Rattle.js_rows.specs.declared.rows.RelativeRows.{RelativeRows}
+use Rattle.js_tree.specs.declared.rows.relative_rows.RelativeRows.{RelativeRows}
 use Rattle.js_bundle.specs.Document.{Documents}
-use Rattle.js_walk.specs.Bundle.{schemas_of}
-use Rattle.js_walk.specs.Location.{at_root}
-use Rattle.js_walk.specs.Result.{ResultTree, IsResult, IsWithinLimits}
-use Rattle.js_walk.specs.declared.walking.limits.Limits.{Limits}
-use Rattle.js_walk.specs.Sited.{numbered_site}
-pub use Rattle.js_walk.specs.Fault.{OnTooLarge}
+use Rattle.js_eval.specs.Bundle.{schemas_of}
+use Rattle.js_eval.specs.Location.{at_root}
+use Rattle.js_eval.specs.Result.{ResultTree, IsResult, IsWithinLimits}
+use Rattle.js_eval.specs.declared.evaluation.limits.Limits.{Limits}
+use Rattle.js_eval.specs.Sited.{numbered_site}
+pub use Rattle.js_eval.specs.Fault.{OnTooLarge}
 
 -- ---- v is evaluated at the place with this number
 

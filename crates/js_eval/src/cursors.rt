@@ -9,6 +9,3 @@ pub(crate) mod member_cursor;
 pub(crate) mod name_cursor;
 pub(crate) mod pattern_cursor;
 pub(crate) mod start;
-pub(crate) mod start_by_kind;
-pub(crate) mod start_items;
-pub(crate) mod start_members;

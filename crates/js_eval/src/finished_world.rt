@@ -1,22 +1,24 @@
 //! Finished schemas and their patterns, as a walk uses them.
 ghost use Rattle.std.specs.Prelude.{◌≡◌, None, OnOk, Some, map, option_to_list};
-ghost use Rattle.js_walk.specs.Evaluated.{index_in_step, name_in_step};
-ghost use Rattle.js_walk.specs.Walk.Progress.{at_step};
-ghost use Rattle.js_walk.specs.code.Terms.{instance_of, is_place, numbered_site, schemas_of, step_of};
+ghost use Rattle.js_eval.specs.Evaluated.{index_in_step, name_in_step};
+ghost use Rattle.js_eval.specs.Walk.Progress.{at_step};
+ghost use Rattle.js_eval.specs.code.Terms.{instance_of, is_place, numbered_site, schemas_of, step_of};
 
 use crate::cursors::asking::{Asking, next_asked};
-use crate::cursors::start_by_kind::{Facts, Scene, asking_of_keyword};
-use crate::judging::others::judge_others;
-use crate::judging::passing::judge_keyword;
+use crate::evaluation::{Others, PointerText, ScopedPath, Tally, Trail, World};
+use crate::instance::{Applied, Instance};
+use crate::keywords::applications::{Facts, Scene, asking_of_keyword};
+use crate::keywords::others::judge_others;
+use crate::keywords::passing::judge_keyword;
+use crate::kinds::keyword::{Keyword, KeywordAt, is_written_as_it_is};
+use crate::kinds::keyword_cursor::Keywords;
+use crate::kinds::kind::Kind;
 use crate::schema::is_accepting;
+use crate::schema_lookup::names_at;
 use crate::searching::pattern_answers::keep_all;
 use crate::searching::searchers::Searchers;
 use js_bundle::{Place, Schemas, Step};
 use js_doc::{Doc, Memory};
-use js_walk::{
-    Applied, Instance, Keyword, KeywordAt, Keywords, Kind, Others, PointerText, ScopedPath, Tally,
-    Trail, World, is_written_as_it_is, names_at,
-};
 use std::alloc::Global;
 
 /// Finished schemas, and the searchers for their patterns. `'a` is the lifetime of the schemas and of the instance.
@@ -31,10 +33,10 @@ impl<'a> World for FinishedSchemas<'a> {
     ghost use Rattle.js_doc.specs.Seen as seen;
     ghost use Rattle.js_eval.specs.code.Applied.{applied_of};
     ghost use Rattle.js_eval.specs.code.Asked as here;
-    ghost use Rattle.js_walk.specs.Bundle.{schemas_of};
-    ghost use Rattle.js_walk.specs.code.KeywordsLeft as left;
-    ghost use Rattle.js_walk.specs.Seen.{instance_of, keyword_of};
-    ghost use Rattle.js_walk.specs.Sited.{numbered_site, resource_of};
+    ghost use Rattle.js_eval.specs.Bundle.{schemas_of};
+    ghost use Rattle.js_eval.specs.code.KeywordsLeft as left;
+    ghost use Rattle.js_eval.specs.Seen.{instance_of, keyword_of};
+    ghost use Rattle.js_eval.specs.Sited.{numbered_site, resource_of};
 
     type Value = Instance<'a>;
 
@@ -78,12 +80,12 @@ impl<'a> World for FinishedSchemas<'a> {
 
     ghost is_asking = { λ h a. here.IsAsking h.schemas.now a };
 
-    #[tactic(auto, unfolding(js_walk::specs::Walk::Progress::accepts_at))]
+    #[tactic(auto, unfolding(crate::specs::Walk::Progress::accepts_at))]
     fn accepts(&self, _place: Place, schema: &'a Doc) -> bool {
         is_accepting(schema)
     }
 
-    #[tactic(auto, unfolding(js_walk::specs::Walk::Visited::AppliesNone, js_walk::specs::Walk::Progress::keywords_at))]
+    #[tactic(auto, unfolding(crate::specs::Walk::Visited::AppliesNone, crate::specs::Walk::Progress::keywords_at))]
     fn may_apply(&self, place: Place, schema: &'a Doc) -> bool {
         Keywords::may_apply(names_at(self.schemas, place), schema)
     }
@@ -102,7 +104,7 @@ impl<'a> World for FinishedSchemas<'a> {
         judge_others(alloc, self.schemas, &self.searchers, place, value, matching)
     }
 
-    #[tactic(auto, unfolding(js_walk::specs::Walk::Progress::keywords_at))]
+    #[tactic(auto, unfolding(crate::specs::Walk::Progress::keywords_at))]
     fn keywords(&self, place: Place, schema: &'a Doc, quiet: bool) -> Keywords<'a> {
         Keywords::new(names_at(self.schemas, place), schema, quiet)
     }
@@ -111,17 +113,17 @@ impl<'a> World for FinishedSchemas<'a> {
         keywords.next()
     }
 
-    #[tactic(auto, unfolding(js_walk::specs::Walk::Progress::kind_at))]
+    #[tactic(auto, unfolding(crate::specs::Walk::Progress::kind_at))]
     fn kind(&self, keyword: Keyword<'a>) -> Kind {
         keyword.kind
     }
 
-    #[tactic(auto, unfolding(js_walk::specs::Walk::Progress::asked_by))]
+    #[tactic(auto, unfolding(crate::specs::Walk::Progress::asked_by))]
     fn asks(&self, keyword: Keyword<'a>) -> bool {
         keyword.kind.is_applicator()
     }
 
-    #[tactic(auto, unfolding(js_walk::specs::Walk::Progress::asked_by, js_walk::specs::Walk::Progress::IsKeywordAt))]
+    #[tactic(auto, unfolding(crate::specs::Walk::Progress::asked_by, crate::specs::Walk::Progress::IsKeywordAt))]
     fn asking(
         &self,
         alloc: Global,
@@ -206,7 +208,7 @@ impl<'a> World for FinishedSchemas<'a> {
         )
     }
 
-    #[tactic(auto, unfolding(js_walk::specs::Walk::Progress::at_name))]
+    #[tactic(auto, unfolding(crate::specs::Walk::Progress::at_name))]
     fn go_to_keyword<H: PointerText + Drop>(
         &self,
         keyword: Keyword<'a>,
@@ -270,7 +272,7 @@ fn item_at<'a>(at: Step<'a>, _doc: Option<&'a Doc>) -> Option<usize>
 }
 
 // Appends the step to the trail.
-#[tactic(auto, unfolding(js_walk::specs::Walk::Progress::at_step))]
+#[tactic(auto, unfolding(crate::specs::Walk::Progress::at_step))]
 fn go<'a, H: PointerText + Drop>(
     step: Step<'a>,
     _doc: Option<&'a Doc>,

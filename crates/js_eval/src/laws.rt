@@ -7,10 +7,10 @@ ghost use Rattle.js_eval.specs.Examples.{Shown};
 ghost use Rattle.js_eval.specs.Laws.{AtMostOneResult, DepthIsLeast, LimitsAreExact, LocationsGoOn, NoCircle};
 ghost use Rattle.js_eval.specs.Laws.{NothingStandsIn, ResultExactlyIfSettled, SizeIsTotal, StaysSettled};
 ghost use Rattle.js_eval.specs.Laws.{StandsForEveryItem};
-ghost use Rattle.js_walk.specs.Keywords.{Keyword};
+ghost use Rattle.js_eval.specs.Keywords.{Keyword};
 ghost use Rattle.js_eval.specs.ResultExamples.{GiveTheseResults};
-ghost use Rattle.js_walk.specs.declared.walking.limits.Limits.{Limits};
-ghost use Rattle.js_walk.specs.SchemaSet.{SchemaSet, Text};
+ghost use Rattle.js_eval.specs.declared.evaluation.limits.Limits.{Limits};
+ghost use Rattle.js_eval.specs.SchemaSet.{SchemaSet, Text};
 
 use js_bundle::laws::what_is_held_and_named_is_found;
 

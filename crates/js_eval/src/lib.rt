@@ -5,19 +5,26 @@
 //! keyword applies to a value; a keyword *asks for* its applications one after another. A *walk* evaluates a value
 //! against the schema at a place, and reports each node of the result tree when it opens and, after the nodes below it,
 //! when it closes. These reports are the *events*.
+//!
+//! `walking` is the recursion, over any `World` and any `Reporter`; `keywords` has the kinds of keywords and their
+//! order; `finished_world` is the `World` of finished schemas, and `public_walks` has the public calls.
 #![tactic(auto)]
 
 mod cursors;
+mod evaluation;
 mod finished_world;
-mod judging;
+mod instance;
+mod keywords;
+mod kinds;
 pub mod laws;
 mod marks;
 mod public_walks;
 mod reporters;
 mod schema;
+mod schema_lookup;
 mod searching;
 
-pub use js_walk::{Limits, WalkFault};
+pub use evaluation::{Limits, WalkFault};
 pub use public_walks::{
     verdict, verdict_within, walk, walk_into, walk_into_within, walk_noted_rows,
     walk_noted_rows_within, walk_rows, walk_rows_within,

@@ -4,27 +4,28 @@ ghost use Rattle.std.specs.Prelude.{◌≡◌, Some, true, option_map, IfOk, IfE
 ghost use Rattle.js_doc.specs.Seen.{value_of};
 ghost use Rattle.js_bundle.specs.Location.{location};
 ghost use Rattle.js_bundle.specs.Schemas.{is_place, place_at};
-ghost use Rattle.js_walk.specs.Bundle.{schemas_of};
-ghost use Rattle.js_walk.specs.Result.{standard_limits};
-ghost use Rattle.js_walk.specs.Sited.{numbered_site};
+ghost use Rattle.js_eval.specs.Bundle.{schemas_of};
+ghost use Rattle.js_eval.specs.Result.{standard_limits};
+ghost use Rattle.js_eval.specs.Sited.{numbered_site};
 ghost use Rattle.js_eval.specs.code.Recorded.{AddsRow};
-ghost use Rattle.js_walk.specs.Walk.Reported.{Reported};
+ghost use Rattle.js_eval.specs.Walk.Reported.{Reported};
 ghost use Rattle.js_eval.specs.Walked.{AreNotedRows, AreResultRows, IsResultWithin, IsVerdict, LeadsTo, NoneStands};
 ghost use Rattle.js_eval.specs.Walked.{OnTooLarge};
 
+use crate::evaluation::{
+    HeldText, Limits, PointerText, Reporter, UnseenText, WalkFault, walk_from,
+};
 use crate::finished_world::FinishedSchemas;
+use crate::instance::Instance;
 use crate::reporters::collecting::Collecting;
 use crate::reporters::recording::Recording;
 use crate::reporters::silent::Silent;
+use crate::schema_lookup::schema_at;
 use crate::searching::searchers::Searchers;
 use bumpalo::Bump;
 use js_bundle::{Place, Schemas};
 use js_doc::{Doc, Memory};
-use js_rows::RelativeRows;
-use js_tree::{Boxed, Collector, Tree};
-use js_walk::{
-    HeldText, Instance, Limits, PointerText, Reporter, UnseenText, WalkFault, schema_at, walk_from,
-};
+use js_tree::{Boxed, Collector, RelativeRows, Tree};
 use std::alloc::Global;
 use std::marker::PhantomData;
 

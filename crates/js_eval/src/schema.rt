@@ -5,10 +5,10 @@ ghost use Rattle.js_assert.specs.Argument.{entries};
 ghost use Rattle.js_doc.specs.Members.{IsAscending, get};
 ghost use Rattle.js_doc.specs.Seen.{value_of};
 ghost use Rattle.js_eval.specs.code.Patterns.{named_in};
-ghost use Rattle.js_walk.specs.Verdict.{accepts};
+ghost use Rattle.js_eval.specs.Verdict.{accepts};
 
+use crate::instance::{names_ascend, object_in};
 use js_doc::{Doc, Members};
-use js_walk::{names_ascend, object_in};
 
 /// The argument of the keyword with this name, if the schema has it.
 pub(crate) fn argument_in<'a>(schema: &'a Doc, name: &str) -> Option<&'a Doc>

@@ -5,7 +5,7 @@ use Rattle.std.proofs.lemmas.Bool.{lt-ltb, le-ltb}
 use Rattle.std.specs.Io.KnownBytes.{Consumes, IsAtEnd}
 use Rattle.js_doc.specs.Value.{Value}
 use Rattle.js_eval.specs.Result.{ResultTree, IsWithinLimits}
-use Rattle.js_walk.specs.declared.walking.limits.Limits.{Limits}
+use Rattle.js_eval.specs.declared.evaluation.limits.Limits.{Limits}
 use Rattle.js_bundle.specs.Document as bundle
 use Rattle.js_bundle.specs.Resource.{Site}
 use Rattle.js_output.specs.Cause.{Causes, MayGoOn, IsFirstFault, FailsBy}
@@ -17,7 +17,7 @@ use Rattle.js_output.specs.Report.{Report, Reports, Answers, After, OfInput, Sto
 use Rattle.js_output.proofs.CauseLists.{clear-append, clear-apart, first-append, first-apart, first-later}
 use Rattle.js_output.specs.declared.fault.Fault.{Fault}
 use Rattle.js_output.specs.declared.fault.Fault.TheVariants as fault
-use Rattle.js_tree.specs.declared.forms.Format.{Format}
+use Rattle.js_tree.specs.declared.formats.Format.{Format}
 
 -- ---- the bytes that a source has left
 

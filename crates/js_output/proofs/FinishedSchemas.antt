@@ -2,8 +2,8 @@
 use Rattle.std.proofs.Common.{◌≡◌, ℕ, ◌+◌, List, [], ◌∷◌, ◌++◌, ◌⊎◌, length, Result, refl, ◌∙◌, sym, subst}
 use Rattle.std.proofs.lemmas.List.{append-nil}
 use Rattle.js_bundle.specs.Document as bundle
-use Rattle.js_walk.specs.declared.walking.limits.Limits.{Limits}
-use Rattle.js_tree.specs.declared.forms.Format.{Format}
+use Rattle.js_eval.specs.declared.evaluation.limits.Limits.{Limits}
+use Rattle.js_tree.specs.declared.formats.Format.{Format}
 use Rattle.js_output.specs.Cause.{MayGoOn}
 use Rattle.js_output.specs.Documents.{DocumentTexts, bundle_of, adding_causes, bundle_causes, documents_causes}
 use Rattle.js_output.specs.Entry.{entry_causes, entry_place}

@@ -3,7 +3,7 @@ use Rattle.std.proofs.Common.{◌≡◌, sym, ◌∙◌, ap}
 use Rattle.js_tree.specs.Form.{form, verbose}
 use Rattle.js_tree.specs.MergedResult.{merged}
 use Rattle.js_tree.specs.Result.{ResultTree, kept, pruned}
-use Rattle.js_tree.specs.declared.forms.Format.TheVariants.{Merged}
+use Rattle.js_tree.specs.declared.formats.Format.TheVariants.{Merged}
 use Rattle.js_tree.proofs.MergedLaws.{merged-kept}
 
 -- merging makes the same of what condensing leaves

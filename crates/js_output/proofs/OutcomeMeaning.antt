@@ -7,14 +7,14 @@ use Rattle.js_tree.specs.Form.{form, verbose}
 use Rattle.js_tree.specs.OutputUnit.{noted}
 use Rattle.js_tree.specs.MergedResult.{merged}
 use Rattle.js_tree.specs.Result.{pruned, kept}
-use Rattle.js_tree.specs.declared.forms.Format.{Format}
-use Rattle.js_tree.specs.declared.forms.Format.TheVariants.{Flag, Basic, Detailed, Merged, Verbose}
+use Rattle.js_tree.specs.declared.formats.Format.{Format}
+use Rattle.js_tree.specs.declared.formats.Format.TheVariants.{Flag, Basic, Detailed, Merged, Verbose}
 use Rattle.js_tree.proofs.KeptTree.{kept_is_reached, kept_is_normal, run-kept, run-normal}
 use Rattle.js_tree.proofs.MergedLaws.{merged_is_reached, merged_is_normal, run_of_three-merged, normal_end_of_three}
 use Rattle.js_bundle.specs.Document as bundle
 use Rattle.js_bundle.specs.Resource.{Site}
 use Rattle.js_eval.specs.Result.{ResultTree, IsWithinLimits}
-use Rattle.js_walk.specs.declared.walking.limits.Limits.{Limits}
+use Rattle.js_eval.specs.declared.evaluation.limits.Limits.{Limits}
 use Rattle.js_output.specs.Cause.{Causes, IsFirstFault}
 use Rattle.js_output.specs.Device.{Tracked, input_limit, Sends, SendsBeginning}
 use Rattle.js_output.specs.Documents.{DocumentTexts, bundle_of}

@@ -5,16 +5,16 @@ use Rattle.js_doc.specs.Value.{Value, truth, list, object, items, members}
 use Rattle.js_bundle.specs.Document.{Documents}
 use Rattle.js_bundle.specs.Resource.{Site}
 use Rattle.js_bundle.specs.Schemas.{is_place, place_at}
-use Rattle.js_walk.specs.declared.walking.limits.Limits.{Limits}
+use Rattle.js_eval.specs.declared.evaluation.limits.Limits.{Limits}
 use Rattle.js_eval.specs.Walked.{AreNotedRows, AreResultRows, IsVerdict}
-use Rattle.js_rows.specs.RelativeState.{AreRowsOf}
-use Rattle.js_rows.specs.declared.rows.RelativeRows.{RelativeRows}
+use Rattle.js_tree.specs.Rows.RelativeState.{AreRowsOf}
+use Rattle.js_tree.specs.declared.rows.relative_rows.RelativeRows.{RelativeRows}
 use Rattle.js_tree.specs.Form.{flag, form, list_name, node_value}
 use Rattle.js_tree.specs.OutputUnit.{noted}
 use Rattle.js_tree.specs.Result.{Normal, ResultTree, kept, pruned}
 use Rattle.js_tree.specs.Trimmed.{trimmed_tree}
-use Rattle.js_tree.specs.declared.forms.Format.{Format}
-use Rattle.js_tree.specs.declared.forms.Format.TheVariants.{Flag, Basic, Detailed, Merged, Verbose}
+use Rattle.js_tree.specs.declared.formats.Format.{Format}
+use Rattle.js_tree.specs.declared.formats.Format.TheVariants.{Flag, Basic, Detailed, Merged, Verbose}
 use Rattle.js_tree.proofs.KeptTree.{kept_is_normal}
 use Rattle.js_tree.proofs.Trimming.{same_units}
 use Rattle.js_output.specs.code.Prepared.{IsPrepared, IsPreparedFor, rows_form}

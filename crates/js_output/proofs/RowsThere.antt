@@ -1,16 +1,16 @@
 -- The rows that a format is written from: those of the result of the walk, or of what is left of it.
 use Rattle.std.proofs.Common.{◌≡◌, ℕ, true, Option, subst}
 use Rattle.js_doc.specs.Value.{Value}
-use Rattle.js_rows.specs.RelativeState.{AreRowsOf}
+use Rattle.js_tree.specs.Rows.RelativeState.{AreRowsOf}
 use Rattle.js_tree.specs.Result.{ResultTree, kept, pruned}
 use Rattle.js_tree.specs.Trimmed.{trimmed_tree}
-use Rattle.js_rows.specs.declared.rows.RelativeRows.{RelativeRows}
+use Rattle.js_tree.specs.declared.rows.relative_rows.RelativeRows.{RelativeRows}
 use Rattle.js_tree.proofs.Trimming.{same_kept}
 use Rattle.js_bundle.specs.Document.{Documents}
 use Rattle.js_bundle.specs.Resource.{Site}
 use Rattle.js_bundle.specs.Schemas.{is_place, place_at}
 use Rattle.js_eval.specs.Result.{IsWithinLimits}
-use Rattle.js_walk.specs.declared.walking.limits.Limits.{Limits}
+use Rattle.js_eval.specs.declared.evaluation.limits.Limits.{Limits}
 use Rattle.js_eval.specs.Walked as walked
 use Rattle.js_output.specs.Outcome.{IsResultOf}
 use Rattle.js_output.proofs.Sites.{result-there}

@@ -13,12 +13,12 @@ use Rattle.js_doc.specs.Value.{Value}
 use Rattle.js_eval.specs.Bundle.{schemas_of}
 use Rattle.js_eval.specs.Location.{at_root}
 use Rattle.js_eval.specs.Result.{ResultTree, IsResult}
-use Rattle.js_walk.specs.declared.walking.limits.Limits.{Limits}
+use Rattle.js_eval.specs.declared.evaluation.limits.Limits.{Limits}
 use Rattle.js_eval.specs.Sited.{numbered_site, nowhere}
 use Rattle.js_eval.specs.Walked.{OnTooLarge, IsResultThere, IsVerdict}
 use Rattle.js_eval.specs.Walked.{NoneStands as NoneStandsThere}
-use Rattle.js_walk.specs.declared.walking.fault.WalkFault.{WalkFault}
-use Rattle.js_walk.specs.declared.walking.fault.WalkFault.TheVariants as walk_fault
+use Rattle.js_eval.specs.declared.evaluation.fault.WalkFault.{WalkFault}
+use Rattle.js_eval.specs.declared.evaluation.fault.WalkFault.TheVariants as walk_fault
 use Rattle.js_output.specs.Outcome.{IsResultOf, NoResultStands, IsWalkFault, walk_fault_of}
 use Rattle.js_output.specs.Suite.{HasVerdict}
 use Rattle.js_output.specs.Places.{lines_of}

@@ -7,6 +7,7 @@ use Rattle.url.specs.Parts.{Parts}
 use Rattle.url.specs.Parser.{parse_url}
 use Rattle.js_doc.specs.Value.{Value}
 use Rattle.js_doc.specs.declared.reading.ReadFault.{ReadFault}
+use Rattle.js_doc.specs.declared.reading.ReadFault.TheVariants as read
 use Rattle.js_bundle.specs.declared.refusal.Refusal.{Refusal}
 use Rattle.js_bundle.specs.declared.refusal.RefusalKind.{RefusalKind}
 use Rattle.js_bundle.specs.declared.refusal.RefusalKind.TheVariants as kind
@@ -58,6 +59,11 @@ refused earlier kind = fault.Refused (record { document = earlier; place = []; k
 abbrev pub text_causes : ℕ → Result Value ReadFault → Causes
 text_causes earlier (Ok v) = []
 text_causes earlier (Err e) = cause true (fault.Refused (refusal_of_read earlier e))
+
+-- the fault of a text that isn't read
+abbrev pub unread_document : ℕ → ReadFault → Fault
+unread_document earlier read.Memory = fault.Memory
+unread_document earlier e = fault.Refused (refusal_of_read earlier e)
 
 -- by its URI
 abbrev pub uri_causes : ℕ → List ℕ → Causes

@@ -8,14 +8,14 @@ use Rattle.js_doc.specs.Value.{Value}
 use Rattle.js_tree.specs.Form.{flag, unit_list, verbose}
 use Rattle.js_tree.specs.MergedResult.{RunOfThree, NormalOfThree}
 use Rattle.js_tree.specs.Result.{Run, Normal, pruned}
-use Rattle.js_tree.specs.declared.forms.Format.{Format}
-use Rattle.js_tree.specs.declared.forms.Format.TheVariants.{Flag, Basic, Detailed, Merged, Verbose}
+use Rattle.js_tree.specs.declared.formats.Format.{Format}
+use Rattle.js_tree.specs.declared.formats.Format.TheVariants.{Flag, Basic, Detailed, Merged, Verbose}
 use Rattle.js_bundle.specs.Document as bundle
 use Rattle.js_bundle.specs.Resource.{Site}
 use Rattle.js_eval.specs.Bundle.{schemas_of}
 use Rattle.js_eval.specs.Location.{at_root}
 use Rattle.js_eval.specs.Result.{ResultTree, IsResult, IsWithinLimits}
-use Rattle.js_walk.specs.declared.walking.limits.Limits.{Limits}
+use Rattle.js_eval.specs.declared.evaluation.limits.Limits.{Limits}
 use Rattle.js_output.specs.Cause.{MayGoOn, IsFirstFault}
 use Rattle.js_output.specs.Device.{Tracked, input_limit, Sends, SendsBeginning}
 use Rattle.js_output.specs.Documents.{DocumentTexts, bundle_of}

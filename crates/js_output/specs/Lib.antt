@@ -9,6 +9,7 @@ pub mod Entry
 pub mod Outcome
 pub mod Finished
 pub mod Places
+pub mod Values
 pub mod SuiteText
 pub mod SuiteLines
 pub mod Suite

@@ -6,16 +6,16 @@ use Rattle.js_doc.specs.Compact.{compact}
 use Rattle.js_doc.specs.Value.{Value}
 use Rattle.js_doc.specs.declared.reading.ReadFault.{ReadFault}
 use Rattle.js_tree.specs.Form.{form}
-use Rattle.js_tree.specs.declared.forms.Format.{Format}
-use Rattle.js_tree.specs.declared.forms.Format.TheVariants.{Flag}
+use Rattle.js_tree.specs.declared.formats.Format.{Format}
+use Rattle.js_tree.specs.declared.formats.Format.TheVariants.{Flag}
 use Rattle.js_bundle.specs.Document as bundle
 use Rattle.js_bundle.specs.Resource.{Site}
 use Rattle.js_eval.specs.Bundle.{schemas_of}
 use Rattle.js_eval.specs.Location.{at_root}
 use Rattle.js_eval.specs.Result.{ResultTree, IsResult, IsWithinLimits, standard_limits}
-use Rattle.js_walk.specs.declared.walking.limits.Limits.{Limits}
-use Rattle.js_walk.specs.declared.walking.fault.WalkFault.{WalkFault}
-use Rattle.js_walk.specs.declared.walking.fault.WalkFault.TheVariants as walk_fault
+use Rattle.js_eval.specs.declared.evaluation.limits.Limits.{Limits}
+use Rattle.js_eval.specs.declared.evaluation.fault.WalkFault.{WalkFault}
+use Rattle.js_eval.specs.declared.evaluation.fault.WalkFault.TheVariants as walk_fault
 use Rattle.js_output.specs.Cause.{Causes}
 use Rattle.js_output.specs.Device.{Tracked, input_limit}
 use Rattle.js_output.specs.Documents.{DocumentTexts, documents_causes, bundle_of}

@@ -5,7 +5,7 @@ use Rattle.js_doc.specs.Value.{Value}
 use Rattle.js_bundle.specs.Document as bundle
 use Rattle.js_bundle.specs.Resource.{Site}
 use Rattle.js_eval.specs.Result.{ResultTree, IsWithinLimits, standard_limits}
-use Rattle.js_walk.specs.declared.walking.limits.Limits.{Limits}
+use Rattle.js_eval.specs.declared.evaluation.limits.Limits.{Limits}
 use Rattle.js_output.specs.Cause.{Causes, MayGoOn, IsFirstFault}
 use Rattle.js_output.specs.Device.{Tracked, Sends, SendsBeginning}
 use Rattle.js_output.specs.Documents.{DocumentTexts, absolute_uri, document_under, bundle_of, uri_causes}

@@ -3,11 +3,12 @@ ghost use Rattle.std.specs.Prelude.{◌≡◌, length, OnOk, IfOk, IfErr};
 ghost use Rattle.js_bundle.specs.Adding.{IsAdded};
 ghost use Rattle.js_output.specs.Cause.{MayGoOn, FailsBy};
 ghost use Rattle.js_output.specs.Documents.{documents_of, bundle_of, document_causes, adding_causes, bundle_causes};
-ghost use Rattle.js_output.specs.Documents.{documents_causes};
+ghost use Rattle.js_output.specs.Documents.{documents_causes, unread_document};
 ghost use Rattle.js_output.specs.Outcome.{IsEarlyOrMemory};
 
 use crate::fault::Fault;
-use js_bundle::{Bundle, Schemas};
+use js_bundle::{Bundle, Refusal, RefusalKind, Schemas};
+use js_doc::{Pointer, ReadFault};
 use std::alloc::Global;
 
 /// The documents' schemas, finished, or the first refusal of a document, and then of all.
@@ -30,7 +31,7 @@ fn bundled(alloc: Global, docs: &[(&str, &[u8])]) -> Result<Bundle, Fault>
 {
     let mut bundle = Bundle::new(alloc);
     for document in docs {
-        add_document(&mut bundle, document.0, document.1)?;
+        add_document_text(&mut bundle, document.0, document.1)?;
     }
     Ok(bundle)
 }
@@ -39,7 +40,7 @@ fn bundled(alloc: Global, docs: &[(&str, &[u8])]) -> Result<Bundle, Fault>
 ///
 /// # Errors
 /// `Refused` or `Memory`.
-pub fn add_document(bundle: &mut Bundle, uri: &str, bytes: &[u8]) -> Result<(), Fault>
+pub fn add_document_text(bundle: &mut Bundle, uri: &str, bytes: &[u8]) -> Result<(), Fault>
     ensures ok { OnOk result (IsAdded bundle.old uri.now bytes.now bundle.new) }
     ensures err { IfErr result
         (FailsBy (document_causes (length bundle.old) (uri.now, bytes.now))) }
@@ -62,5 +63,24 @@ pub fn finish_bundle(alloc: Global, bundle: Bundle) -> Result<Schemas, Fault>
     match bundle.finish(alloc) {
         Ok(schemas) => Ok(schemas),
         Err((refusal, _bundle)) => Err(Fault::from(refusal)),
+    }
+}
+
+/// The fault of the document with this number whose text isn't read.
+pub fn unread_document(alloc: Global, document: usize, fault: ReadFault) -> Fault
+    ensures { result ≡ unread_document document fault }
+{
+    match fault {
+        ReadFault::Memory => Fault::Memory,
+        ReadFault::NotJson => Fault::Refused(Refusal {
+            document,
+            place: Pointer::new(alloc),
+            kind: RefusalKind::NotJson,
+        }),
+        ReadFault::NotWhole(place) => Fault::Refused(Refusal {
+            document,
+            place,
+            kind: RefusalKind::NotWhole,
+        }),
     }
 }

@@ -1,8 +1,8 @@
 //! Laws of the definitions that this crate's contracts speak of. Calling one does nothing.
 ghost use Rattle.std.specs.Prelude.{◌≡◌, List, ℕ, Option, Result, ◌↔◌, ◌⊎◌};
 ghost use Rattle.js_bundle.specs.Document.{Documents};
-ghost use Rattle.js_walk.specs.declared.walking.limits.Limits.{Limits};
-ghost use Rattle.js_tree.specs.declared.forms.Format.{Format};
+ghost use Rattle.js_eval.specs.declared.evaluation.limits.Limits.{Limits};
+ghost use Rattle.js_tree.specs.declared.formats.Format.{Format};
 ghost use Rattle.js_output.specs.Cause.{MayGoOn};
 ghost use Rattle.js_output.specs.Device.{Tracked};
 ghost use Rattle.js_output.specs.Documents.{DocumentTexts, bundle_of, documents_causes};

@@ -20,9 +20,10 @@ mod suite_judging;
 mod suite_lines;
 mod suite_text;
 mod text;
+mod values;
 mod writing;
 
-pub use documents::{add_document, finish_bundle};
+pub use documents::{add_document_text, finish_bundle, unread_document};
 pub use fault::{Fault, SuiteFault};
 pub use fault_line::refusal_line;
 pub use finished::{judge, judge_within, run_finished, run_finished_within};
@@ -37,3 +38,4 @@ pub use sink::Sink;
 pub use source::Source;
 pub use suite::{run_suite, run_suite_text};
 pub use suite_lines::Counts;
+pub use values::{push_value_line, value_line};

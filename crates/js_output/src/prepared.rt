@@ -15,8 +15,7 @@ use bumpalo::Bump;
 use js_bundle::{Place, Schemas};
 use js_doc::Doc;
 use js_eval::{Limits, verdict_within, walk_noted_rows_within, walk_rows_within};
-use js_rows::{Locations, RelativeRows, is_surely_merged, kept_rows, merged_tree};
-use js_tree::{Format, Tree};
+use js_tree::{Format, Locations, RelativeRows, Tree, is_surely_merged, kept_rows, merged_tree};
 use std::alloc::Global;
 use std::io::Write;
 

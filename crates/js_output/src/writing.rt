@@ -7,8 +7,7 @@ ghost use Rattle.js_output.specs.code.Prepared.{ArePrepared, IsPrepared};
 
 use crate::prepared::Prepared;
 use js_doc::{Out, Stopped};
-use js_rows::{put_basic, put_verbose};
-use js_tree::{Format, put_flag, put_tree};
+use js_tree::{Format, put_basic, put_flag, put_tree, put_verbose};
 
 /// Writes the compact text, and a line feed. It allocates nothing.
 pub(crate) fn put_line<O: Out>(prepared: Prepared, out: &mut O) -> Result<(), Stopped>

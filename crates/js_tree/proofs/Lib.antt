@@ -33,3 +33,5 @@ pub mod VerdictCollected
 pub mod Differing
 pub mod Ordered
 pub mod Places
+pub mod RowsOfTrees
+pub mod WrittenRows

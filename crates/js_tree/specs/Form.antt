@@ -3,8 +3,8 @@
 use Rattle.std.specs.Prelude.{ℕ, pos, Bool, true, false, not, List, [], ◌∷◌, ◌++◌, map, Option, Some, None, codes}
 use Rattle.js_doc.specs.Value.{Value, truth, whole, text, list, object, items, members}
 use Rattle.js_tree.specs.Forest.{Forest, empty, tree}
-use Rattle.js_tree.specs.declared.forms.Format.{Format}
-use Rattle.js_tree.specs.declared.forms.Format.TheVariants.{Flag, Basic, Detailed, Merged, Verbose}
+use Rattle.js_tree.specs.declared.formats.Format.{Format}
+use Rattle.js_tree.specs.declared.formats.Format.TheVariants.{Flag, Basic, Detailed, Merged, Verbose}
 use Rattle.js_tree.specs.MergedResult.{merged}
 use Rattle.js_tree.specs.Note as note
 use Rattle.js_tree.specs.OutputUnit.{OutputUnit}

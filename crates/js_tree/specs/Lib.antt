@@ -16,8 +16,9 @@ pub mod Note
 pub mod OutputUnit
 pub mod Pruned
 pub mod Result
-pub mod Seen
 pub mod Rewrite
+pub mod Rows
+pub mod Seen
 pub mod Sublist
 pub mod Trimmed
 pub mod Units

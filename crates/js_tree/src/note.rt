@@ -110,7 +110,7 @@ impl<'a> Note<'a> {
 
     /// Ends a silent note, which owns nothing: cheaper than a drop, which looks for what to free.
     #[inline(always)]
-    pub fn end_silent(self)
+    pub(crate) fn end_silent(self)
         requires { speaks (note_of self) ≡ false }
     {
         match self {

@@ -1,5 +1,5 @@
 //! What is left of a tree or of the rows of a flat form: pruning, condensing by two rules, merging with a third, the
-//! single steps of these rules, and the noted units.
+//! single steps of these rules, and the noted units. The program calls `merging` alone: it prunes and condenses `rows`.
 
 pub(crate) mod compacting;
 pub(crate) mod condensing;

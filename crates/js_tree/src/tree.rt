@@ -108,7 +108,12 @@ impl<'a> Tree<'a> {
     ghost use Rattle.js_tree.specs.Forest.{forest_of};
 
     /// The tree of a node with these locations, this verdict and this note, over these children. Allocates nothing.
-    pub fn of_node(head: Head, valid: bool, note: Note<'a>, children: Vec<Tree<'a>>) -> Tree<'a>
+    pub(crate) fn of_node(
+        head: Head,
+        valid: bool,
+        note: Note<'a>,
+        children: Vec<Tree<'a>>,
+    ) -> Tree<'a>
         ensures { result ≡ record {
           root = record {
             valid = valid;

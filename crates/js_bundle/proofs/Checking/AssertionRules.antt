@@ -16,9 +16,9 @@ use Rattle.js_bundle.specs.declared.check.fault.CheckFault.{CheckFault}
 use Rattle.js_bundle.specs.declared.check.fault.CheckFault.TheVariants.{Memory, Refused}
 use Rattle.js_bundle.specs.Candidate.{Candidate, IsClear, IsStopped}
 use Rattle.js_bundle.specs.Finding.{IsRefusalOrMemory}
-use Rattle.js_places.specs.Keyword.{Text}
+use Rattle.js_bundle.specs.Keyword.{Text}
 use Rattle.js_bundle.specs.Refusals.{refusal_at, decided, given, when, on_text, at_pattern, assertion_rules}
-use Rattle.js_places.specs.Resource.{Site}
+use Rattle.js_bundle.specs.Resource.{Site}
 use Rattle.js_doc.specs.Pointer.{Tokens}
 use Rattle.js_bundle.proofs.Checking.CheckStops.{stopped_here}
 use Rattle.js_bundle.proofs.Checking.PassNext.{refused_one}

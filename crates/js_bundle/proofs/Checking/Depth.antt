@@ -10,12 +10,12 @@ use Rattle.js_assert.specs.Pattern.{is_in_grammar, nests_too_deep}
 use Rattle.js_bundle.specs.declared.refusal.RefusalKind.TheVariants.{BadKeyword}
 use Rattle.js_bundle.specs.Candidate.{IsClear}
 use Rattle.js_bundle.specs.Depth.{patterns_held, IsShallow, AreShallow, HasShallow, NoneTooDeep}
-use Rattle.js_places.specs.Document.{Documents}
+use Rattle.js_bundle.specs.Document.{Documents}
 use Rattle.js_bundle.specs.Shape.{is_shaped}
-use Rattle.js_places.specs.Keyword.{Text, as_text}
+use Rattle.js_bundle.specs.Keyword.{Text, as_text}
 use Rattle.js_bundle.specs.Refusals.{when, decided, on_text, at_pattern, assertion_rules, text_rules, name_rules}
 use Rattle.js_bundle.specs.Refusals.{at_place, at_member, at_site, first_pass, second_pass, candidates}
-use Rattle.js_places.specs.Resource.{Site, sites}
+use Rattle.js_bundle.specs.Resource.{Site, sites}
 use Rattle.js_bundle.proofs.Checking.AssertionRules.{at_bools, at_pattern-is}
 use Rattle.js_bundle.proofs.Checking.CheckStops.{clear_here, clear_there}
 

@@ -8,16 +8,16 @@ use Rattle.js_doc.specs.declared.reading.ReadFault.TheVariants as read_fault
 use Rattle.js_bundle.specs.declared.refusal.Refusal.{Refusal}
 use Rattle.js_bundle.specs.declared.refusal.RefusalKind.{RefusalKind}
 use Rattle.js_bundle.specs.declared.refusal.RefusalKind.TheVariants as kind
-use Rattle.js_places.specs.declared.document.Document as rust
+use Rattle.js_bundle.specs.declared.document.Document as rust
 use Rattle.js_doc.specs.Pointer.{Tokens}
 use Rattle.js_doc.specs.Seen.{value_of}
 use Rattle.js_doc.specs.declared.doc.Doc.{Doc}
 use Rattle.js_bundle.specs.Adding.{most_documents, IsUriOf, IsTaken, IsAdded, IsUnder, IsAddedAs, IsKind}
 use Rattle.js_bundle.specs.Adding.{IsRefusedBy, IsUriKind, IsUriRefusedBy, refusal_of_read}
-use Rattle.js_places.specs.Document.{Documents}
-use Rattle.js_places.specs.Keyword.{Text}
-use Rattle.js_places.specs.Url.{longest_uri}
-use Rattle.js_places.specs.Seen.{document_of}
+use Rattle.js_bundle.specs.Document.{Documents}
+use Rattle.js_bundle.specs.Keyword.{Text}
+use Rattle.js_bundle.specs.Url.{longest_uri}
+use Rattle.js_bundle.specs.Seen.{document_of}
 
 unread_at : (earlier : ℕ) (uri : Text) (bytes : List ℕ) (u : Parts) (fault : ReadFault) → earlier < most_documents
     → length uri ≤ longest_uri → IsUriOf uri u → IsReadFault bytes fault

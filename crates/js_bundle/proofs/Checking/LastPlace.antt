@@ -2,10 +2,10 @@
 use Rattle.std.proofs.Common.{◌≡◌, ◌+◌, ◌-◌, ◌<◌, ℕ, List, [], ◌∷◌, ◌++◌, Some, map, take, get_or}
 use Rattle.std.proofs.Common.{length, slice_get, refl, sym, ap, ◌∙◌, arith}
 use Rattle.std.proofs.lemmas.List.{length-append}
-use Rattle.js_places.specs.declared.scan.site.Site as rust
-use Rattle.js_places.specs.code.Positions.{IsLast}
-use Rattle.js_places.specs.code.Scan.{site_of}
-use Rattle.js_places.proofs.Indexing.PlaceNext.{map_take_more}
+use Rattle.js_bundle.specs.declared.scan.site.Site as rust
+use Rattle.js_bundle.specs.code.Positions.{IsLast}
+use Rattle.js_bundle.specs.code.Scan.{site_of}
+use Rattle.js_bundle.proofs.Indexing.PlaceNext.{map_take_more}
 
 last_there : {A : Type 0} (xs : List A) (x : A) → slice_get (xs ++ x ∷ []) (length xs) ≡ Some x
 last_there [] x = refl

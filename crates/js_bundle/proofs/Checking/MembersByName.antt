@@ -3,7 +3,7 @@ use Rattle.std.proofs.Common.{◌≡◌, [], ◌∷◌, Some, None, sym, ap, ◌
 use Rattle.js_doc.specs.Members.{get, IsAscending}
 use Rattle.js_doc.specs.Value.{Value, Named, object, members}
 use Rattle.js_doc.proofs.FiniteMaps.{get_past, get_here, get_below}
-use Rattle.js_places.specs.Keyword.{Text, argument}
+use Rattle.js_bundle.specs.Keyword.{Text, argument}
 use Rattle.js_doc.proofs.PartLists.{member_list-members}
 
 pub ruleset listed_members = (member_list-members)

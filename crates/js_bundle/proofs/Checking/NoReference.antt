@@ -3,16 +3,16 @@ use Rattle.std.proofs.Common.{◌≡◌, List, [], ◌∷◌, ◌++◌, Bool, tr
 use Rattle.std.proofs.Common.{option_and_then, refl, ap, subst}
 use Rattle.std.specs.List.{list_any}
 use Rattle.js_bundle.specs.Candidate.{IsClear}
-use Rattle.js_places.specs.Finding.{number_named}
+use Rattle.js_bundle.specs.code.PlaceNumbers.{number_named}
 use Rattle.js_bundle.specs.Finding.{number_of_target, dynamic_by, dynamic_at}
-use Rattle.js_places.specs.declared.keyword_name.KeywordName.{KeywordName}
-use Rattle.js_places.specs.declared.keyword_name.KeywordName.TheVariants.{Ref, DynamicRef}
-use Rattle.js_places.specs.contracts.keyword_name.KeywordNamePartialEq.TheImpl.{ghosts}
-use Rattle.js_places.specs.Keyword.{Text, text_argument}
-use Rattle.js_places.specs.KeywordName.{keyword_name, member_keywords}
+use Rattle.js_bundle.specs.declared.keyword_name.KeywordName.{KeywordName}
+use Rattle.js_bundle.specs.declared.keyword_name.KeywordName.TheVariants.{Ref, DynamicRef}
+use Rattle.js_bundle.specs.contracts.keyword_name.KeywordNamePartialEq.TheImpl.{ghosts}
+use Rattle.js_bundle.specs.Keyword.{Text, text_argument}
+use Rattle.js_bundle.specs.KeywordName.{keyword_name, member_keywords}
 use Rattle.js_bundle.specs.Refusals.{at_reference_text, at_references}
-use Rattle.js_places.specs.Resource.{Site, joined}
-use Rattle.js_places.proofs.Indexing.NoKeyword.{no_text}
+use Rattle.js_bundle.specs.Resource.{Site, joined}
+use Rattle.js_bundle.proofs.Indexing.NoKeyword.{no_text}
 
 named_ref : ghosts.eq (keyword_name (codes "$ref")) Ref ≡ true
 unfolding keyword_name

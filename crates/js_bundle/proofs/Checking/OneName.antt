@@ -18,25 +18,25 @@ use Rattle.js_bundle.specs.declared.refusal.RefusalKind.TheVariants.{BadAnchor, 
 use Rattle.js_bundle.specs.declared.refusal.RefusalKind.TheVariants.{DuplicateAnchor, DuplicateUri, NotASchema}
 use Rattle.js_bundle.specs.declared.refusal.RefusalKind.TheVariants.{TooManyPlaces, UriTooLong}
 use Rattle.js_bundle.specs.Candidate.{IsClear}
-use Rattle.js_places.specs.Document.{Documents}
+use Rattle.js_bundle.specs.Document.{Documents}
 use Rattle.js_bundle.specs.Shape.{is_shaped, is_schema}
-use Rattle.js_places.specs.Keyword.{Text, argument, as_text}
+use Rattle.js_bundle.specs.Keyword.{Text, argument, as_text}
 use Rattle.js_bundle.specs.NameLaws.{AreOne}
-use Rattle.js_places.specs.Names.{same_tokens, is_root, is_known_as, root_named, stands_at}
-use Rattle.js_places.specs.Names.{belongs_to, makes, by_pointer, by_anchor, by_dynamic_anchor}
-use Rattle.js_places.specs.Names.{is_pointer, is_named_by, names, is_anchor_name}
-use Rattle.js_places.specs.Place.{SchemaPlace, places_from}
+use Rattle.js_bundle.specs.Names.{same_tokens, is_root, is_known_as, root_named, stands_at}
+use Rattle.js_bundle.specs.Names.{belongs_to, makes, by_pointer, by_anchor, by_dynamic_anchor}
+use Rattle.js_bundle.specs.Names.{is_pointer, is_named_by, names, is_anchor_name}
+use Rattle.js_bundle.specs.Place.{SchemaPlace, places_from}
 use Rattle.js_bundle.specs.Refusals.{when, decided, is_taken, is_made, text_rules, name_rules}
 use Rattle.js_bundle.specs.Refusals.{assertion_rules, at_joined_id, at_id, at_place, at_member, at_site}
 use Rattle.js_bundle.specs.Refusals.{first_pass, second_pass, candidates, most_places}
-use Rattle.js_places.specs.Url.{is_empty}
-use Rattle.js_places.specs.Resource.{Site, site, sites, joined, identified_by, identified, scope_or}
-use Rattle.js_places.specs.Seen.{AreRead}
-use Rattle.js_places.specs.Url.{longest_uri, without_fragment, printed, raw_fragment, decoded_fragment, parsed}
-use Rattle.js_places.proofs.Listing.EachListedOnce.{at_place as standing_at, number_of, tokens-sound}
+use Rattle.js_bundle.specs.Url.{is_empty}
+use Rattle.js_bundle.specs.Resource.{Site, site, sites, joined, identified_by, identified, scope_or}
+use Rattle.js_bundle.specs.Seen.{AreRead}
+use Rattle.js_bundle.specs.Url.{longest_uri, without_fragment, printed, raw_fragment, decoded_fragment, parsed}
+use Rattle.js_bundle.proofs.Listing.EachListedOnce.{at_place as standing_at, number_of, tokens-sound}
 use Rattle.js_bundle.proofs.Finding.HeldIsFound.{get_among}
-use Rattle.js_places.proofs.Listing.LeastSetListed.{Among}
-use Rattle.js_places.proofs.Standing.{made_at}
+use Rattle.js_bundle.proofs.Listing.LeastSetListed.{Among}
+use Rattle.js_bundle.proofs.Standing.{made_at}
 use Rattle.js_bundle.proofs.Checking.CheckStops.{clear_here, clear_there}
 use Rattle.js_bundle.proofs.Checking.TargetsFound.{never, not_when, clear_among}
 

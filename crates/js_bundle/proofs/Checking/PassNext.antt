@@ -2,24 +2,24 @@
 use Rattle.std.proofs.Common.{◌≡◌, ℕ, ◌+◌, ◌<◌, List, [], ◌∷◌, ◌++◌, map, take, drop, get_or, length, sym, ap}
 use Rattle.std.proofs.Common.{◌∙◌, subst, true, false, is_none, inl, Ok, Some, None}
 use Rattle.std.specs.List.{flat_map}
-use Rattle.js_places.proofs.Indexing.PlaceNext.{map_drop_more, map_take_more}
-use Rattle.js_places.specs.declared.scan.site.Site as rust
+use Rattle.js_bundle.proofs.Indexing.PlaceNext.{map_drop_more, map_take_more}
+use Rattle.js_bundle.specs.declared.scan.site.Site as rust
 use Rattle.js_bundle.specs.declared.refusal.Refusal.{Refusal}
 use Rattle.js_bundle.specs.declared.refusal.RefusalKind.TheVariants.{Unresolved}
 use Rattle.js_bundle.specs.declared.check.fault.CheckFault.{CheckFault}
 use Rattle.js_bundle.specs.declared.check.fault.CheckFault.TheVariants.{Memory, Refused}
 use Rattle.js_bundle.specs.Candidate.{Candidate, IsClear, IsStopped}
-use Rattle.js_places.specs.Finding.{number_named}
+use Rattle.js_bundle.specs.code.PlaceNumbers.{number_named}
 use Rattle.js_bundle.specs.Finding.{IsRefusalOrMemory}
 use Rattle.js_bundle.specs.code.Leads.{Leads}
-use Rattle.js_places.specs.Names.{names, named, is_read}
+use Rattle.js_bundle.specs.Names.{names, named, is_read}
 use Rattle.js_bundle.specs.Refusals.{at_joined_reference, refusal_at, at_site, first_pass}
-use Rattle.js_places.specs.Url.{decoded_fragment}
-use Rattle.js_places.proofs.Indexing.FoundByText.{none_alike}
+use Rattle.js_bundle.specs.Url.{decoded_fragment}
+use Rattle.js_bundle.proofs.Indexing.FoundByText.{none_alike}
 use Rattle.js_doc.specs.Pointer.{Tokens}
 use Rattle.url.specs.Parts.{Parts}
-use Rattle.js_places.specs.Resource.{Site}
-use Rattle.js_places.specs.code.Scan.{site_of}
+use Rattle.js_bundle.specs.Resource.{Site}
+use Rattle.js_bundle.specs.code.Scan.{site_of}
 
 -- ---- the first pass, one place more
 

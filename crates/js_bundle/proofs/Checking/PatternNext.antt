@@ -3,7 +3,7 @@ use Rattle.std.proofs.Common.{◌≡◌, List, [], ◌∷◌, ◌++◌, map, ap,
 use Rattle.js_doc.specs.Value.{Value}
 use Rattle.js_bundle.specs.declared.check.assertions_and_patterns.BuiltPattern.{BuiltPattern}
 use Rattle.js_bundle.specs.AssertionsAndPatterns.{pattern_at}
-use Rattle.js_places.specs.Keyword.{Text}
+use Rattle.js_bundle.specs.Keyword.{Text}
 
 pub pattern_next : (old new : List BuiltPattern) (name pattern key : Text) (value : Value) (ms : List (Text × Value))
     (all : List BuiltPattern)

@@ -6,15 +6,15 @@ use Rattle.url.specs.Parts.{Parts}
 use Rattle.url.specs.Parser.{parse_url}
 use Rattle.js_bundle.specs.declared.check.fault.CheckFault.{CheckFault}
 use Rattle.js_bundle.specs.Candidate.{IsStopped}
-use Rattle.js_places.specs.Finding.{number_named}
+use Rattle.js_bundle.specs.code.PlaceNumbers.{number_named}
 use Rattle.js_bundle.specs.Finding.{dynamic_as, dynamic_by}
-use Rattle.js_places.specs.Keyword.{Text, text_argument}
-use Rattle.js_places.specs.Names.{makes, names, named}
+use Rattle.js_bundle.specs.Keyword.{Text, text_argument}
+use Rattle.js_bundle.specs.Names.{makes, names, named}
 use Rattle.js_bundle.specs.Refusals.{at_reference, at_reference_text}
-use Rattle.js_places.specs.Resource.{Site, joined}
-use Rattle.js_places.specs.Target.{reference}
-use Rattle.js_places.specs.Url.{longest_uri, decoded_fragment, parsed}
-use Rattle.js_places.proofs.Indexing.FoundByText.{found_at}
+use Rattle.js_bundle.specs.Resource.{Site, joined}
+use Rattle.js_bundle.specs.Target.{reference}
+use Rattle.js_bundle.specs.Url.{longest_uri, decoded_fragment, parsed}
+use Rattle.js_bundle.proofs.Indexing.FoundByText.{found_at}
 
 -- a text that is joined to a URL
 joined_is : (base : Parts) (t : Text) (u : Parts) → nat_lt longest_uri (length t) ≡ false

@@ -8,13 +8,13 @@ use Rattle.js_doc.specs.Parts.{members_of}
 use Rattle.js_bundle.specs.declared.check.fault.CheckFault.{CheckFault}
 use Rattle.js_bundle.specs.declared.refusal.RefusalKind.TheVariants.{TooManyPlaces, NotASchema, DuplicateUri}
 use Rattle.js_bundle.specs.Candidate.{IsClear, IsStopped}
-use Rattle.js_places.specs.Document.{Documents}
+use Rattle.js_bundle.specs.Document.{Documents}
 use Rattle.js_bundle.specs.Shape.{is_schema}
-use Rattle.js_places.specs.Names.{is_root}
+use Rattle.js_bundle.specs.Names.{is_root}
 use Rattle.js_bundle.specs.Refusals.{when, decided, is_taken, most_places, at_place, at_member}
 use Rattle.js_bundle.specs.Refusals.{at_site, first_pass, second_pass, candidates}
-use Rattle.js_places.specs.Resource.{Site, sites}
-use Rattle.js_places.specs.code.Scan.{most_sites, scanned}
+use Rattle.js_bundle.specs.Resource.{Site, sites}
+use Rattle.js_bundle.specs.code.Scan.{most_sites, scanned}
 use Rattle.js_bundle.proofs.Checking.CheckStops.{clear_here, clear_there, clear_append, stopped_here, stopped_later}
 
 -- the first pass over places, and over those after them

@@ -12,23 +12,23 @@ use Rattle.js_doc.specs.Parts.{members_of}
 use Rattle.js_bundle.specs.declared.refusal.RefusalKind.{RefusalKind}
 use Rattle.js_bundle.specs.declared.refusal.RefusalKind.TheVariants.{BadKeyword, BadReference, Unresolved, UriTooLong}
 use Rattle.js_bundle.specs.Candidate.{Candidate, IsClear}
-use Rattle.js_places.specs.Document.{Documents}
-use Rattle.js_places.specs.Finding.{number_named}
+use Rattle.js_bundle.specs.Document.{Documents}
+use Rattle.js_bundle.specs.code.PlaceNumbers.{number_named}
 use Rattle.js_bundle.specs.Finding.{number_of_target}
 use Rattle.js_assert.specs.Shape.{is_string}
 use Rattle.js_bundle.specs.Shape.{text_keywords, is_shaped}
-use Rattle.js_places.specs.Keyword.{Text, argument, has_argument, as_text, text_argument}
-use Rattle.js_places.specs.Names.{names, named, is_read}
+use Rattle.js_bundle.specs.Keyword.{Text, argument, has_argument, as_text, text_argument}
+use Rattle.js_bundle.specs.Names.{names, named, is_read}
 use Rattle.js_bundle.specs.Refusals.{when, decided, assertion_rules, on_text, text_rules, name_rules, at_place}
 use Rattle.js_bundle.specs.Refusals.{at_member, at_site, first_pass, at_joined_reference, at_reference_text}
 use Rattle.js_bundle.specs.Refusals.{at_reference, at_references, second_pass, candidates}
-use Rattle.js_places.specs.Resource.{Site, sites, joined}
-use Rattle.js_places.specs.Target.{reference, first_target}
-use Rattle.js_places.specs.Url.{longest_uri, parsed, decoded_fragment}
+use Rattle.js_bundle.specs.Resource.{Site, sites, joined}
+use Rattle.js_bundle.specs.Target.{reference, first_target}
+use Rattle.js_bundle.specs.Url.{longest_uri, parsed, decoded_fragment}
 use Rattle.js_bundle.proofs.Finding.HeldIsFound.{get_among}
-use Rattle.js_places.proofs.Listing.LeastSetListed.{Among}
-use Rattle.js_places.proofs.Indexing.FoundByText.{none_alike}
-use Rattle.js_places.proofs.Indexing.FirstFound.{number_finds}
+use Rattle.js_bundle.proofs.Listing.LeastSetListed.{Among}
+use Rattle.js_bundle.proofs.Indexing.FoundByText.{none_alike}
+use Rattle.js_bundle.proofs.Indexing.FirstFound.{number_finds}
 use Rattle.js_bundle.proofs.Checking.CheckStops.{clear_here, clear_there}
 
 -- ---- what is clear at one of several

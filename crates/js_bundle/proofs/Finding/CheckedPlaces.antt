@@ -7,9 +7,9 @@ use Rattle.std.proofs.lemmas.List.FromFn.{map-range_with_len_more}
 use Rattle.std.specs.List.{range_with_len}
 use Rattle.std.proofs.lemmas.Option.{slice_get-map, slice_get-get_or}
 use Rattle.js_bundle.specs.declared.check.checked_site.CheckedSite as rust
-use Rattle.js_places.specs.Document.{Documents}
-use Rattle.js_places.specs.Resource.{Site, sites}
-use Rattle.js_places.specs.PlaceNumber.{is_place, place_at}
+use Rattle.js_bundle.specs.Document.{Documents}
+use Rattle.js_bundle.specs.Resource.{Site, sites}
+use Rattle.js_bundle.specs.PlaceNumber.{is_place, place_at}
 use Rattle.js_bundle.specs.code.CheckedSite.{checked_site, checked_site_of}
 
 -- ---- lists with an entry for each place

@@ -11,21 +11,21 @@ use Rattle.url.specs.Parts.{Parts}
 use Rattle.js_doc.proofs.TokenLookup.{is_text-sound}
 use Rattle.js_bundle.specs.declared.check.references.DynamicReference.{DynamicReference}
 use Rattle.js_bundle.specs.Candidate.{IsClear}
-use Rattle.js_places.specs.code.SparseList.{IsSparseList}
-use Rattle.js_places.specs.Document.{Documents}
+use Rattle.js_bundle.specs.code.SparseList.{IsSparseList}
+use Rattle.js_bundle.specs.Document.{Documents}
 use Rattle.js_bundle.specs.Finding.{number_of_target, goes_by_name, dynamic_as, dynamic_at, scope_name, IsFirstTarget}
-use Rattle.js_places.specs.Keyword.{Text, has_argument, text_argument}
-use Rattle.js_places.specs.Names.{belongs_to, makes}
+use Rattle.js_bundle.specs.Keyword.{Text, has_argument, text_argument}
+use Rattle.js_bundle.specs.Names.{belongs_to, makes}
 use Rattle.js_bundle.specs.Refusals.{candidates}
-use Rattle.js_places.specs.Resource.{Site, sites}
-use Rattle.js_places.specs.PlaceNumber.{is_place, place_at}
+use Rattle.js_bundle.specs.Resource.{Site, sites}
+use Rattle.js_bundle.specs.PlaceNumber.{is_place, place_at}
 use Rattle.js_bundle.specs.Schemas.{has_keyword, StandsFor, Finds}
 use Rattle.js_bundle.specs.code.CheckedSite.{CheckedSite, checked_site}
-use Rattle.js_places.specs.Target as spec
-use Rattle.js_places.specs.Url.{decoded_fragment}
+use Rattle.js_bundle.specs.Target as spec
+use Rattle.js_bundle.specs.Url.{decoded_fragment}
 use Rattle.js_bundle.proofs.Finding.NumbersStandForPlaces.{finds_place}
 use Rattle.js_bundle.proofs.Finding.ListedUnderNumber.{has_listed, has_target, listed_under, not_missing}
-use Rattle.js_places.proofs.Indexing.PartsOfPlaces.{there}
+use Rattle.js_bundle.proofs.Indexing.PartsOfPlaces.{there}
 use Rattle.js_bundle.proofs.Checking.TargetsFound.{first_target_there, number_is_target}
 
 -- ---- a search by numbers, one number on

@@ -2,9 +2,9 @@
 use Rattle.std.proofs.Common.{◌≡◌, ℕ, List, true, Option, Some, None, is_some, option_map, codes, refl, ap}
 use Rattle.js_bundle.specs.FindingLaws.{EachIsFound}
 use Rattle.js_bundle.specs.Finding.{number_of_target}
-use Rattle.js_places.specs.Keyword.{Text}
-use Rattle.js_places.specs.Resource.{Site, sites}
-use Rattle.js_places.specs.Target.{reference, first_target, dynamic_of}
+use Rattle.js_bundle.specs.Keyword.{Text}
+use Rattle.js_bundle.specs.Resource.{Site, sites}
+use Rattle.js_bundle.specs.Target.{reference, first_target, dynamic_of}
 use Rattle.js_bundle.proofs.Finding.HeldIsFound.{held}
 use Rattle.js_bundle.proofs.Checking.TargetsFound.{target_there, first_target_there, number_is_target}
 

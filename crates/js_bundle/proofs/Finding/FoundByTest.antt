@@ -16,12 +16,12 @@ use Rattle.js_assert.specs.Keyword.{keyword_named, name_of}
 use Rattle.js_assert.proofs.KeywordNames.{named-name_of}
 use Rattle.js_bundle.specs.declared.check.assertions_and_patterns.BuiltPattern.{BuiltPattern}
 use Rattle.js_bundle.specs.AssertionsAndPatterns.{assertions_at, pattern_at, patterns_of, patterns_at}
-use Rattle.js_places.specs.Keyword.{Text, argument}
-use Rattle.js_places.specs.Resource.{Site}
+use Rattle.js_bundle.specs.Keyword.{Text, argument}
+use Rattle.js_bundle.specs.Resource.{Site}
 use Rattle.js_bundle.specs.Schemas.{assertion, pattern}
-use Rattle.js_places.proofs.Indexing.FirstFound.{get_first}
-use Rattle.js_places.proofs.Listing.LeastSetListed.{Among}
-use Rattle.js_places.proofs.Listing.PlacesApart.{below_all, less_apart}
+use Rattle.js_bundle.proofs.Indexing.FirstFound.{get_first}
+use Rattle.js_bundle.proofs.Listing.LeastSetListed.{Among}
+use Rattle.js_bundle.proofs.Listing.PlacesApart.{below_all, less_apart}
 
 -- ---- what was built of a place
 

@@ -10,30 +10,30 @@ use Rattle.js_doc.specs.Members.{name_cmp, NamesAscend, NamesAscendInMembers}
 use Rattle.js_doc.specs.Pointer.{Tokens}
 use Rattle.js_doc.specs.Value.{Value, null, truth, whole, text, list, object, Members, no_members, member}
 use Rattle.js_doc.specs.Parts.{member_list}
-use Rattle.js_places.specs.declared.index.edges.Edges.{Edges}
-use Rattle.js_places.specs.declared.scan.holding.Holding.TheVariants.{One, Listed, Named, Nothing}
-use Rattle.js_places.specs.declared.keyword_name.KeywordName.{KeywordName}
+use Rattle.js_bundle.specs.declared.index.edges.Edges.{Edges}
+use Rattle.js_bundle.specs.declared.scan.holding.Holding.TheVariants.{One, Listed, Named, Nothing}
+use Rattle.js_bundle.specs.declared.keyword_name.KeywordName.{KeywordName}
 use Rattle.js_bundle.specs.declared.check.checked_site.CheckedSite as rust
-use Rattle.js_places.specs.Document.{Documents}
-use Rattle.js_places.specs.Keyword.{Text, argument}
-use Rattle.js_places.specs.KeywordName.{keyword_name}
-use Rattle.js_places.specs.Names.{stands_at}
-use Rattle.js_places.specs.Place.{holding, items_in, Located, SchemaPlace, places_held, places_at, places_in_list}
-use Rattle.js_places.specs.Place.{places_in_object, places_of_members, places_from, places_of_keywords}
-use Rattle.js_places.specs.Resource.{Site, site, sites}
-use Rattle.js_places.specs.PlaceNumber.{place_at}
+use Rattle.js_bundle.specs.Document.{Documents}
+use Rattle.js_bundle.specs.Keyword.{Text, argument}
+use Rattle.js_bundle.specs.KeywordName.{keyword_name}
+use Rattle.js_bundle.specs.Names.{stands_at}
+use Rattle.js_bundle.specs.Place.{holding, items_in, Located, SchemaPlace, places_held, places_at, places_in_list}
+use Rattle.js_bundle.specs.Place.{places_in_object, places_of_members, places_from, places_of_keywords}
+use Rattle.js_bundle.specs.Resource.{Site, site, sites}
+use Rattle.js_bundle.specs.PlaceNumber.{place_at}
 use Rattle.js_bundle.specs.Schemas.{Finds, Holds, Step, Alone, Index, Name, step_tokens, below}
-use Rattle.js_places.specs.Seen.{AreRead}
-use Rattle.js_places.specs.code.Edges.{count, edges_from, edges_of, held_by_place, numbers_held, numbers_of_members}
+use Rattle.js_bundle.specs.Seen.{AreRead}
+use Rattle.js_bundle.specs.code.Edges.{count, edges_from, edges_of, held_by_place, numbers_held, numbers_of_members}
 use Rattle.js_bundle.specs.code.PlaceBelow.{numbers_of_keyword, stands_before, ends_before, IsRankOf, IsNumberAt}
 use Rattle.js_bundle.specs.code.CheckedSite.{CheckedSite, checked_site, checked_site_of}
-use Rattle.js_places.proofs.Listing.PlacesCounted.{StandsFrom, root_of, rest_there}
-use Rattle.js_places.proofs.Listing.EachListedOnce.{number_of}
+use Rattle.js_bundle.proofs.Listing.PlacesCounted.{StandsFrom, root_of, rest_there}
+use Rattle.js_bundle.proofs.Listing.EachListedOnce.{number_of}
 use Rattle.js_bundle.proofs.Finding.HeldIsFound.{held}
 use Rattle.js_bundle.proofs.Finding.HeldHasNumber.{StandsAt, head_there, item_there, member_there}
 use Rattle.js_bundle.proofs.Finding.HeldHasNumber.{KeywordThere, keyword_there}
 use Rattle.js_bundle.proofs.Finding.RankOfName.{rank_there, before_rank, from_rank, last_token, some_is}
-use Rattle.js_places.proofs.Standing.{standing, made_at}
+use Rattle.js_bundle.proofs.Standing.{standing, made_at}
 
 holds_alone : (k : Text) → holding k ≡ One → ¬ (holding k ≡ Nothing)
 holds_alone k e n = let x : One ≡ Nothing = sym e ∙ n in absurd (cc)

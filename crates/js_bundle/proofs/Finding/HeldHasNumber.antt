@@ -12,21 +12,21 @@ use Rattle.js_doc.specs.Value.{no_items, item, Members, no_members, member}
 use Rattle.js_doc.specs.Parts.{member_list}
 use Rattle.js_doc.proofs.TokenLookup.{is_text-refl, is_text-sound}
 use Rattle.js_assert.specs.Keyword as assertion
-use Rattle.js_places.specs.contracts.keyword_name.KeywordNamePartialEq.TheImpl.{ghosts}
-use Rattle.js_places.specs.declared.scan.holding.Holding.{Holding}
-use Rattle.js_places.specs.declared.scan.holding.Holding.TheVariants.{One, Listed, Named, Nothing}
-use Rattle.js_places.specs.Keyword.{Text}
-use Rattle.js_places.specs.KeywordName.{keyword_name}
-use Rattle.js_places.specs.Place.{one_schema, list_of_schemas, object_of_schemas, holding, values, Located}
-use Rattle.js_places.specs.Place.{SchemaPlace, places_held, places_at, places_of_keywords, places_in_list}
-use Rattle.js_places.specs.Place.{places_of_items, places_in_object, places_of_members}
-use Rattle.js_places.specs.code.Edges.{HeldNumbers, count, count_of_keyword, one_entry, numbers_held}
-use Rattle.js_places.specs.code.Edges.{numbers_of_items, numbers_of_members, held_by_keywords}
+use Rattle.js_bundle.specs.contracts.keyword_name.KeywordNamePartialEq.TheImpl.{ghosts}
+use Rattle.js_bundle.specs.declared.scan.holding.Holding.{Holding}
+use Rattle.js_bundle.specs.declared.scan.holding.Holding.TheVariants.{One, Listed, Named, Nothing}
+use Rattle.js_bundle.specs.Keyword.{Text}
+use Rattle.js_bundle.specs.KeywordName.{keyword_name}
+use Rattle.js_bundle.specs.Place.{one_schema, list_of_schemas, object_of_schemas, holding, values, Located}
+use Rattle.js_bundle.specs.Place.{SchemaPlace, places_held, places_at, places_of_keywords, places_in_list}
+use Rattle.js_bundle.specs.Place.{places_of_items, places_in_object, places_of_members}
+use Rattle.js_bundle.specs.code.Edges.{HeldNumbers, count, count_of_keyword, one_entry, numbers_held}
+use Rattle.js_bundle.specs.code.Edges.{numbers_of_items, numbers_of_members, held_by_keywords}
 use Rattle.js_bundle.specs.code.PlaceBelow.{numbers_of_keyword}
-use Rattle.js_places.proofs.Listing.PlacesCounted.{StandsFrom, first_there, front_there, back_there}
-use Rattle.js_places.proofs.Listing.PlacesCounted.{place_count, keyword_count}
-use Rattle.js_places.proofs.Listing.LeastSetListed.{Among}
-use Rattle.js_places.proofs.Indexing.FirstFound.{get_first}
+use Rattle.js_bundle.proofs.Listing.PlacesCounted.{StandsFrom, first_there, front_there, back_there}
+use Rattle.js_bundle.proofs.Listing.PlacesCounted.{place_count, keyword_count}
+use Rattle.js_bundle.proofs.Listing.LeastSetListed.{Among}
+use Rattle.js_bundle.proofs.Indexing.FirstFound.{get_first}
 use Rattle.js_bundle.proofs.Finding.RankOfName.{some_first, some_is}
 
 -- ---- the keywords that hold schemas are distinguished by which keyword of the standard they are

@@ -10,19 +10,19 @@ use Rattle.js_doc.specs.Pointer.{Tokens}
 use Rattle.js_doc.specs.Value.{Value}
 use Rattle.js_doc.specs.Parts.{members_of}
 use Rattle.js_doc.proofs.TokenLookup.{is_text-sound}
-use Rattle.js_places.specs.Document.{Document, Documents}
-use Rattle.js_places.specs.Keyword.{Text}
-use Rattle.js_places.specs.Names.{stands_at}
-use Rattle.js_places.specs.Place.{holding, IsPlace, in_keyword, in_list, in_object, SchemaPlace, places_at, places_from}
-use Rattle.js_places.specs.PlaceLaws.{ListsPlace}
-use Rattle.js_places.specs.Resource.{Site, site, sites}
-use Rattle.js_places.specs.PlaceNumber.{place_at}
+use Rattle.js_bundle.specs.Document.{Document, Documents}
+use Rattle.js_bundle.specs.Keyword.{Text}
+use Rattle.js_bundle.specs.Names.{stands_at}
+use Rattle.js_bundle.specs.Place.{holding, IsPlace, in_keyword, in_list, in_object, SchemaPlace, places_at, places_from}
+use Rattle.js_bundle.specs.PlaceLaws.{ListsPlace}
+use Rattle.js_bundle.specs.Resource.{Site, site, sites}
+use Rattle.js_bundle.specs.PlaceNumber.{place_at}
 use Rattle.js_bundle.specs.Schemas.{Finds, FindsSchema, Holds, Step, Alone, Index, Name, fits, step_tokens, below}
-use Rattle.js_places.specs.Seen.{AreOrdered, AreShort, AreRead}
-use Rattle.js_places.proofs.Listing.LeastSetListed.{Among, among-is, complete}
-use Rattle.js_places.proofs.Indexing.FirstFound.{get_first}
-use Rattle.js_places.proofs.Standing.{standing, of_document, all_at}
-use Rattle.js_places.proofs.Listing.EachListedOnce.{number_of, found_there}
+use Rattle.js_bundle.specs.Seen.{AreOrdered, AreShort, AreRead}
+use Rattle.js_bundle.proofs.Listing.LeastSetListed.{Among, among-is, complete}
+use Rattle.js_bundle.proofs.Indexing.FirstFound.{get_first}
+use Rattle.js_bundle.proofs.Standing.{standing, of_document, all_at}
+use Rattle.js_bundle.proofs.Listing.EachListedOnce.{number_of, found_there}
 
 -- ---- each place of a document has a number
 

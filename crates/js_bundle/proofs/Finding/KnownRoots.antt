@@ -1,16 +1,16 @@
 -- The root of a resource, found among what is kept of places.
 use Rattle.std.proofs.Common.{◌≡◌, ℕ, List, map, Option, Some, None, option_map, slice_get, find, refl, ap, ◌∙◌}
 use Rattle.std.proofs.lemmas.Option.{slice_get-map}
-use Rattle.js_places.specs.declared.index.Index.{Index}
+use Rattle.js_bundle.specs.declared.index.Index.{Index}
 use Rattle.js_bundle.specs.declared.check.checked_site.CheckedSite as rust
-use Rattle.js_places.specs.Document.{Documents}
-use Rattle.js_places.specs.Keyword.{Text}
-use Rattle.js_places.specs.Names.{is_known_as}
-use Rattle.js_places.specs.Resource.{Site, sites}
-use Rattle.js_places.specs.code.Index.{IsIndexOf, Standing, number_of_key, standing}
+use Rattle.js_bundle.specs.Document.{Documents}
+use Rattle.js_bundle.specs.Keyword.{Text}
+use Rattle.js_bundle.specs.Names.{is_known_as}
+use Rattle.js_bundle.specs.Resource.{Site, sites}
+use Rattle.js_bundle.specs.code.Index.{IsIndexOf, Standing, number_of_key, standing}
 use Rattle.js_bundle.specs.code.CheckedSite.{checked_standing}
 use Rattle.js_bundle.specs.code.CheckedSite.{checked_site, checked_site_of}
-use Rattle.js_places.proofs.Indexing.IndexFinds.{known_at}
+use Rattle.js_bundle.proofs.Indexing.IndexFinds.{known_at}
 
 both : (o : Option Site) → option_map checked_standing (option_map checked_site o) ≡ option_map standing o
 both None = refl

@@ -8,19 +8,19 @@ use Rattle.js_assert.specs.Keyword.{name_of}
 use Rattle.js_bundle.specs.declared.check.assertions_and_patterns.BuiltPattern.{BuiltPattern}
 use Rattle.js_bundle.specs.AssertionsAndPatterns.{assertions_at, patterns_at}
 use Rattle.js_bundle.specs.Candidate.{IsClear}
-use Rattle.js_places.specs.code.SparseList.{IsSparseList}
-use Rattle.js_places.specs.Document.{Documents}
-use Rattle.js_places.specs.Finding.{number_named}
+use Rattle.js_bundle.specs.code.SparseList.{IsSparseList}
+use Rattle.js_bundle.specs.Document.{Documents}
+use Rattle.js_bundle.specs.code.PlaceNumbers.{number_named}
 use Rattle.js_bundle.specs.Finding.{number_of_target}
-use Rattle.js_places.specs.Keyword.{Text, argument, as_text, has_argument}
+use Rattle.js_bundle.specs.Keyword.{Text, argument, as_text, has_argument}
 use Rattle.js_bundle.specs.Refusals.{candidates}
-use Rattle.js_places.specs.Resource.{Site, joined, sites}
-use Rattle.js_places.specs.PlaceNumber.{place_at}
+use Rattle.js_bundle.specs.Resource.{Site, joined, sites}
+use Rattle.js_bundle.specs.PlaceNumber.{place_at}
 use Rattle.js_bundle.specs.Schemas.{has_keyword, assertion, pattern, StandsFor}
-use Rattle.js_places.specs.Seen.{AreRead}
-use Rattle.js_places.specs.Target.{ref_target}
+use Rattle.js_bundle.specs.Seen.{AreRead}
+use Rattle.js_bundle.specs.Target.{ref_target}
 use Rattle.js_bundle.proofs.Finding.FoundByTest.{assertion_found, pattern_found}
-use Rattle.js_places.proofs.Standing.{standing}
+use Rattle.js_bundle.proofs.Standing.{standing}
 use Rattle.js_bundle.proofs.Checking.TargetsFound.{target_there, number_is_target}
 
 -- ---- what was built of the place

@@ -3,10 +3,10 @@ use Rattle.std.proofs.Common.{◌≡◌, List, ℕ, [], ◌++◌, true, false, O
 use Rattle.std.proofs.Common.{if◌then◌else◌, sym, ap, ◌∙◌}
 use Rattle.std.proofs.lemmas.List.{append-nil}
 use Rattle.js_doc.specs.Fragment.{fragment_text}
-use Rattle.js_places.specs.declared.index.stored_location.StoredLocation.{StoredLocation}
-use Rattle.js_places.specs.code.StoredLocation.{is_long, stored_location, repeated}
-use Rattle.js_places.specs.Location.{canonical, location, way}
-use Rattle.js_places.specs.Resource.{Site}
+use Rattle.js_bundle.specs.declared.index.stored_location.StoredLocation.{StoredLocation}
+use Rattle.js_bundle.specs.code.StoredLocation.{is_long, stored_location, repeated}
+use Rattle.js_bundle.specs.Location.{canonical, location, way}
+use Rattle.js_bundle.specs.Resource.{Site}
 
 -- a `#` and the fragment, behind the resource's URI
 whole_behind : (uri rest : List ℕ) → is_long uri ≡ true → uri ++ rest ≡ uri ++ (repeated uri ++ rest)

@@ -11,21 +11,21 @@ use Rattle.js_doc.specs.Pointer.{Tokens}
 use Rattle.js_doc.specs.Short.{IsShort}
 use Rattle.js_doc.specs.Value.{Value, null, truth, whole, text, list, object, Members, no_members, member}
 use Rattle.js_doc.specs.Parts.{member_list, members_of}
-use Rattle.js_places.specs.declared.scan.holding.Holding.{Holding}
-use Rattle.js_places.specs.declared.scan.holding.Holding.TheVariants.{One, Listed, Named}
-use Rattle.js_places.specs.Document.{Documents}
-use Rattle.js_places.specs.Keyword.{Text, argument}
-use Rattle.js_places.specs.Names.{stands_at}
-use Rattle.js_places.specs.Place.{holding, items_in, IsPlace, at_root, in_keyword, in_list, in_object}
-use Rattle.js_places.specs.Resource.{Site, sites}
-use Rattle.js_places.specs.PlaceNumber.{place_at}
+use Rattle.js_bundle.specs.declared.scan.holding.Holding.{Holding}
+use Rattle.js_bundle.specs.declared.scan.holding.Holding.TheVariants.{One, Listed, Named}
+use Rattle.js_bundle.specs.Document.{Documents}
+use Rattle.js_bundle.specs.Keyword.{Text, argument}
+use Rattle.js_bundle.specs.Names.{stands_at}
+use Rattle.js_bundle.specs.Place.{holding, items_in, IsPlace, at_root, in_keyword, in_list, in_object}
+use Rattle.js_bundle.specs.Resource.{Site, sites}
+use Rattle.js_bundle.specs.PlaceNumber.{place_at}
 use Rattle.js_bundle.specs.Schemas.{Finds, Step, Alone, Index, Name, fits, step_tokens, below}
-use Rattle.js_places.specs.Seen.{AreOrdered, AreShort, AreRead}
+use Rattle.js_bundle.specs.Seen.{AreOrdered, AreShort, AreRead}
 use Rattle.js_bundle.specs.code.PlaceBelow.{held_in, holds_at_step, value_at_step, IsSmall}
-use Rattle.js_places.proofs.Listing.EachListedOnce.{stands_there}
-use Rattle.js_places.proofs.Listing.LeastSetListed.{Among, is-among}
-use Rattle.js_places.proofs.Indexing.FirstFound.{get_first, number_finds, no_number}
-use Rattle.js_places.proofs.Standing.{place_stands, below_member, within_count, standing, all_at}
+use Rattle.js_bundle.proofs.Listing.EachListedOnce.{stands_there}
+use Rattle.js_bundle.proofs.Listing.LeastSetListed.{Among, is-among}
+use Rattle.js_bundle.proofs.Indexing.FirstFound.{get_first, number_finds, no_number}
+use Rattle.js_bundle.proofs.Standing.{place_stands, below_member, within_count, standing, all_at}
 
 -- ---- pointers
 

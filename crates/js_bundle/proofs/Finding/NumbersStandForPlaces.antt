@@ -4,14 +4,14 @@ use Rattle.std.proofs.Common.{option_and_then, slice_get, find, refl, sym, ap, �
 use Rattle.std.specs.List.{position_from}
 use Rattle.std.proofs.lemmas.Bool.{lt-ltb}
 use Rattle.std.proofs.lemmas.Option.{slice_get_within}
-use Rattle.js_places.specs.Document.{Documents}
+use Rattle.js_bundle.specs.Document.{Documents}
 use Rattle.url.specs.Parts.{Parts}
-use Rattle.js_places.specs.Finding.{number_named}
-use Rattle.js_places.specs.Names.{names, named}
-use Rattle.js_places.specs.Resource.{Site, sites}
-use Rattle.js_places.specs.PlaceNumber.{is_place}
+use Rattle.js_bundle.specs.code.PlaceNumbers.{number_named}
+use Rattle.js_bundle.specs.Names.{names, named}
+use Rattle.js_bundle.specs.Resource.{Site, sites}
+use Rattle.js_bundle.specs.PlaceNumber.{is_place}
 use Rattle.js_bundle.specs.Schemas.{StandsFor, Finds}
-use Rattle.js_places.proofs.Indexing.FoundByText.{found_at, none_alike}
+use Rattle.js_bundle.proofs.Indexing.FoundByText.{found_at, none_alike}
 
 stands_by : (documents : Documents) (n : ℕ) (found : Option Site) → slice_get (sites documents) n ≡ found
     → is_none found ≡ false → StandsFor documents n found

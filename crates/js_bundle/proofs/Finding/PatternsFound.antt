@@ -21,13 +21,13 @@ use Rattle.js_doc.proofs.TokenLookup.{is_text-sound}
 use Rattle.js_bundle.specs.declared.check.assertions_and_patterns.BuiltPattern.{BuiltPattern}
 use Rattle.js_bundle.specs.AssertionsAndPatterns.{pattern_at, patterns_at, patterns_of}
 use Rattle.js_bundle.specs.code.Patterns.{AreInOrder}
-use Rattle.js_places.specs.Document.{Documents}
-use Rattle.js_places.specs.Keyword.{Text}
-use Rattle.js_places.specs.PlaceNumber.{place_at}
-use Rattle.js_places.specs.Resource.{Site}
-use Rattle.js_places.specs.Seen.{AreRead}
-use Rattle.js_places.proofs.Listing.PlacesApart.{below_all, less_apart}
-use Rattle.js_places.proofs.Standing.{standing}
+use Rattle.js_bundle.specs.Document.{Documents}
+use Rattle.js_bundle.specs.Keyword.{Text}
+use Rattle.js_bundle.specs.PlaceNumber.{place_at}
+use Rattle.js_bundle.specs.Resource.{Site}
+use Rattle.js_bundle.specs.Seen.{AreRead}
+use Rattle.js_bundle.proofs.Listing.PlacesApart.{below_all, less_apart}
+use Rattle.js_bundle.proofs.Standing.{standing}
 use Rattle.js_bundle.proofs.Finding.FoundByTest.{the_patterns, no_patterns}
 use Rattle.js_bundle.proofs.Finding.RankOfName.{ranks_ascend, some_is}
 

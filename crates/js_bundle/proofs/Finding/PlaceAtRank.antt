@@ -8,33 +8,33 @@ use Rattle.js_doc.specs.Value.{Value, null, truth, whole, text, list, object, Me
 use Rattle.js_doc.specs.Parts.{member_list, members_of}
 use Rattle.js_doc.proofs.FiniteMaps.{get_here, get_past}
 use Rattle.url.specs.Parts.{Parts}
-use Rattle.js_places.specs.declared.index.edges.Edges.{Edges}
-use Rattle.js_places.specs.declared.scan.holding.Holding.TheVariants.{Named}
-use Rattle.js_places.specs.declared.keyword_name.KeywordName.{KeywordName}
-use Rattle.js_places.specs.Document.{Documents}
-use Rattle.js_places.specs.Keyword.{Text, argument}
-use Rattle.js_places.specs.KeywordName.{keyword_name}
-use Rattle.js_places.specs.Place.{holding, Located, SchemaPlace, places_held, places_at}
-use Rattle.js_places.specs.Place.{places_in_list, places_in_object, places_from}
+use Rattle.js_bundle.specs.declared.index.edges.Edges.{Edges}
+use Rattle.js_bundle.specs.declared.scan.holding.Holding.TheVariants.{Named}
+use Rattle.js_bundle.specs.declared.keyword_name.KeywordName.{KeywordName}
+use Rattle.js_bundle.specs.Document.{Documents}
+use Rattle.js_bundle.specs.Keyword.{Text, argument}
+use Rattle.js_bundle.specs.KeywordName.{keyword_name}
+use Rattle.js_bundle.specs.Place.{holding, Located, SchemaPlace, places_held, places_at}
+use Rattle.js_bundle.specs.Place.{places_in_list, places_in_object, places_from}
 use Rattle.js_bundle.specs.Ranked.{HoldsAtRank}
-use Rattle.js_places.specs.Resource.{Site, site, sites}
-use Rattle.js_places.specs.PlaceNumber.{place_at}
+use Rattle.js_bundle.specs.Resource.{Site, site, sites}
+use Rattle.js_bundle.specs.PlaceNumber.{place_at}
 use Rattle.js_bundle.specs.Schemas.{Finds, Holds, Step, Alone, Index, Name, below}
-use Rattle.js_places.specs.Seen.{AreRead}
-use Rattle.js_places.specs.code.Edges.{edges_from, edges_of, held_by_place, numbers_held}
+use Rattle.js_bundle.specs.Seen.{AreRead}
+use Rattle.js_bundle.specs.code.Edges.{edges_from, edges_of, held_by_place, numbers_held}
 use Rattle.js_bundle.specs.code.PlaceBelow.{numbers_of_keyword}
 use Rattle.js_bundle.specs.code.CheckedSite.{CheckedSite, checked_site}
-use Rattle.js_places.proofs.Listing.PlacesCounted.{StandsFrom, root_of}
+use Rattle.js_bundle.proofs.Listing.PlacesCounted.{StandsFrom, root_of}
 use Rattle.js_bundle.proofs.Finding.HeldIsFound.{held_found}
 use Rattle.js_bundle.proofs.Finding.HeldByNumber.{are_named, argument_ascends, finds_standing, found_by}
 use Rattle.js_bundle.proofs.Finding.HeldByNumber.{holds_object, keyword_at, kept_sites_are}
 use Rattle.js_bundle.proofs.Finding.HeldHasNumber.{StandsAt, KeywordThere}
-use Rattle.js_places.proofs.Listing.LeastSetListed.{Among}
-use Rattle.js_places.proofs.Listing.PlacesApart.{below_all, less_apart}
+use Rattle.js_bundle.proofs.Listing.LeastSetListed.{Among}
+use Rattle.js_bundle.proofs.Listing.PlacesApart.{below_all, less_apart}
 use Rattle.js_bundle.proofs.Finding.RankOfName.{some_is}
 use Rattle.js_bundle.proofs.SchemaBelow.{is_one, is_listed, is_named}
 use Rattle.js_bundle.proofs.Finding.StepsFit.{applies_fits}
-use Rattle.js_places.proofs.Standing.{standing, made_at}
+use Rattle.js_bundle.proofs.Standing.{standing, made_at}
 
 -- ---- a member with a rank is the one of its name
 

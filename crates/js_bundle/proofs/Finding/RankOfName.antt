@@ -13,11 +13,11 @@ use Rattle.js_doc.specs.Pointer.{Tokens}
 use Rattle.js_doc.specs.Value.{Value, Members, no_members, member}
 use Rattle.js_doc.specs.Parts.{member_list}
 use Rattle.js_doc.proofs.TokenLookup.{is_text-sound}
-use Rattle.js_places.specs.Keyword.{Text}
+use Rattle.js_bundle.specs.Keyword.{Text}
 use Rattle.js_bundle.specs.code.PlaceBelow.{ends_before}
-use Rattle.js_places.proofs.Listing.LeastSetListed.{Among}
-use Rattle.js_places.proofs.Indexing.FirstFound.{get_first}
-use Rattle.js_places.proofs.Listing.PlacesApart.{below_all}
+use Rattle.js_bundle.proofs.Listing.LeastSetListed.{Among}
+use Rattle.js_bundle.proofs.Indexing.FirstFound.{get_first}
+use Rattle.js_bundle.proofs.Listing.PlacesApart.{below_all}
 
 -- ---- pairs
 

@@ -4,20 +4,20 @@ use Rattle.std.proofs.Common.{get_or, Option, Some, None, option_map, option_and
 use Rattle.std.proofs.Common.{bytes_eq, codes, if◌then◌else◌, refl, sym, ap, ◌∙◌, subst}
 use Rattle.std.specs.List.{list_any, position_from}
 use Rattle.std.specs.Option.{option_map_or}
-use Rattle.js_places.specs.declared.index.numbering.Numbering.{Numbering}
-use Rattle.js_places.specs.Document.{Documents}
-use Rattle.js_places.specs.code.Index.{number_of_key}
-use Rattle.js_places.specs.Keyword.{Text, text_argument}
-use Rattle.js_places.specs.Names.{belongs_to, makes}
-use Rattle.js_places.specs.Resource.{Site, sites}
-use Rattle.js_places.specs.ResourceNumber.{roots, number_of_resource}
-use Rattle.js_places.specs.ResourceTable.{AreAnchors, dynamic_names}
-use Rattle.js_places.specs.PlaceNumber.{is_place, place_at}
+use Rattle.js_bundle.specs.declared.index.numbering.Numbering.{Numbering}
+use Rattle.js_bundle.specs.Document.{Documents}
+use Rattle.js_bundle.specs.code.Index.{number_of_key}
+use Rattle.js_bundle.specs.Keyword.{Text, text_argument}
+use Rattle.js_bundle.specs.Names.{belongs_to, makes}
+use Rattle.js_bundle.specs.Resource.{Site, sites}
+use Rattle.js_bundle.specs.ResourceNumber.{roots, number_of_resource}
+use Rattle.js_bundle.specs.ResourceTable.{AreAnchors, dynamic_names}
+use Rattle.js_bundle.specs.PlaceNumber.{is_place, place_at}
 use Rattle.js_bundle.specs.Schemas.{Finds}
-use Rattle.js_places.specs.Target.{dynamic_anchor}
+use Rattle.js_bundle.specs.Target.{dynamic_anchor}
 use Rattle.js_bundle.proofs.Finding.NumbersStandForPlaces.{finds_place}
 use Rattle.js_bundle.proofs.Finding.CheckedPlaces.{checked_of}
-use Rattle.js_places.proofs.Indexing.ResourceNumbers.{root_of_number, same_anchor}
+use Rattle.js_bundle.proofs.Indexing.ResourceNumbers.{root_of_number, same_anchor}
 
 -- ---- the number of a place's resource
 

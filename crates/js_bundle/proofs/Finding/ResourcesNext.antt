@@ -1,16 +1,16 @@
 -- The resources, one place further on.
 use Rattle.std.proofs.Common.{◌≡◌, ◌&&◌, ℕ, ◌+◌, List, [], ◌∷◌, ◌++◌, Bool, true, false, not, if◌then◌else◌, Option}
 use Rattle.std.proofs.Common.{Some, None, option_map, map, bytes_eq, drop, refl, sym, ap, ◌∙◌, subst, append_assoc}
-use Rattle.js_places.specs.Document.{Documents}
-use Rattle.js_places.specs.Keyword.{Text}
-use Rattle.js_places.specs.Names.{same_tokens}
-use Rattle.js_places.specs.Resource.{Site, sites}
-use Rattle.js_places.specs.PlaceNumber.{place_at}
+use Rattle.js_bundle.specs.Document.{Documents}
+use Rattle.js_bundle.specs.Keyword.{Text}
+use Rattle.js_bundle.specs.Names.{same_tokens}
+use Rattle.js_bundle.specs.Resource.{Site, sites}
+use Rattle.js_bundle.specs.PlaceNumber.{place_at}
 use Rattle.js_bundle.specs.Schemas.{numbered, stated_once, resources_at}
 use Rattle.js_bundle.specs.code.CheckedSite.{CheckedSite, checked_site, document_uri, base_made, resource_listed}
-use Rattle.js_places.specs.Url.{printed}
+use Rattle.js_bundle.specs.Url.{printed}
 use Rattle.js_bundle.proofs.Finding.DynamicTargets.{drop_at}
-use Rattle.js_places.proofs.Indexing.PlaceNext.{piece_next}
+use Rattle.js_bundle.proofs.Indexing.PlaceNext.{piece_next}
 
 recorded : (n : ℕ) (root made same : Bool) (uri base : Text) → bytes_eq uri base ≡ same
     → map (λ u. (u, n)) (stated_once ((if root then uri ∷ [] else []) ++ (if made then base ∷ [] else [])))

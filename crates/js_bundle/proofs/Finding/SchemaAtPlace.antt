@@ -6,13 +6,13 @@ use Rattle.std.proofs.lemmas.Option.{slice_get_within, get_or_from_slice_get}
 use Rattle.js_doc.specs.Lookup.{at}
 use Rattle.js_doc.specs.Seen.{value_of}
 use Rattle.js_doc.specs.Value.{Value}
-use Rattle.js_places.specs.declared.document.Document as rust
-use Rattle.js_places.specs.Document.{Document, Documents}
-use Rattle.js_places.specs.Resource.{Site}
-use Rattle.js_places.specs.PlaceNumber.{place_at}
-use Rattle.js_places.specs.Seen.{document_of, AreRead}
+use Rattle.js_bundle.specs.declared.document.Document as rust
+use Rattle.js_bundle.specs.Document.{Document, Documents}
+use Rattle.js_bundle.specs.Resource.{Site}
+use Rattle.js_bundle.specs.PlaceNumber.{place_at}
+use Rattle.js_bundle.specs.Seen.{document_of, AreRead}
 use Rattle.js_bundle.specs.code.CheckedSite.{CheckedSite, checked_site, site_with}
-use Rattle.js_places.proofs.Standing.{standing, made_at}
+use Rattle.js_bundle.proofs.Standing.{standing, made_at}
 
 record Stands (documents : Documents) (x : CheckedSite) (o : Option Site) : Type 0 where
   document : Document

@@ -6,13 +6,13 @@ use Rattle.std.proofs.Common.{sym, ◌∙◌, ap}
 use Rattle.std.proofs.lemmas.Slice.Eq.{bytes_eq-Decides}
 use Rattle.js_doc.proofs.EachSame.{each_same}
 use Rattle.js_assert.specs.Keyword.{keyword_named}
-use Rattle.js_places.specs.declared.keyword_name.KeywordName.{KeywordName}
-use Rattle.js_places.specs.declared.keyword_name.KeywordName.TheVariants.{AssertionUpToIf, AssertionBehindIf}
-use Rattle.js_places.specs.declared.keyword_name.KeywordName.TheVariants.{OtherUpToIf, OtherBehindIf}
-use Rattle.js_places.specs.Keyword.{Text}
-use Rattle.js_places.specs.KeywordName.{TableOfNames, applying, identifying, name_in, by_side}
-use Rattle.js_places.specs.KeywordName.{not_applying, stands_behind_if, keyword_name}
-use Rattle.js_places.specs.Place.{holding}
+use Rattle.js_bundle.specs.declared.keyword_name.KeywordName.{KeywordName}
+use Rattle.js_bundle.specs.declared.keyword_name.KeywordName.TheVariants.{AssertionUpToIf, AssertionBehindIf}
+use Rattle.js_bundle.specs.declared.keyword_name.KeywordName.TheVariants.{OtherUpToIf, OtherBehindIf}
+use Rattle.js_bundle.specs.Keyword.{Text}
+use Rattle.js_bundle.specs.KeywordName.{TableOfNames, applying, identifying, name_in, by_side}
+use Rattle.js_bundle.specs.KeywordName.{not_applying, stands_behind_if, keyword_name}
+use Rattle.js_bundle.specs.Place.{holding}
 use Rattle.js_bundle.specs.Ranked.{applies_at}
 use Rattle.js_bundle.specs.Schemas.{Step, fits}
 

@@ -3,13 +3,13 @@ use Rattle.std.specs.Prelude.{ℕ, List, [], Bool, ◌&&◌, ◌∷◌, not, byt
 use Rattle.js_doc.specs.Pointer.{Tokens}
 use Rattle.js_doc.specs.Value.{Value, null}
 use Rattle.js_bundle.specs.declared.check.checked_site.CheckedSite as rust
-use Rattle.js_places.specs.declared.scan.base_scope.BaseScope.{BaseScope}
-use Rattle.js_places.specs.code.Index.{Standing}
-use Rattle.js_places.specs.Keyword.{Text}
-use Rattle.js_places.specs.Location.{location}
-use Rattle.js_places.specs.Names.{same_tokens}
-use Rattle.js_places.specs.Resource.{Site}
-use Rattle.js_places.specs.Url.{printed}
+use Rattle.js_bundle.specs.declared.scan.base_scope.BaseScope.{BaseScope}
+use Rattle.js_bundle.specs.code.Index.{Standing}
+use Rattle.js_bundle.specs.Keyword.{Text}
+use Rattle.js_bundle.specs.Location.{location}
+use Rattle.js_bundle.specs.Names.{same_tokens}
+use Rattle.js_bundle.specs.Resource.{Site}
+use Rattle.js_bundle.specs.Url.{printed}
 
 pub record CheckedSite : Type 0 where
   pub document : ℕ

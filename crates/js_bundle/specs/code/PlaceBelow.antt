@@ -8,12 +8,12 @@ use Rattle.std.specs.Ordering.{is_lt}
 use Rattle.js_doc.specs.Members.{name_cmp}
 use Rattle.js_doc.specs.Pointer.{Tokens}
 use Rattle.js_doc.specs.Value.{Value}
-use Rattle.js_places.specs.contracts.keyword_name.KeywordNamePartialEq.TheImpl.{ghosts}
-use Rattle.js_places.specs.declared.keyword_name.KeywordName.{KeywordName}
-use Rattle.js_places.specs.code.Edges.{HeldNumbers}
+use Rattle.js_bundle.specs.contracts.keyword_name.KeywordNamePartialEq.TheImpl.{ghosts}
+use Rattle.js_bundle.specs.declared.keyword_name.KeywordName.{KeywordName}
+use Rattle.js_bundle.specs.code.Edges.{HeldNumbers}
 use Rattle.js_bundle.specs.code.CheckedSite.{CheckedSite}
-use Rattle.js_places.specs.Keyword.{Text, argument}
-use Rattle.js_places.specs.Place.{holding, items_in}
+use Rattle.js_bundle.specs.Keyword.{Text, argument}
+use Rattle.js_bundle.specs.Place.{holding, items_in}
 use Rattle.js_bundle.specs.Schemas.{Step, Alone, Index, Name, fits}
 
 -- the value itself, its item or its member

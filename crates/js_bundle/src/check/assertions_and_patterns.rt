@@ -2,7 +2,7 @@
 ghost use Rattle.std.specs.Prelude.{◌≡◌, [], ◌∷◌, ◌++◌, length, map, flat_map, option_to_list, OnOk, IfOk, IfErr};
 ghost use Rattle.js_doc.specs.Seen.{value_of};
 ghost use Rattle.js_doc.specs.Parts.{members_of};
-ghost use Rattle.js_places.specs.code.Scan.{site_of};
+ghost use Rattle.js_bundle.specs.code.Scan.{site_of};
 ghost use Rattle.js_bundle.specs.AssertionsAndPatterns.{pattern_at, patterns_of};
 ghost use Rattle.js_bundle.specs.Candidate.{IsClear, IsStopped};
 ghost use Rattle.js_bundle.specs.Refusals.{at_pattern, name_rules};
@@ -10,9 +10,9 @@ ghost use Rattle.js_bundle.specs.Refusals.{at_pattern, name_rules};
 use crate::check::fault::{CheckFault, refuse_member};
 use crate::check::lookup::SiteKeyword;
 use crate::refusal::RefusalKind;
+use crate::scan::site::Site;
 use js_assert::{Assertion, Pattern, PatternFault};
 use js_doc::{Doc, Members, Memory, Text};
-use js_places::Site;
 use std::alloc::Global;
 
 /// What is built from the keywords of places, place by place.

@@ -1,10 +1,11 @@
 //! What is kept of a place once its document is checked.
 ghost use Rattle.std.specs.Prelude.{◌≡◌, map, IfOk};
 ghost use Rattle.js_bundle.specs.code.CheckedSite.{checked_site, checked_site_of};
-ghost use Rattle.js_places.specs.code.Scan.{site_of};
+ghost use Rattle.js_bundle.specs.code.Scan.{site_of};
 
+use crate::scan::base_scope::BaseScope;
+use crate::scan::site::Site;
 use js_doc::{Memory, Pointer};
-use js_places::{BaseScope, Site};
 use std::alloc::Global;
 use std::sync::Arc;
 

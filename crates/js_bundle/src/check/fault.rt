@@ -1,14 +1,14 @@
 //! Why a check stops.
 ghost use Rattle.std.specs.Prelude.{◌≡◌, [], ◌∷◌, ◌++◌, IfOk};
 ghost use Rattle.js_bundle.specs.Finding.{IsRefusalOrMemory};
-ghost use Rattle.js_places.specs.Finding.{tokens_of};
+ghost use Rattle.js_bundle.specs.code.PlaceNumbers.{tokens_of};
 ghost use Rattle.js_bundle.specs.Refusals.{refusal_at};
-ghost use Rattle.js_places.specs.code.Scan.{site_of};
+ghost use Rattle.js_bundle.specs.code.Scan.{site_of};
 
 use crate::check::lookup::SiteKeyword;
 use crate::refusal::{Refusal, RefusalKind};
+use crate::scan::site::Site;
 use js_doc::{Memory as NoMemory, Pointer};
-use js_places::Site;
 use std::alloc::{AllocError, AllocFailed, Global};
 
 /// Why a check stops.

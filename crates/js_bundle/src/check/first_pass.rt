@@ -9,13 +9,13 @@ ghost use Rattle.js_bundle.specs.declared.refusal.RefusalKind.TheVariants.{BadKe
 ghost use Rattle.js_bundle.specs.AssertionsAndPatterns.{assertion_at, assertions_at, patterns_of, patterns_at};
 ghost use Rattle.js_bundle.specs.Candidate.{IsClear, IsStopped};
 ghost use Rattle.js_bundle.specs.Shape.{is_shaped};
-ghost use Rattle.js_places.specs.code.PartsByPlace.{ArePartsByPlace};
-ghost use Rattle.js_places.specs.code.Index.{IsIndexOf};
-ghost use Rattle.js_places.specs.code.Positions.{BeginTexts, IsLast, ArePositionsOf, HasPositionAdded};
-ghost use Rattle.js_places.specs.Keyword as words;
-ghost use Rattle.js_places.specs.KeywordName.{member_keywords};
+ghost use Rattle.js_bundle.specs.code.PartsByPlace.{ArePartsByPlace};
+ghost use Rattle.js_bundle.specs.code.Index.{IsIndexOf};
+ghost use Rattle.js_bundle.specs.code.Positions.{BeginTexts, IsLast, ArePositionsOf, HasPositionAdded};
+ghost use Rattle.js_bundle.specs.Keyword as words;
+ghost use Rattle.js_bundle.specs.KeywordName.{member_keywords};
 ghost use Rattle.js_bundle.specs.Refusals.{when, decided, on_text, text_rules, at_member, at_site, first_pass};
-ghost use Rattle.js_places.specs.code.Scan.{site_of};
+ghost use Rattle.js_bundle.specs.code.Scan.{site_of};
 
 use crate::check::assertions_and_patterns::{Built, BuiltTable, keep_assertion, read_names};
 use crate::check::fault::{CheckFault, refuse_keyword};
@@ -23,9 +23,11 @@ use crate::check::lookup::{Lookup, SiteKeyword};
 use crate::check::rules::{
     check_anchor, check_dialect, check_id, check_place, is_shaped, read_assertion,
 };
+use crate::index::keyword_table::KeywordTable;
+use crate::index::positions::{Positions, TextPrefixes};
 use crate::refusal::RefusalKind;
+use crate::scan::site::Site;
 use js_doc::{Doc, Members, Memory};
-use js_places::{KeywordTable, Positions, Site, TextPrefixes};
 use std::alloc::Global;
 
 fn check_shape(alloc: Global, at: SiteKeyword<'_>, argument: &Doc) -> Result<(), CheckFault>

@@ -1,6 +1,7 @@
 //! What the rules of a place are asked with.
 
-use js_places::{Index, Site};
+use crate::index::Index;
+use crate::scan::site::Site;
 use std::alloc::Global;
 
 /// The places that are known so far, with the index that finds them. Memory comes from `alloc`.

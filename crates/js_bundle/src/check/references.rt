@@ -4,31 +4,34 @@ ghost use Rattle.std.specs.Prelude.{IfErr, codes, map, slice_get};
 ghost use Rattle.indexmap.specs.IndexMap.{get};
 ghost use Rattle.js_bundle.specs.Candidate.{IsClear, IsStopped};
 ghost use Rattle.std.specs.Option.{option_map_or};
-ghost use Rattle.js_places.specs.Finding.{number_named};
+ghost use Rattle.js_bundle.specs.code.PlaceNumbers.{number_named};
 ghost use Rattle.js_bundle.specs.Finding.{number_of_target, dynamic_as, dynamic_by, dynamic_at};
-ghost use Rattle.js_places.specs.Finding.{under_number};
-ghost use Rattle.js_places.specs.code.SparseList.{IsSparseList, HasEntryAdded};
-ghost use Rattle.js_places.specs.code.PartsByPlace.{ArePartsByPlace};
-ghost use Rattle.js_places.specs.code.Index.{IsIndexOf};
-ghost use Rattle.js_places.specs.KeywordName.{member_keywords};
-ghost use Rattle.js_places.specs.Names.{makes};
+ghost use Rattle.js_bundle.specs.code.PlaceNumbers.{under_number};
+ghost use Rattle.js_bundle.specs.code.SparseList.{IsSparseList, HasEntryAdded};
+ghost use Rattle.js_bundle.specs.code.PartsByPlace.{ArePartsByPlace};
+ghost use Rattle.js_bundle.specs.code.Index.{IsIndexOf};
+ghost use Rattle.js_bundle.specs.KeywordName.{member_keywords};
+ghost use Rattle.js_bundle.specs.Names.{makes};
 ghost use Rattle.js_bundle.specs.Refusals.{at_joined_reference, at_reference_text, at_reference, at_references};
 ghost use Rattle.js_bundle.specs.Refusals.{second_pass};
-ghost use Rattle.js_places.specs.Resource as spec;
-ghost use Rattle.js_places.specs.code.Scan.{site_of};
-ghost use Rattle.js_places.specs.Url.{longest_uri};
+ghost use Rattle.js_bundle.specs.Resource as spec;
+ghost use Rattle.js_bundle.specs.code.Scan.{site_of};
+ghost use Rattle.js_bundle.specs.Url.{longest_uri};
 ghost use Rattle.url.specs.Parser.{parse_url};
 
 use crate::check::fault::{CheckFault, refuse_keyword};
 use crate::check::lookup::{Lookup, SiteKeyword};
+use crate::index::keyword_table::KeywordTable;
+use crate::index::parts_by_place::part_of_place;
+use crate::index::place_by_uri::{NameFault, number_named};
+use crate::index::sparse_list::add_entry;
+use crate::keyword::text_argument;
+use crate::keyword_name::KeywordName;
 use crate::refusal::RefusalKind;
+use crate::scan::site::Site;
+use crate::uri::{self, LONGEST};
 use indexmap::IndexMap;
 use js_doc::Memory;
-use js_places::uri::{self, LONGEST};
-use js_places::{
-    KeywordName, KeywordTable, NameFault, Site, add_entry, number_named, part_of_place,
-    text_argument,
-};
 use std::alloc::Global;
 use url::{ParseError, Url};
 

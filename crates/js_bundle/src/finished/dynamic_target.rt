@@ -2,18 +2,19 @@
 ghost use Rattle.std.specs.Prelude.{◌≡◌, true, codes, nat_eq, slice_get, option_and_then, option_copied};
 ghost use Rattle.indexmap.specs.IndexMap.{get};
 ghost use Rattle.js_bundle.specs.Finding.{scope_name, IsFirstTarget};
-ghost use Rattle.js_places.specs.code.Index.{number_of_key};
-ghost use Rattle.js_places.specs.Resource.{sites};
-ghost use Rattle.js_places.specs.ResourceNumber.{dynamic_ref_target_in, roots, roots_at};
-ghost use Rattle.js_places.specs.PlaceNumber.{is_place, place_at, path_at};
+ghost use Rattle.js_bundle.specs.code.Index.{number_of_key};
+ghost use Rattle.js_bundle.specs.Resource.{sites};
+ghost use Rattle.js_bundle.specs.ResourceNumber.{dynamic_ref_target_in, roots, roots_at};
+ghost use Rattle.js_bundle.specs.PlaceNumber.{is_place, place_at, path_at};
 ghost use Rattle.js_bundle.specs.Schemas.{has_keyword, StandsFor, Finds};
-ghost use Rattle.js_places.specs.Target.{dynamic_anchor, dynamic_ref_target, outermost};
+ghost use Rattle.js_bundle.specs.Target.{dynamic_anchor, dynamic_ref_target, outermost};
 
 use crate::check::references::DynamicReference;
+use crate::index::numbering::Numbering;
+use crate::keyword::text_argument;
 use crate::place::Place;
 use crate::schemas::Schemas;
 use indexmap::IndexMap;
-use js_places::{Numbering, text_argument};
 
 // The place that a dynamic reference names, and the name by which it leads to another one in a dynamic scope.
 #[derive(Clone, Copy)]
@@ -41,7 +42,7 @@ impl Schemas {
 
     /// The same in a dynamic scope given by the numbers of its resources, from the entry's to the place's: the first of
     /// these that has the name decides. A path and the numbers of its resources, repeated neighbours left out, lead to
-    /// the same place (`numbers_determine_the_dynamic_scope`, a law of `js_places`). It takes no memory.
+    /// the same place (the law `numbers_determine_the_dynamic_scope`). It takes no memory.
     pub fn dynamic_target_in(&self, place: Place, resources: &[usize]) -> Place
         requires { has_keyword (codes "$dynamicRef") self.now place ≡ true }
         ensures { StandsFor self.now result (option_and_then

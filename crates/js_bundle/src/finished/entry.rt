@@ -1,21 +1,21 @@
 //! Entries: the URI of the schema with which a judgement begins.
 ghost use Rattle.std.specs.Prelude.{◌≡◌, ◌≤◌, true, None, OnOk, IfOk, IfErr, find, length, map, option_map, slice_get};
 ghost use Rattle.url.specs.Parser.{parse_url};
-ghost use Rattle.js_places.specs.code.Index.{standing, standing_of};
+ghost use Rattle.js_bundle.specs.code.Index.{standing, standing_of};
 ghost use Rattle.js_bundle.specs.code.CheckedSite.{checked_standing};
 ghost use Rattle.js_bundle.specs.code.CheckedSite.{checked_site_of};
-ghost use Rattle.js_places.specs.Names.{is_known_as, is_read, named};
-ghost use Rattle.js_places.specs.Resource.{sites};
+ghost use Rattle.js_bundle.specs.Names.{is_known_as, is_read, named};
+ghost use Rattle.js_bundle.specs.Resource.{sites};
 ghost use Rattle.js_bundle.specs.Schemas.{entry, StandsFor, IsEntryFault, IsNameFault, IsReadEntry};
-ghost use Rattle.js_places.specs.PlaceNumber.{is_place};
-ghost use Rattle.js_places.specs.Url.{decoded_fragment, longest_uri};
+ghost use Rattle.js_bundle.specs.PlaceNumber.{is_place};
+ghost use Rattle.js_bundle.specs.Url.{decoded_fragment, longest_uri};
 
 use crate::check::checked_site::CheckedSite;
+use crate::index::place_by_uri::{NameFault, Root, number_by_fragment};
 use crate::place::Place;
 use crate::refusal::EntryFault;
 use crate::schemas::Schemas;
-use js_places::uri::{self, LONGEST};
-use js_places::{NameFault, Root, number_by_fragment};
+use crate::uri::{self, LONGEST};
 use std::alloc::Global;
 use url::{ParseError, Url};
 

@@ -3,24 +3,27 @@ ghost use Rattle.std.specs.Prelude.{◌≡◌, [], true, false, ℕ, map, slice_
 ghost use Rattle.std.specs.Prelude.{Some};
 ghost use Rattle.std.specs.Option.{option_map_or};
 ghost use Rattle.js_doc.specs.Seen.{value_of};
-ghost use Rattle.js_places.specs.code.Edges.{edges_of, held_of};
+ghost use Rattle.js_bundle.specs.code.Edges.{edges_of, held_of};
 ghost use Rattle.js_bundle.specs.code.PlaceBelow.{held_in, holds_at_step, value_at_step};
 ghost use Rattle.js_bundle.specs.code.PlaceBelow.{numbers_of_keyword, stands_before, IsNumberAt, IsRankOf, IsSmall};
-ghost use Rattle.js_places.specs.KeywordName.{keyword_name};
-ghost use Rattle.js_places.specs.Place.{holding, items_in};
-ghost use Rattle.js_places.specs.PlaceNumber.{is_place, place_at};
+ghost use Rattle.js_bundle.specs.KeywordName.{keyword_name};
+ghost use Rattle.js_bundle.specs.Place.{holding, items_in};
+ghost use Rattle.js_bundle.specs.PlaceNumber.{is_place, place_at};
 ghost use Rattle.js_bundle.specs.Schemas.{below, fits, step_of, Finds, FindsSchema, Holds};
 ghost use Rattle.js_bundle.specs.code.CheckedSite.{checked_site_of};
 
 use crate::check::checked_site::CheckedSite;
+use crate::index::edges::{Edges, HeldPlaces};
+use crate::keyword::argument;
+use crate::keyword_name::KeywordName;
 use crate::place::{Place, Step};
+use crate::scan::holding::{Holding, holding_of};
 use crate::schemas::Schemas;
 use js_doc::Doc;
-use js_places::{Edges, HeldPlaces, Holding, KeywordName, argument, holding_of};
 
 impl Schemas {
     ghost use Rattle.js_doc.specs.Value.{Value};
-    ghost use Rattle.js_places.specs.Resource.{Site};
+    ghost use Rattle.js_bundle.specs.Resource.{Site};
 
     /// The place to which a step leads through a keyword of the place: `Alone` where the keyword holds one schema,
     /// `Index` where it holds a list of them, `Name` where it holds an object of them (JSON Schema Core, sections

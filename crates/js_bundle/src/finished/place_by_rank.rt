@@ -1,16 +1,16 @@
 //! What the keywords of a place hold, by rank.
 ghost use Rattle.std.specs.Prelude.{◌≡◌, ℕ, true, slice_get, option_map, option_and_then, MatchOption, Some};
 ghost use Rattle.js_doc.specs.Seen.{value_of};
-ghost use Rattle.js_places.specs.KeywordName.{keyword_name};
+ghost use Rattle.js_bundle.specs.KeywordName.{keyword_name};
 ghost use Rattle.js_bundle.specs.Ranked.{HoldsAtRank};
-ghost use Rattle.js_places.specs.PlaceNumber.{is_place, place_at};
+ghost use Rattle.js_bundle.specs.PlaceNumber.{is_place, place_at};
 ghost use Rattle.js_bundle.specs.Schemas.{below, step_of, Finds};
 
 use crate::finished::place_below::places_under;
+use crate::keyword_name::KeywordName;
 use crate::place::{Place, Step};
 use crate::schemas::Schemas;
 use js_doc::Doc;
-use js_places::KeywordName;
 
 impl Schemas {
     /// The place to which a step leads through a keyword of the place, where it is known what the keyword holds there.

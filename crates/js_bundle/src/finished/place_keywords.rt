@@ -4,19 +4,20 @@ ghost use Rattle.std.specs.Ordering.{is_lt};
 ghost use Rattle.js_assert.specs.Keyword.{name_of};
 ghost use Rattle.js_bundle.specs.AssertionsAndPatterns.{assertions_at, patterns_at};
 ghost use Rattle.js_doc.specs.Members.{name_cmp};
-ghost use Rattle.js_places.specs.KeywordName.{member_keywords};
-ghost use Rattle.js_places.specs.PlaceNumber.{is_place, place_at};
+ghost use Rattle.js_bundle.specs.KeywordName.{member_keywords};
+ghost use Rattle.js_bundle.specs.PlaceNumber.{is_place, place_at};
 ghost use Rattle.js_bundle.specs.Schemas.{has_keyword, assertion, pattern};
-ghost use Rattle.js_places.specs.Seen.{AreRead};
+ghost use Rattle.js_bundle.specs.Seen.{AreRead};
 ghost use Rattle.js_bundle.specs.code.Patterns.{AreInOrder};
 
 use crate::check::assertions_and_patterns::BuiltPattern;
 use crate::finished::dynamic_target::reference_under;
 use crate::finished::target::target_under;
+use crate::index::parts_by_place::part_of_place;
+use crate::keyword_name::KeywordName;
 use crate::place::Place;
 use crate::schemas::Schemas;
 use js_assert::{Assertion, Pattern};
-use js_places::{KeywordName, part_of_place};
 
 impl Schemas {
     /// The assertion that the keyword is at the place. None if the place doesn't have the keyword, or the keyword is no

@@ -1,18 +1,19 @@
 //! The resources of finished schemas (JSON Schema Core, sections 4.3.5 and 8.2.1).
 ghost use Rattle.std.specs.Prelude.{◌≡◌, ◌++◌, ◌&&◌, [], ◌∷◌, Some, true, map, bytes_eq, option_copied};
 ghost use Rattle.std.specs.Prelude.{option_and_then, IfOk, OnOk};
-ghost use Rattle.js_places.specs.Resource.{sites};
-ghost use Rattle.js_places.specs.ResourceNumber.{count_of_resources, number_of_resource};
-ghost use Rattle.js_places.specs.PlaceNumber.{is_place, place_at};
+ghost use Rattle.js_bundle.specs.Resource.{sites};
+ghost use Rattle.js_bundle.specs.ResourceNumber.{count_of_resources, number_of_resource};
+ghost use Rattle.js_bundle.specs.PlaceNumber.{is_place, place_at};
 ghost use Rattle.js_bundle.specs.Schemas.{resources, lent};
 ghost use Rattle.js_bundle.specs.code.CheckedSite.{checked_site_of, document_uri, base_made, resource_listed};
-ghost use Rattle.js_places.specs.Url as spec;
+ghost use Rattle.js_bundle.specs.Url as spec;
 
 use crate::check::checked_site::CheckedSite;
+use crate::index::place_by_uri::is_root;
 use crate::place::Place;
 use crate::schemas::Schemas;
+use crate::uri;
 use js_doc::Memory;
-use js_places::{is_root, uri};
 use std::alloc::Global;
 
 impl Schemas {

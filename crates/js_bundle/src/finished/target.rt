@@ -1,10 +1,10 @@
 //! What references lead to (JSON Schema Core, section 8.2.3).
 ghost use Rattle.std.specs.Prelude.{◌≡◌, true, codes, option_and_then};
-ghost use Rattle.js_places.specs.Finding.{under_number};
-ghost use Rattle.js_places.specs.Resource.{sites};
+ghost use Rattle.js_bundle.specs.code.PlaceNumbers.{under_number};
+ghost use Rattle.js_bundle.specs.Resource.{sites};
 ghost use Rattle.js_bundle.specs.Schemas.{has_keyword, StandsFor};
-ghost use Rattle.js_places.specs.PlaceNumber.{place_at};
-ghost use Rattle.js_places.specs.Target.{ref_target};
+ghost use Rattle.js_bundle.specs.PlaceNumber.{place_at};
+ghost use Rattle.js_bundle.specs.Target.{ref_target};
 
 use crate::place::Place;
 use crate::schemas::Schemas;

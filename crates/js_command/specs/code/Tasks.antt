@@ -1,11 +1,10 @@
 -- Tasks, as the requests that they are, and why there is none.
-use Rattle.std.specs.Prelude.{◌≡◌, Bool, true, List, map, Option, None, Result, Ok, Err, ⊤}
+use Rattle.std.specs.Prelude.{◌≡◌, Bool, true, Option, None, Result, Ok, Err, ⊤}
 use Rattle.clap.specs.Words.{Text}
 use Rattle.js_output.specs.Device.{Tracked}
 use Rattle.js_output.specs.declared.fault.Fault.{Fault}
 use Rattle.js_output.specs.declared.fault.Fault.TheVariants as fault
-use Rattle.js_command.specs.Words.{DocumentPairs, Request, pair, check, suite, places}
-use Rattle.js_command.specs.declared.words.DocumentFile.{DocumentFile}
+use Rattle.js_command.specs.Words.{DocumentPairs, Request, pair, check, suite, places, pairs_seen}
 use Rattle.js_command.specs.declared.words.Judgement.{Judgement}
 use Rattle.js_command.specs.declared.words.Misuse.{Misuse}
 use Rattle.js_command.specs.declared.words.Misuse.TheVariants as misuse
@@ -13,9 +12,6 @@ use Rattle.js_command.specs.declared.words.Subject.{Subject}
 use Rattle.js_command.specs.declared.words.Subject.TheVariants as subject
 use Rattle.js_command.specs.declared.words.Task.{Task}
 use Rattle.js_command.specs.declared.words.Task.TheVariants as task
-
-abbrev pub pairs_seen : List DocumentFile → DocumentPairs
-pairs_seen ds = map (λ d. (d.uri.now, d.file.now)) ds
 
 abbrev pub request_by : Subject → Text → DocumentPairs → Request
 request_by (subject.Instance format entry) file pairs = check format file entry.now pairs
@@ -41,10 +37,10 @@ IsNoPairs found misuse.OddPairs = found ≡ None
 IsNoPairs found misuse.OtherForm = ⊥
 
 -- the first fault of an answer and of what comes after it
-abbrev pub first_fault : {A B : Type 0} → Result A Fault → Result B Fault → Result A Fault
-first_fault (Err f) after = Err f
-first_fault (Ok a) (Err f) = Err f
-first_fault (Ok a) (Ok b) = Ok a
+abbrev pub answer_after_flush : {A B : Type 0} → Result A Fault → Result B Fault → Result A Fault
+answer_after_flush (Err f) after = Err f
+answer_after_flush (Ok a) (Err f) = Err f
+answer_after_flush (Ok a) (Ok b) = Ok a
 
 -- what a task answers if the input has failed
 abbrev pub IsReadOrMemory : Result Bool Fault → Type 0

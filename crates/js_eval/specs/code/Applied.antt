@@ -5,13 +5,13 @@ use Rattle.js_doc.specs.Members.{get}
 use Rattle.js_doc.specs.Value.{Value, Named, text}
 use Rattle.js_bundle.specs.Document.{Documents}
 use Rattle.js_bundle.specs.Resource.{Site}
-use Rattle.js_walk.specs.Applications.{Application}
-use Rattle.js_walk.specs.Bundle.{schemas_of}
-use Rattle.js_walk.specs.code.Standing.{IsSchemaAt}
-use Rattle.js_walk.specs.SchemaSet.{Step, Alone, Index, Name}
-use Rattle.js_walk.specs.Seen.{step_of, instance_of}
-use Rattle.js_walk.specs.Sited.{numbered_site}
-use Rattle.js_walk.specs.declared.instance.Applied.{Applied}
+use Rattle.js_eval.specs.Applications.{Application}
+use Rattle.js_eval.specs.Bundle.{schemas_of}
+use Rattle.js_eval.specs.code.Standing.{IsSchemaAt}
+use Rattle.js_eval.specs.SchemaSet.{Step, Alone, Index, Name}
+use Rattle.js_eval.specs.Seen.{step_of, instance_of}
+use Rattle.js_eval.specs.Sited.{numbered_site}
+use Rattle.js_eval.specs.declared.instance.Applied.{Applied}
 use Rattle.js_eval.specs.declared.cursors.application.Subschemas.{Subschemas}
 use Rattle.js_eval.specs.declared.cursors.application.Subschemas.TheVariants.{One, Each}
 use Rattle.js_eval.specs.declared.cursors.application.AppliedTo.{AppliedTo}

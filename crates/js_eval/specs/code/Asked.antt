@@ -4,14 +4,14 @@ use Rattle.std.specs.Prelude as prelude
 use Rattle.js_doc.specs.Seen.{pair_of, value_of}
 use Rattle.js_bundle.specs.Document.{Documents}
 use Rattle.js_bundle.specs.Resource.{Site}
-use Rattle.js_walk.specs.Applications.{Application}
+use Rattle.js_eval.specs.Applications.{Application}
 use Rattle.js_eval.specs.code.Applied.{IsHeld, applied_of}
 use Rattle.js_eval.specs.code.Cursors.{items_asked, members_asked, patterns_asked}
 use Rattle.js_eval.specs.code.ListLeft.{IsList, list_asked}
 use Rattle.js_eval.specs.code.NamesLeft.{IsNames, names_asked}
 use Rattle.js_eval.specs.code.Patterns.{ArePatternsAt}
-use Rattle.js_walk.specs.code.Standing.{IsSchemaAt}
-use Rattle.js_walk.specs.declared.instance.Applied.{Applied}
+use Rattle.js_eval.specs.code.Standing.{IsSchemaAt}
+use Rattle.js_eval.specs.declared.instance.Applied.{Applied}
 use Rattle.js_eval.specs.declared.cursors.asking.Asking.{Asking}
 use Rattle.js_eval.specs.declared.cursors.asking.Asking.TheVariants.{One, List, Names, Items, Members, Patterns}
 use Rattle.js_eval.specs.declared.cursors.pattern_cursor.PatternCursor.{PatternCursor}

@@ -12,13 +12,13 @@ use Rattle.js_doc.specs.Value.{Value, Named}
 use Rattle.js_doc.specs.declared.doc.Doc.{Doc}
 use Rattle.js_bundle.specs.Document.{Documents}
 use Rattle.js_bundle.specs.Resource.{Site}
-use Rattle.js_walk.specs.Applications.{Application, application, among_indexes, among_names, indexed_from}
+use Rattle.js_eval.specs.Applications.{Application, application, among_indexes, among_names, indexed_from}
 use Rattle.js_eval.specs.code.Applied.{applied}
 pub use Rattle.js_eval.specs.code.Patterns.{named_in}
-use Rattle.js_walk.specs.code.Standing.{IsSchemaAt}
-use Rattle.js_walk.specs.Bundle.{schemas_of}
-use Rattle.js_walk.specs.SchemaSet.{Text, Index, Name}
-use Rattle.js_walk.specs.Sited.{numbered_site}
+use Rattle.js_eval.specs.code.Standing.{IsSchemaAt}
+use Rattle.js_eval.specs.Bundle.{schemas_of}
+use Rattle.js_eval.specs.SchemaSet.{Text, Index, Name}
+use Rattle.js_eval.specs.Sited.{numbered_site}
 use Rattle.js_eval.specs.declared.cursors.item_cursor.ItemCursor.{ItemCursor}
 use Rattle.js_eval.specs.declared.cursors.member_cursor.Choice.{Choice}
 use Rattle.js_eval.specs.declared.cursors.member_cursor.Choice.TheVariants as choice
@@ -48,12 +48,12 @@ items_asked documents c =
 -- ---- members
 
 -- a name among those of a set
-unfoldable pub is_key : List (Bor Text) → Text → Bool
-is_key keys name = list_any (λ k. is_eq (slice_cmp nat_cmp name k.now)) keys
+unfoldable pub is_among_keys : List (Bor Text) → Text → Bool
+is_among_keys keys name = list_any (λ k. is_eq (slice_cmp nat_cmp name k.now)) keys
 
 -- a set has these names, and no others
 abbrev pub HasNames : List (Bor Text) → List Text → Type 0
-HasNames keys names = (name : Text) → is_key keys name ≡ among_names name names
+HasNames keys names = (name : Text) → is_among_keys keys name ≡ among_names name names
 
 abbrev pub is_named : Option (Bor Named) → Text → Bool
 is_named properties name = has name (named_in properties)
@@ -67,7 +67,7 @@ is_chosen choice.All name = true
 is_chosen (choice.Named named) name = has name named.now
 is_chosen (choice.Additional adjacent) name =
     not (is_named adjacent.properties name || is_matched adjacent.patterns name)
-is_chosen (choice.Except names) name = not (is_key names.keys name)
+is_chosen (choice.Except names) name = not (is_among_keys names.keys name)
 
 -- those of the members that are chosen
 abbrev pub chosen_members : Choice → List (List ℕ × Doc) → Named

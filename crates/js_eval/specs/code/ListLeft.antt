@@ -5,13 +5,13 @@ use Rattle.js_bundle.specs.Document.{Documents}
 use Rattle.js_bundle.specs.Resource.{Site}
 use Rattle.js_doc.specs.Seen.{value_of}
 use Rattle.js_bundle.specs.Ranked.{is_index}
-use Rattle.js_walk.specs.Applications.{Application, application, indexed_from}
-use Rattle.js_walk.specs.Bundle.{schemas_of}
-use Rattle.js_walk.specs.SchemaSet.{Alone, Index}
-use Rattle.js_walk.specs.Seen.{instance_of, keyword_of}
-use Rattle.js_walk.specs.Sited.{numbered_site}
-use Rattle.js_walk.specs.code.Holding.{IsIn, held_at}
-use Rattle.js_walk.specs.code.Standing.{IsSchemaAt}
+use Rattle.js_eval.specs.Applications.{Application, application, indexed_from}
+use Rattle.js_eval.specs.Bundle.{schemas_of}
+use Rattle.js_eval.specs.SchemaSet.{Alone, Index}
+use Rattle.js_eval.specs.Seen.{instance_of, keyword_of}
+use Rattle.js_eval.specs.Sited.{numbered_site}
+use Rattle.js_eval.specs.code.Holding.{IsIn, held_at}
+use Rattle.js_eval.specs.code.Standing.{IsSchemaAt}
 use Rattle.js_eval.specs.declared.cursors.list_cursor.ListCursor.{ListCursor}
 
 abbrev pub list_asked : Documents → ListCursor → List (Application Site)

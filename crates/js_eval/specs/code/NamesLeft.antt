@@ -8,13 +8,13 @@ use Rattle.js_doc.specs.Members.{IsAscending}
 use Rattle.js_doc.specs.Value as doc
 use Rattle.js_doc.specs.declared.doc.Doc.{Doc}
 use Rattle.js_bundle.specs.Ranked.{is_name}
-use Rattle.js_walk.specs.Applications.{Application, application}
-use Rattle.js_walk.specs.Bundle.{schemas_of}
-use Rattle.js_walk.specs.SchemaSet.{Name, Text}
-use Rattle.js_walk.specs.Seen.{keyword_of}
-use Rattle.js_walk.specs.Sited.{numbered_site}
-use Rattle.js_walk.specs.code.Holding.{IsIn, held_at}
-use Rattle.js_walk.specs.code.Standing.{IsSchemaAt}
+use Rattle.js_eval.specs.Applications.{Application, application}
+use Rattle.js_eval.specs.Bundle.{schemas_of}
+use Rattle.js_eval.specs.SchemaSet.{Name, Text}
+use Rattle.js_eval.specs.Seen.{keyword_of}
+use Rattle.js_eval.specs.Sited.{numbered_site}
+use Rattle.js_eval.specs.code.Holding.{IsIn, held_at}
+use Rattle.js_eval.specs.code.Standing.{IsSchemaAt}
 use Rattle.js_eval.specs.declared.cursors.name_cursor.Among.{Among}
 use Rattle.js_eval.specs.declared.cursors.name_cursor.Among.TheVariants.{All, Left}
 use Rattle.js_eval.specs.declared.cursors.name_cursor.NameCursor.{NameCursor}

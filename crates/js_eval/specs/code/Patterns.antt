@@ -5,7 +5,7 @@ use Rattle.std.specs.Prelude.{◌≡◌, ℕ, Bool, true, [], Option, Some, None
 use Rattle.js_bundle.specs.Document.{Documents}
 use Rattle.js_bundle.specs.Schemas.{pattern, place_at}
 use Rattle.js_doc.specs.Value.{Named}
-use Rattle.js_walk.specs.SchemaSet.{Text}
+use Rattle.js_eval.specs.SchemaSet.{Text}
 
 -- the members of an argument, where it is an object
 abbrev pub named_in : Option (Bor Named) → Named

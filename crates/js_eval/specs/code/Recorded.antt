@@ -1,8 +1,8 @@
 -- What the reporter that keeps rows takes (of private functions).
 use Rattle.std.specs.Prelude.{◌≡◌}
 use Rattle.js_tree.specs.Events.{Event}
-use Rattle.js_rows.specs.RelativeState.{relative_after, relative_state}
-use Rattle.js_rows.specs.declared.rows.RelativeRows.{RelativeRows}
+use Rattle.js_tree.specs.Rows.RelativeState.{relative_after, relative_state}
+use Rattle.js_tree.specs.declared.rows.relative_rows.RelativeRows.{RelativeRows}
 use Rattle.js_eval.specs.declared.reporters.recording.Recording.{Recording}
 
 -- the event leads from these rows to those

@@ -3,12 +3,14 @@ ghost use Rattle.std.specs.Prelude.{◌≡◌};
 ghost use Rattle.js_bundle.specs.Ranked.{HoldsAtRank};
 ghost use Rattle.js_eval.specs.code.Applied.{IsHeld, applied, applied_of, at_in, site_in, step_in, applied_value};
 ghost use Rattle.js_eval.specs.code.Asked.{IsApplied};
-ghost use Rattle.js_walk.specs.code.Starting.{IsAtPlace, by_keyword};
-ghost use Rattle.js_walk.specs.code.Terms.{IsSchemaAt, instance_of, numbered_site, step_of, value_of};
+ghost use Rattle.js_eval.specs.code.Starting.{IsAtPlace, by_keyword};
+ghost use Rattle.js_eval.specs.code.Terms.{IsSchemaAt, instance_of, numbered_site, step_of, value_of};
 
+use crate::instance::{Applied, Instance};
+use crate::kinds::keyword::KeywordAt;
+use crate::schema_lookup::{below_at_rank, subschema_at};
 use js_bundle::{Place, Schemas, Step};
 use js_doc::Doc;
-use js_walk::{Applied, Instance, KeywordAt, below_at_rank, subschema_at};
 
 /// Where to find the subschemas that a keyword applies to the parts of a value.
 #[derive(Clone, Copy)]

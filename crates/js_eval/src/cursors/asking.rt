@@ -1,18 +1,18 @@
 //! The applications that a keyword asks for, one after another (Core, sections 8.2.3, 10 and 11).
 ghost use Rattle.std.specs.Prelude.{◌≡◌, ◌∷◌, [], IfOk, MatchOption};
 ghost use Rattle.js_eval.specs.code.Asked.{IsApplied, IsAsking, IsNext, IsOne, asked, one_asked};
-ghost use Rattle.js_walk.specs.code.Terms.{Documents, IsSchemaAt, instance_of, numbered_site, value_of};
-ghost use Rattle.js_walk.specs.SchemaSet as spec;
+ghost use Rattle.js_eval.specs.code.Terms.{Documents, IsSchemaAt, instance_of, numbered_site, value_of};
+ghost use Rattle.js_eval.specs.SchemaSet as spec;
 
 use crate::cursors::item_cursor::ItemCursor;
 use crate::cursors::list_cursor::ListCursor;
 use crate::cursors::member_cursor::MemberCursor;
 use crate::cursors::name_cursor::NameCursor;
 use crate::cursors::pattern_cursor::PatternCursor;
+use crate::instance::{Applied, Instance};
 use crate::searching::searchers::{PatternSearch, Searchers};
 use js_bundle::{Place, Schemas, Step};
 use js_doc::{Doc, Memory};
-use js_walk::{Applied, Instance};
 use std::alloc::Global;
 
 /// The applications that a keyword still has to ask for.

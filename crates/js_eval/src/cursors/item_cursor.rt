@@ -4,13 +4,13 @@ ghost use Rattle.std.specs.Prelude.{◌≡◌, ◌∷◌, [], MatchOption};
 ghost use Rattle.js_eval.specs.code.Applied.{IsHeld};
 ghost use Rattle.js_eval.specs.code.Asked.{IsApplied, IsNext};
 ghost use Rattle.js_eval.specs.code.Cursors.{items_asked, items_left};
-ghost use Rattle.js_walk.specs.code.Terms.{value_of};
+ghost use Rattle.js_eval.specs.code.Terms.{value_of};
 
 use crate::cursors::application::{AppliedTo, Subschemas, apply_to_part};
+use crate::instance::Applied;
 use crate::marks::is_marked;
 use js_bundle::{Schemas, Step};
 use js_doc::Doc;
-use js_walk::Applied;
 
 /// The applications that a keyword still has to ask for, one for each item.
 #[derive(Drop)]

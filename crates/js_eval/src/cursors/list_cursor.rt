@@ -4,9 +4,10 @@ ghost use Rattle.js_eval.specs.code.Asked.{IsApplied, IsNext};
 ghost use Rattle.js_eval.specs.code.ListLeft.{IsList, list_asked};
 
 use crate::cursors::application::apply_at_rank;
+use crate::instance::{Applied, Instance};
+use crate::kinds::keyword::KeywordAt;
 use js_bundle::{Schemas, Step};
 use js_doc::Doc;
-use js_walk::{Applied, Instance, KeywordAt};
 
 /// The schemas of a keyword's list that are still to come.
 #[derive(Drop)]

@@ -8,15 +8,15 @@ ghost use Rattle.js_eval.specs.code.Applied.{IsHeld};
 ghost use Rattle.js_eval.specs.code.Asked.{IsApplied, IsNext};
 ghost use Rattle.js_eval.specs.code.Cursors.{is_chosen, is_named, members_asked, chosen_members};
 ghost use Rattle.js_eval.specs.code.Patterns.{ArePatternsAt};
-ghost use Rattle.js_walk.specs.code.Terms.{value_of};
+ghost use Rattle.js_eval.specs.code.Terms.{value_of};
 
 use crate::cursors::adjacent::Adjacent;
 use crate::cursors::application::{AppliedTo, Subschemas, apply_to_part};
+use crate::instance::Applied;
 use crate::searching::name_set::is_in;
 use crate::searching::searchers::{PatternSearch, pattern_of};
 use js_bundle::{Place, Schemas, Step};
 use js_doc::{Doc, Members, Memory, Pairs};
-use js_walk::Applied;
 use std::collections::BTreeSet;
 
 /// Which members a keyword chooses, by their names.

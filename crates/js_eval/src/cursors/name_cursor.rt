@@ -7,13 +7,14 @@ ghost use Rattle.js_doc.specs.Value as doc;
 ghost use Rattle.js_bundle.specs.Ranked.{is_name};
 ghost use Rattle.js_eval.specs.code.Asked.{IsApplied, IsNext};
 ghost use Rattle.js_eval.specs.code.NamesLeft.{AreLeft, IsNames, members_among, names_asked, names_left};
-ghost use Rattle.js_walk.specs.code.Starting.{HoldsBy, IsAtPlace, on_namesakes};
-ghost use Rattle.js_walk.specs.code.Terms.{Documents, entries, has, pair_of, value_of};
+ghost use Rattle.js_eval.specs.code.Starting.{HoldsBy, IsAtPlace, on_namesakes};
+ghost use Rattle.js_eval.specs.code.Terms.{Documents, entries, has, pair_of, value_of};
 
 use crate::cursors::application::apply_at_rank;
+use crate::instance::{Applied, Instance};
+use crate::kinds::keyword::KeywordAt;
 use js_bundle::{Schemas, Step};
 use js_doc::{Doc, Members, Pairs, name_order};
-use js_walk::{Applied, Instance, KeywordAt};
 use std::cmp::Ordering;
 
 /// The names in `properties` that are still to come, and the members to find them among.

@@ -6,15 +6,17 @@ ghost use Rattle.js_assert.specs.Pattern.{matches};
 ghost use Rattle.js_eval.specs.code.Asked.{ArePatterns, IsApplied, IsNext};
 ghost use Rattle.js_eval.specs.code.Cursors.{IsBegun, on_matched_member, patterns_asked};
 ghost use Rattle.js_eval.specs.code.Patterns.{ArePatternsAt, IsPatternAt};
-ghost use Rattle.js_walk.specs.SchemaSet as spec;
-ghost use Rattle.js_walk.specs.code.Starting.{IsAtPlace, by_keyword};
-ghost use Rattle.js_walk.specs.code.Terms.{Documents, IsSchemaAt, pair_of, value_of};
+ghost use Rattle.js_eval.specs.SchemaSet as spec;
+ghost use Rattle.js_eval.specs.code.Starting.{IsAtPlace, by_keyword};
+ghost use Rattle.js_eval.specs.code.Terms.{Documents, IsSchemaAt, pair_of, value_of};
 
+use crate::instance::{Applied, Instance};
+use crate::kinds::keyword::KeywordAt;
 use crate::schema::argument_in;
+use crate::schema_lookup::subschema_at;
 use crate::searching::searchers::{NamedPattern, PatternSearch, pattern_of};
 use js_bundle::{Place, Step};
 use js_doc::{Doc, Members, Memory, Pairs};
-use js_walk::{Applied, Instance, KeywordAt, subschema_at};
 
 /// The patterns that are still to come, and the members that are left for the present one.
 #[derive(Drop)]

@@ -1,10 +1,11 @@
 //! What the applications of a keyword start from.
 ghost use Rattle.std.specs.Prelude.{◌≡◌, [], MatchOption};
-ghost use Rattle.js_walk.specs.code.Terms.{entries, value_of};
+ghost use Rattle.js_eval.specs.code.Terms.{entries, value_of};
 
+use crate::instance::{Instance, object_in};
+use crate::kinds::keyword::KeywordAt;
 use js_bundle::Schemas;
 use js_doc::Members;
-use js_walk::{Instance, KeywordAt, object_in};
 use std::alloc::Global;
 
 /// A keyword of finished schemas, and the value that it is evaluated on.

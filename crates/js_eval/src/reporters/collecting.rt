@@ -2,15 +2,15 @@
 ghost use Rattle.std.specs.Prelude.{OnOk};
 ghost use Rattle.js_tree.specs.Events.{opening};
 
+use crate::evaluation::{HeldText, KeywordVerdict, Reporter, Trail, World};
 use crate::finished_world::FinishedSchemas;
-use crate::judging::notes::{Findings, make_keyword_note, make_schema_note};
+use crate::instance::Instance;
+use crate::keywords::notes::{Findings, make_keyword_note, make_schema_note};
+use crate::kinds::keyword::Keyword;
+use crate::reporters::absolute::{absolute_keyword, absolute_schema};
 use js_bundle::Place;
 use js_doc::{Doc, Memory, Text};
 use js_tree::{Collector, Head};
-use js_walk::{
-    HeldText, Instance, Keyword, KeywordVerdict, Reporter, Trail, World, absolute_keyword,
-    absolute_schema,
-};
 use std::alloc::Global;
 use std::marker::PhantomData;
 

@@ -1,17 +1,17 @@
 //! The reporter that keeps the result of a walk as rows.
 ghost use Rattle.std.specs.Prelude.{◌≡◌, ◌++◌, OnOk, string_bytes, true};
 ghost use Rattle.js_doc.specs.Fragment.{fragment_token};
-ghost use Rattle.js_rows.specs.RelativeState.{TakesLeafAt, relative_after, relative_state};
-ghost use Rattle.js_walk.specs.code.Standard.{IsWrittenAsItIs};
+ghost use Rattle.js_tree.specs.Rows.RelativeState.{TakesLeafAt, relative_after, relative_state};
+ghost use Rattle.js_eval.specs.code.Standard.{IsWrittenAsItIs};
 
+use crate::evaluation::{HeldText, KeywordVerdict, Reporter, Trail, World};
 use crate::finished_world::FinishedSchemas;
-use crate::judging::notes::{Findings, make_keyword_note, make_schema_note};
+use crate::instance::Instance;
+use crate::keywords::notes::{Findings, make_keyword_note, make_schema_note};
+use crate::kinds::keyword::{Keyword, is_written_as_it_is};
 use js_bundle::Place;
 use js_doc::{Doc, Memory, push_fragment_token};
-use js_rows::RelativeRows;
-use js_walk::{
-    HeldText, Instance, Keyword, KeywordVerdict, Reporter, Trail, World, is_written_as_it_is,
-};
+use js_tree::RelativeRows;
 use std::alloc::Global;
 
 /// Adds a row for each node of the result. Its methods aren't inlined: that keeps the notes that they make out of the

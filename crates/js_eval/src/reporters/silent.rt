@@ -1,7 +1,7 @@
 //! A reporter that ignores every event.
+use crate::evaluation::{KeywordVerdict, PointerText, Reporter, Trail, World};
 use js_bundle::Place;
 use js_doc::Memory;
-use js_walk::{KeywordVerdict, PointerText, Reporter, Trail, World};
 use std::alloc::Global;
 
 /// Ignores every event, for a walk that only needs the verdict.

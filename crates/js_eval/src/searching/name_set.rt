@@ -1,8 +1,8 @@
 //! A set of names, for fast look-ups.
 ghost use Rattle.std.specs.Prelude.{◌≡◌, ◌++◌, ◌∷◌, [], IfOk, List, OnOk};
-ghost use Rattle.js_eval.specs.code.Cursors.{HasNames, is_key};
-ghost use Rattle.js_walk.specs.SchemaSet.{Text};
-ghost use Rattle.js_walk.specs.Seen.{texts_of};
+ghost use Rattle.js_eval.specs.code.Cursors.{HasNames, is_among_keys};
+ghost use Rattle.js_eval.specs.SchemaSet.{Text};
+ghost use Rattle.js_eval.specs.Seen.{texts_of};
 
 use js_doc::Memory;
 use std::alloc::Global;
@@ -31,9 +31,9 @@ fn insert<'a>(set: &mut BTreeSet<&'a str>, name: &'a str) -> Result<(), Memory>
 }
 
 /// Whether the name is in the set.
-#[tactic(auto, unfolding(crate::specs::code::Cursors::is_key))]
+#[tactic(auto, unfolding(crate::specs::code::Cursors::is_among_keys))]
 pub(crate) fn is_in(names: &BTreeSet<&str>, name: &str) -> bool
-    ensures { result ≡ is_key names.now.keys name.now }
+    ensures { result ≡ is_among_keys names.now.keys name.now }
 {
     names.contains(name)
 }

@@ -4,14 +4,14 @@ ghost use Rattle.std.specs.Prelude.{◌≡◌, IfOk, MatchOption, drop, map};
 ghost use Rattle.std.specs.List.{list_any};
 ghost use Rattle.js_assert.specs.Pattern.{matches};
 ghost use Rattle.js_doc.specs.Seen.{pair_of, value_of};
-ghost use Rattle.js_walk.specs.code.Standing.{IsSchemaAt};
+ghost use Rattle.js_eval.specs.code.Standing.{IsSchemaAt};
 
+use crate::instance::Instance;
 use crate::marks::is_marked;
 use crate::schema::patterns_in;
 use crate::searching::searchers::{NamedPattern, Searchers, pattern_of};
 use js_bundle::{Place, Schemas};
 use js_doc::{Doc, Members, Memory, Pairs};
-use js_walk::Instance;
 use std::alloc::Global;
 
 /// For one pattern: whether it matches each name of an object. Names are asked for in ascending order, and some may be

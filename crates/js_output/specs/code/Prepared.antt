@@ -3,16 +3,16 @@ use Rattle.std.specs.Prelude.{◌≡◌, Bool, Option}
 pub use Rattle.js_doc.specs.Value.{Value}
 pub use Rattle.js_tree.specs.Form.{form}
 pub use Rattle.js_tree.specs.Result.{ResultTree, kept, pruned}
-pub use Rattle.js_tree.specs.declared.forms.Format.TheVariants.{Merged}
-pub use Rattle.js_rows.specs.RelativeState.{AreRowsOf}
+pub use Rattle.js_tree.specs.declared.formats.Format.TheVariants.{Merged}
+pub use Rattle.js_tree.specs.Rows.RelativeState.{AreRowsOf}
 use Rattle.js_tree.specs.Form.{flag, verbose}
-use Rattle.js_rows.specs.Locations.{HasRoomFor}
-use Rattle.js_tree.specs.declared.forms.Format.{Format}
-use Rattle.js_tree.specs.declared.forms.Format.TheVariants.{Basic}
+use Rattle.js_tree.specs.Rows.Locations.{HasRoomFor}
+use Rattle.js_tree.specs.declared.formats.Format.{Format}
+use Rattle.js_tree.specs.declared.formats.Format.TheVariants.{Basic}
 use Rattle.js_bundle.specs.Document as bundle
 use Rattle.js_bundle.specs.Resource.{Site}
 use Rattle.js_eval.specs.Result.{IsWithinLimits}
-use Rattle.js_walk.specs.declared.walking.limits.Limits.{Limits}
+use Rattle.js_eval.specs.declared.evaluation.limits.Limits.{Limits}
 use Rattle.js_output.specs.Outcome.{IsResultOf}
 use Rattle.js_output.specs.declared.prepared.Prepared.{Prepared}
 use Rattle.js_output.specs.declared.prepared.Prepared.TheVariants as prepared

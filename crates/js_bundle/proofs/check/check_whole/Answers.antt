@@ -1,25 +1,25 @@
 use Rattle.std.proofs.Common.{◌≡◌, ℕ, List, [], codes, map, nat_eq, sym, ap, subst, ◌∙◌}
 use Rattle.std.proofs.lemmas.Result.{err_from_is_err_and}
 use Rattle.indexmap.specs.IndexMap.{get}
-use Rattle.js_places.specs.declared.document.Document.{Document}
-use Rattle.js_places.specs.declared.scan.site.Site.{Site}
+use Rattle.js_bundle.specs.declared.document.Document.{Document}
+use Rattle.js_bundle.specs.declared.scan.site.Site.{Site}
 use Rattle.js_bundle.specs.Candidate.{IsClear}
 use Rattle.js_bundle.specs.Finding.{dynamic_at, number_of_target}
-use Rattle.js_places.specs.Finding.{under_number}
-use Rattle.js_places.specs.KeywordName.{member_keywords}
-use Rattle.js_places.specs.code.StoredLocation.{stored_location}
+use Rattle.js_bundle.specs.code.PlaceNumbers.{under_number}
+use Rattle.js_bundle.specs.KeywordName.{member_keywords}
+use Rattle.js_bundle.specs.code.StoredLocation.{stored_location}
 use Rattle.js_bundle.specs.Refusals.{first_pass}
-use Rattle.js_places.specs.Resource as places
-use Rattle.js_places.specs.Resource.{sites}
-use Rattle.js_places.specs.ResourceTable.{AreRooted, IsResourceTable}
-use Rattle.js_places.specs.Seen.{document_of}
-use Rattle.js_places.specs.code.SparseList.{IsSparseList}
-use Rattle.js_places.specs.code.PartsByPlace.{ArePartsByPlace}
-use Rattle.js_places.specs.code.Index.{IsIndexOf}
-use Rattle.js_places.specs.code.Positions.{ArePositionsOf}
-use Rattle.js_places.specs.code.Scan.{scanned, site_of}
+use Rattle.js_bundle.specs.Resource as places
+use Rattle.js_bundle.specs.Resource.{sites}
+use Rattle.js_bundle.specs.ResourceTable.{AreRooted, IsResourceTable}
+use Rattle.js_bundle.specs.Seen.{document_of}
+use Rattle.js_bundle.specs.code.SparseList.{IsSparseList}
+use Rattle.js_bundle.specs.code.PartsByPlace.{ArePartsByPlace}
+use Rattle.js_bundle.specs.code.Index.{IsIndexOf}
+use Rattle.js_bundle.specs.code.Positions.{ArePositionsOf}
+use Rattle.js_bundle.specs.code.Scan.{scanned, site_of}
 use Rattle.js_bundle.specs.code.CheckedSite.{checked_site}
-use Rattle.js_places.proofs.Listing.RootsOfResources.{all_are_rooted}
+use Rattle.js_bundle.proofs.Listing.RootsOfResources.{all_are_rooted}
 use Rattle.js_bundle.proofs.Checking.StoppedScan.{lists_all, first_stops, second_stops, whole_clear}
 use Rattle.js_bundle.proofs.check.check_whole.Goals as goal
 

@@ -2,8 +2,7 @@ use Rattle.std.proofs.Common.{[], ◌∷◌, subst}
 use Rattle.std.proofs.lemmas.Result.{err_from_is_err_and}
 use Rattle.js_output.specs.Device.{IsLeft}
 use Rattle.js_command.specs.Files.{IsFileFault}
-use Rattle.js_command.specs.Words.{files_of}
-use Rattle.js_command.specs.code.Tasks.{pairs_seen}
+use Rattle.js_command.specs.Words.{files_of, pairs_seen}
 use Rattle.js_command.proofs.FileFaults.{fault_before, fault_last}
 use Rattle.js_command.proofs.documents.take_texts.Goals as goal
 

@@ -1,7 +1,6 @@
 use Rattle.std.proofs.Common.{None, false, subst}
 use Rattle.js_command.specs.Answer.{Performs, RequestOutcome}
-use Rattle.js_command.specs.Words.{places}
-use Rattle.js_command.specs.code.Tasks.{pairs_seen}
+use Rattle.js_command.specs.Words.{places, pairs_seen}
 use Rattle.js_command.proofs.InputUse.{pair_reads}
 use Rattle.js_command.proofs.ProgramAnswers.{pair_reported}
 use Rattle.js_command.proofs.tasks.perform.Goals as goal

@@ -3,9 +3,8 @@ use Rattle.std.proofs.lemmas.Result.{err_from_is_err_and}
 use Rattle.js_output.specs.Device.{input_limit, IsLeft}
 use Rattle.js_output.specs.declared.fault.Fault.TheVariants as fault
 use Rattle.js_command.specs.Files.{IsFirstFileFault}
-use Rattle.js_command.specs.Words.{files_of}
+use Rattle.js_command.specs.Words.{files_of, pairs_seen}
 use Rattle.js_command.specs.code.Taken.{AreTaken}
-use Rattle.js_command.specs.code.Tasks.{pairs_seen}
 use Rattle.js_command.proofs.ProgramAnswers.{texts_untaken, documents_refused, check_reported, suite_reported}
 use Rattle.js_command.proofs.ProgramAnswers.{suite_fault}
 use Rattle.js_command.proofs.tasks.perform_judging.Goals as goal

@@ -1,6 +1,6 @@
 use Rattle.std.proofs.Common.{◌∙◌}
 use Rattle.std.proofs.lemmas.Result.{err_from_is_err_and}
-use Rattle.js_command.specs.code.Tasks.{pairs_seen}
+use Rattle.js_command.specs.Words.{pairs_seen}
 use Rattle.js_command.proofs.ProgramAnswers.{places_begun, places_refused, places_reported, places_untaken}
 use Rattle.js_command.proofs.tasks.perform_places.Goals as goal
 

@@ -1,5 +1,5 @@
 use Rattle.std.proofs.Common.{[]}
-use Rattle.js_command.specs.code.Tasks.{pairs_seen}
+use Rattle.js_command.specs.Words.{pairs_seen}
 use Rattle.js_command.proofs.Pairs.{read_odd}
 use Rattle.js_command.proofs.words.documents_of.Goals as goal
 

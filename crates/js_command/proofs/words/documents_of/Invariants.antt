@@ -1,6 +1,5 @@
 use Rattle.std.proofs.Common.{◌≡◌, ◌≤◌, ◌-◌, length, drop}
-use Rattle.js_command.specs.Words.{pairs_in, words_of}
-use Rattle.js_command.specs.code.Tasks.{pairs_seen}
+use Rattle.js_command.specs.Words.{pairs_in, words_of, pairs_seen}
 use Rattle.js_command.proofs.Pairs.{onto}
 use Rattle.js_command.proofs.words.documents_of.Given as goal
 

@@ -1,7 +1,7 @@
 use Rattle.std.specs.Prelude.{◌≤◌}
 use Rattle.std.proofs.Common.{subst, sym}
-use Rattle.js_walk.proofs.Results.{grown}
-use Rattle.js_walk.proofs.DepthAndSize.{settled_from_depth, depth_from_settled, size_from_settled}
+use Rattle.js_eval.proofs.Results.{grown}
+use Rattle.js_eval.proofs.DepthAndSize.{settled_from_depth, depth_from_settled, size_from_settled}
 use Rattle.js_eval.proofs.laws.limits.Goals as goal
 
 pub returns : goal.returns

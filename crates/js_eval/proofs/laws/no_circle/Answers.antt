@@ -1,4 +1,4 @@
-use Rattle.js_walk.proofs.NoCircle.{names_in_no_circle, indexes_in_no_circle}
+use Rattle.js_eval.proofs.NoCircle.{names_in_no_circle, indexes_in_no_circle}
 use Rattle.js_eval.proofs.laws.no_circle.Goals as goal
 
 pub returns : goal.returns

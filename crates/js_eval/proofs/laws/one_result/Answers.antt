@@ -1,4 +1,4 @@
-use Rattle.js_walk.proofs.Results.{one_result, grown}
+use Rattle.js_eval.proofs.Results.{one_result, grown}
 use Rattle.js_eval.proofs.laws.one_result.Goals as goal
 
 pub returns : goal.returns

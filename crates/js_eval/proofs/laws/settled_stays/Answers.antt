@@ -1,4 +1,4 @@
-use Rattle.js_walk.proofs.Agree.{up_to}
+use Rattle.js_eval.proofs.Agree.{up_to}
 use Rattle.js_eval.proofs.laws.settled_stays.Goals as goal
 
 pub returns : goal.returns

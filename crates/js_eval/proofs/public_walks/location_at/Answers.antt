@@ -1,7 +1,7 @@
 use Rattle.std.proofs.Common.{Some, option_map, ap, sym, ◌∙◌}
 use Rattle.js_bundle.specs.Location.{location}
 use Rattle.js_bundle.specs.Schemas.{place_at}
-use Rattle.js_walk.proofs.Paths.{first_alone}
+use Rattle.js_eval.proofs.Paths.{first_alone}
 use Rattle.js_eval.proofs.public_walks.location_at.Goals as goal
 
 pub returns-then-is_empty : goal.returns-then-is_empty

@@ -1,6 +1,6 @@
 use Rattle.js_tree.proofs.EventSequences.{passes-inside}
 use Rattle.js_tree.specs.Events.{events}
-use Rattle.js_rows.specs.declared.rows.RelativeRows.{RelativeRows}
+use Rattle.js_tree.specs.declared.rows.relative_rows.RelativeRows.{RelativeRows}
 use Rattle.js_eval.specs.code.Recorded.{AddsRow}
 use Rattle.js_eval.specs.declared.reporters.recording.Recording.{Recording}
 use Rattle.js_eval.proofs.public_walks.recorded.Goals as goal

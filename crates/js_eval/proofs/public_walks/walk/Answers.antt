@@ -1,7 +1,7 @@
 use Rattle.std.proofs.Common.{◌∙◌, sym, subst}
 use Rattle.js_doc.specs.Seen.{value_of}
 use Rattle.js_tree.proofs.WholeTreeCollected.{boxed_held}
-use Rattle.js_walk.specs.Result.{standard_limits}
+use Rattle.js_eval.specs.Result.{standard_limits}
 use Rattle.js_eval.specs.Walked.{IsResultWithin}
 use Rattle.js_eval.proofs.Options.{some_there, same_there}
 use Rattle.js_eval.proofs.public_walks.walk.Goals as goal

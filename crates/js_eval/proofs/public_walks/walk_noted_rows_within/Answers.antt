@@ -1,12 +1,12 @@
 use Rattle.std.specs.Prelude.{[]}
 use Rattle.js_doc.specs.Seen.{value_of}
-use Rattle.js_rows.proofs.TrimmedRowsCollected.{trimmed_held}
-use Rattle.js_rows.specs.RelativeState.{AreTrimmedOf}
-use Rattle.js_walk.specs.Bundle.{schemas_of}
-use Rattle.js_walk.specs.Location.{at_root}
-use Rattle.js_walk.specs.Sited.{numbered_site}
+use Rattle.js_tree.proofs.RowsOfTrees.TrimmedRowsCollected.{trimmed_held}
+use Rattle.js_tree.specs.Rows.RelativeState.{AreTrimmedOf}
+use Rattle.js_eval.specs.Bundle.{schemas_of}
+use Rattle.js_eval.specs.Location.{at_root}
+use Rattle.js_eval.specs.Sited.{numbered_site}
 use Rattle.js_eval.proofs.Located.{result_is_located, root_is_at}
-use Rattle.js_walk.proofs.Paths.{location_is}
+use Rattle.js_eval.proofs.Paths.{location_is}
 use Rattle.js_eval.proofs.public_walks.walk_noted_rows_within.Goals as goal
 
 pub returns-in_ok-put_root_back-in-Ok-clause-ok : goal.returns-in_ok-put_root_back-in-Ok-clause-ok

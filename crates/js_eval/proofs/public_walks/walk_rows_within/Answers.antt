@@ -1,9 +1,9 @@
 use Rattle.std.specs.Prelude.{[]}
 use Rattle.js_doc.specs.Seen.{value_of}
-use Rattle.js_rows.proofs.RelativeRowsCollected.{relative_held}
-use Rattle.js_walk.specs.Bundle.{schemas_of}
-use Rattle.js_walk.specs.Location.{at_root}
-use Rattle.js_walk.specs.Sited.{numbered_site}
+use Rattle.js_tree.proofs.RowsOfTrees.RelativeRowsCollected.{relative_held}
+use Rattle.js_eval.specs.Bundle.{schemas_of}
+use Rattle.js_eval.specs.Location.{at_root}
+use Rattle.js_eval.specs.Sited.{numbered_site}
 use Rattle.js_eval.proofs.Located.{result_is_located}
 use Rattle.js_eval.proofs.public_walks.walk_rows_within.Goals as goal
 

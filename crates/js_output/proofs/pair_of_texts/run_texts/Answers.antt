@@ -1,7 +1,7 @@
 use Rattle.std.proofs.Common.{[], ◌∷◌}
 use Rattle.std.proofs.lemmas.Result.{err_from_is_err_and}
 use Rattle.js_eval.specs.Result.{standard_limits}
-use Rattle.js_tree.specs.declared.forms.Format.TheVariants.{Flag}
+use Rattle.js_tree.specs.declared.formats.Format.TheVariants.{Flag}
 use Rattle.js_output.specs.Documents.{DocumentTexts, bundle_of, documents_causes}
 use Rattle.js_output.specs.Entry.{entry_causes, entry_place}
 use Rattle.js_output.specs.Outcome.{beginning_causes, FinishedOutcome, InstanceOutcome, OutcomeOfTexts, output_report}

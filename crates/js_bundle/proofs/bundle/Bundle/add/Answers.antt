@@ -1,6 +1,6 @@
 use Rattle.std.proofs.Common.{subst, ◌∙◌}
 use Rattle.js_bundle.specs.Adding.{IsTaken}
-use Rattle.js_places.specs.Seen.{document_of}
+use Rattle.js_bundle.specs.Seen.{document_of}
 use Rattle.js_bundle.proofs.Checking.DocumentsAdded.{added}
 use Rattle.js_bundle.proofs.bundle.Bundle.add.Goals as goal
 

@@ -2,7 +2,7 @@ use Rattle.std.proofs.Common.{map, ap, ◌∙◌, subst}
 use Rattle.js_bundle.specs.Candidate.{IsClear}
 use Rattle.js_bundle.specs.Depth.{NoneTooDeep}
 use Rattle.js_bundle.specs.Refusals.{candidates}
-use Rattle.js_places.specs.Seen.{document_of}
+use Rattle.js_bundle.specs.Seen.{document_of}
 use Rattle.js_bundle.proofs.Checking.Depth.{none_too_deep}
 use Rattle.js_bundle.proofs.Checking.CheckStops.{none_decided}
 use Rattle.js_bundle.proofs.bundle.Bundle.finish.Goals as goal

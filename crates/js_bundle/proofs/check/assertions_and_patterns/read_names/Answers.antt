@@ -8,9 +8,9 @@ use Rattle.js_doc.proofs.PartLists.{member_list-members}
 use Rattle.js_bundle.specs.AssertionsAndPatterns.{pattern_at}
 use Rattle.js_bundle.specs.Candidate.{IsClear, IsStopped}
 use Rattle.js_bundle.specs.Refusals.{at_pattern, name_rules}
-use Rattle.js_places.specs.Keyword.{Text}
-use Rattle.js_places.specs.Resource.{Site}
-use Rattle.js_places.specs.code.Scan.{site_of}
+use Rattle.js_bundle.specs.Keyword.{Text}
+use Rattle.js_bundle.specs.Resource.{Site}
+use Rattle.js_bundle.specs.code.Scan.{site_of}
 use Rattle.js_bundle.proofs.check.assertions_and_patterns.read_names.Goals as goal
 
 -- what is made of the members, where the keyword is `patternProperties`

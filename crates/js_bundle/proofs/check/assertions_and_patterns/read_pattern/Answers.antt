@@ -1,6 +1,6 @@
 use Rattle.std.proofs.Common.{[], ◌∷◌, subst}
 use Rattle.js_assert.specs.Pattern.{IsPatternFault}
-use Rattle.js_places.specs.code.Scan.{site_of}
+use Rattle.js_bundle.specs.code.Scan.{site_of}
 use Rattle.js_bundle.proofs.Checking.AssertionRules.{clear_pattern, bad_pattern, large_pattern}
 use Rattle.js_bundle.proofs.check.assertions_and_patterns.read_pattern.Goals as goal
 

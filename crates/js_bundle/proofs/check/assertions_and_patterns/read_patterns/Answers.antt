@@ -4,10 +4,10 @@ use Rattle.js_doc.specs.Seen.{value_of, pair_of}
 use Rattle.js_doc.specs.Value.{Value}
 use Rattle.js_bundle.specs.AssertionsAndPatterns.{pattern_at}
 use Rattle.js_bundle.specs.Candidate.{IsClear}
-use Rattle.js_places.specs.Keyword.{Text}
+use Rattle.js_bundle.specs.Keyword.{Text}
 use Rattle.js_bundle.specs.code.Leads.{Leads}
 use Rattle.js_bundle.specs.Refusals.{at_pattern}
-use Rattle.js_places.specs.code.Scan.{site_of}
+use Rattle.js_bundle.specs.code.Scan.{site_of}
 use Rattle.js_bundle.proofs.Checking.PatternNext.{pattern_next}
 use Rattle.js_bundle.proofs.Checking.CheckStops.{leads_past}
 use Rattle.js_bundle.proofs.check.assertions_and_patterns.read_patterns.Goals as goal

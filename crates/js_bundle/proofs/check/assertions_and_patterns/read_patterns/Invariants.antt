@@ -3,10 +3,10 @@ use Rattle.std.specs.List.{flat_map}
 use Rattle.js_doc.specs.Seen.{pair_of}
 use Rattle.js_doc.specs.Value.{Value}
 use Rattle.js_bundle.specs.AssertionsAndPatterns.{pattern_at}
-use Rattle.js_places.specs.Keyword.{Text}
+use Rattle.js_bundle.specs.Keyword.{Text}
 use Rattle.js_bundle.specs.code.Leads.{Leads}
 use Rattle.js_bundle.specs.Refusals.{at_pattern}
-use Rattle.js_places.specs.code.Scan.{site_of}
+use Rattle.js_bundle.specs.code.Scan.{site_of}
 use Rattle.js_bundle.proofs.check.assertions_and_patterns.read_patterns.Given as goal
 
 abbrev pub invariant-loop-name : goal.invariant-loop-name

@@ -1,5 +1,5 @@
 use Rattle.std.proofs.Common.{◌≡◌, ◌≤◌, ◌+◌, ◌++◌, map, length, vec_capacity}
-use Rattle.js_places.specs.code.Scan.{site_of}
+use Rattle.js_bundle.specs.code.Scan.{site_of}
 use Rattle.js_bundle.specs.code.CheckedSite.{checked_site, checked_site_of}
 use Rattle.js_bundle.proofs.check.checked_site.checked_sites_of.Given as goal
 

@@ -6,10 +6,10 @@ use Rattle.js_bundle.specs.declared.check.fault.CheckFault.{CheckFault}
 use Rattle.js_bundle.specs.declared.refusal.RefusalKind.TheVariants.{BadKeyword}
 use Rattle.js_bundle.specs.Candidate.{Candidate, IsClear, IsStopped}
 use Rattle.js_bundle.specs.Shape.{is_shaped}
-use Rattle.js_places.specs.Keyword.{Text}
+use Rattle.js_bundle.specs.Keyword.{Text}
 use Rattle.js_bundle.specs.Refusals.{when, decided, on_text, text_rules, assertion_rules, name_rules, at_member}
-use Rattle.js_places.specs.Resource.{Site}
-use Rattle.js_places.specs.code.Scan.{site_of}
+use Rattle.js_bundle.specs.Resource.{Site}
+use Rattle.js_bundle.specs.code.Scan.{site_of}
 use Rattle.js_bundle.proofs.Checking.CheckStops.{clear_from_ok, stopped_here, stopped_later}
 use Rattle.js_bundle.proofs.check.first_pass.check_keyword.Goals as goal
 

@@ -5,11 +5,11 @@ use Rattle.js_doc.specs.Seen.{pair_of, value_of}
 use Rattle.js_bundle.specs.AssertionsAndPatterns.{assertion_at, patterns_of}
 use Rattle.js_bundle.specs.Candidate.{IsClear, IsStopped}
 use Rattle.js_bundle.specs.code.Leads.{Leads}
-use Rattle.js_places.specs.Keyword.{argument}
+use Rattle.js_bundle.specs.Keyword.{argument}
 use Rattle.js_bundle.specs.Refusals.{at_member}
-use Rattle.js_places.specs.code.Scan.{site_of}
+use Rattle.js_bundle.specs.code.Scan.{site_of}
 use Rattle.js_bundle.proofs.Checking.MembersByName.{StandIn, each_stands, argument_stands}
-use Rattle.js_places.proofs.Indexing.PlaceNext.{piece_next}
+use Rattle.js_bundle.proofs.Indexing.PlaceNext.{piece_next}
 use Rattle.js_bundle.proofs.Checking.CheckStops.{leads_itself, leads_past, leads_stop}
 use Rattle.js_bundle.proofs.check.first_pass.check_keywords.Goals as goal
 

@@ -4,7 +4,7 @@ use Rattle.js_doc.specs.Seen.{pair_of}
 use Rattle.js_bundle.specs.AssertionsAndPatterns.{assertion_at, patterns_of}
 use Rattle.js_bundle.specs.code.Leads.{Leads}
 use Rattle.js_bundle.specs.Refusals.{at_member}
-use Rattle.js_places.specs.code.Scan.{site_of}
+use Rattle.js_bundle.specs.code.Scan.{site_of}
 use Rattle.js_bundle.proofs.Checking.MembersByName.{StandIn}
 use Rattle.js_bundle.proofs.check.first_pass.check_keywords.Given as goal
 

@@ -3,7 +3,7 @@ use Rattle.std.specs.List.{flat_map}
 use Rattle.std.proofs.lemmas.Result.{err_from_is_err_and}
 use Rattle.js_doc.specs.Parts.{members_of}
 use Rattle.js_bundle.specs.Refusals.{at_place, at_member}
-use Rattle.js_places.specs.code.Scan.{site_of}
+use Rattle.js_bundle.specs.code.Scan.{site_of}
 use Rattle.js_bundle.proofs.Checking.CheckStops.{stopped_here}
 use Rattle.js_bundle.proofs.check.first_pass.check_site.Goals as goal
 

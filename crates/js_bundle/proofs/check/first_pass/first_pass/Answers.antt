@@ -1,11 +1,11 @@
 use Rattle.std.proofs.Common.{◌+◌, [], map, take, drop, arith}
 use Rattle.std.proofs.lemmas.Result.{err_from_is_err_and}
 use Rattle.js_bundle.specs.AssertionsAndPatterns.{assertions_at, patterns_at}
-use Rattle.js_places.specs.KeywordName.{member_keywords}
+use Rattle.js_bundle.specs.KeywordName.{member_keywords}
 use Rattle.js_bundle.specs.Refusals.{at_site, first_pass}
-use Rattle.js_places.specs.code.Scan.{site_of}
-use Rattle.js_places.proofs.Indexing.PartsOfPlaces.{grouped_next}
-use Rattle.js_places.proofs.Indexing.PositionsNext.{positions_next, positions_whole}
+use Rattle.js_bundle.specs.code.Scan.{site_of}
+use Rattle.js_bundle.proofs.Indexing.PartsOfPlaces.{grouped_next}
+use Rattle.js_bundle.proofs.Indexing.PositionsNext.{positions_next, positions_whole}
 use Rattle.js_bundle.proofs.Checking.LastPlace.{last_more}
 use Rattle.js_bundle.proofs.Checking.PassNext.{site_next}
 use Rattle.js_bundle.proofs.Checking.CheckStops.{leads_past, leads_stop}

@@ -1,12 +1,12 @@
 use Rattle.std.proofs.Common.{[], map, take, drop, option_map, MatchOption}
 use Rattle.js_bundle.specs.AssertionsAndPatterns.{assertions_at, patterns_at}
-use Rattle.js_places.specs.code.Positions.{BeginTexts, IsLast}
+use Rattle.js_bundle.specs.code.Positions.{BeginTexts, IsLast}
 use Rattle.js_bundle.specs.code.Leads.{Leads}
-use Rattle.js_places.specs.KeywordName.{member_keywords}
+use Rattle.js_bundle.specs.KeywordName.{member_keywords}
 use Rattle.js_bundle.specs.Refusals.{first_pass}
-use Rattle.js_places.specs.code.Scan.{site_of}
-use Rattle.js_places.proofs.Indexing.PartsOfPlaces.{ArePartsSoFar}
-use Rattle.js_places.proofs.Indexing.PositionsNext.{ArePositionsSoFar}
+use Rattle.js_bundle.specs.code.Scan.{site_of}
+use Rattle.js_bundle.proofs.Indexing.PartsOfPlaces.{ArePartsSoFar}
+use Rattle.js_bundle.proofs.Indexing.PositionsNext.{ArePositionsSoFar}
 use Rattle.js_bundle.proofs.check.first_pass.first_pass.Given as goal
 
 abbrev pub invariant-loop-i : goal.invariant-loop-i

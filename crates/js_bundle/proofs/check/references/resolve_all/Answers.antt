@@ -3,11 +3,11 @@ use Rattle.std.specs.List.{flat_map}
 use Rattle.std.proofs.lemmas.Result.{err_from_is_err_and}
 use Rattle.indexmap.specs.IndexMap.{get}
 use Rattle.js_bundle.specs.Finding.{number_of_target, dynamic_at}
-use Rattle.js_places.specs.Finding.{under_number}
+use Rattle.js_bundle.specs.code.PlaceNumbers.{under_number}
 use Rattle.js_bundle.specs.Refusals.{at_references, second_pass}
-use Rattle.js_places.specs.code.Scan.{site_of}
-use Rattle.js_places.proofs.Indexing.SparseLists.{sparse_next, sparse_added, sparse_whole}
-use Rattle.js_places.proofs.Indexing.KeywordsOfPlace.{names_are}
+use Rattle.js_bundle.specs.code.Scan.{site_of}
+use Rattle.js_bundle.proofs.Indexing.SparseLists.{sparse_next, sparse_added, sparse_whole}
+use Rattle.js_bundle.proofs.Indexing.KeywordsOfPlace.{names_are}
 use Rattle.js_bundle.proofs.Checking.CheckStops.{leads_past, leads_stop}
 use Rattle.js_bundle.proofs.Checking.PassNext.{leads_next}
 use Rattle.js_bundle.proofs.check.references.resolve_all.Goals as goal

@@ -2,11 +2,11 @@ use Rattle.std.proofs.Common.{◌≤◌, codes, map, take, drop, length, nat_eq}
 use Rattle.std.specs.List.{flat_map}
 use Rattle.indexmap.specs.IndexMap.{get}
 use Rattle.js_bundle.specs.Finding.{number_of_target, dynamic_at}
-use Rattle.js_places.specs.Finding.{under_number}
-use Rattle.js_places.specs.code.SparseList.{IsSparseList}
+use Rattle.js_bundle.specs.code.PlaceNumbers.{under_number}
+use Rattle.js_bundle.specs.code.SparseList.{IsSparseList}
 use Rattle.js_bundle.specs.code.Leads.{Leads}
 use Rattle.js_bundle.specs.Refusals.{at_references, second_pass}
-use Rattle.js_places.specs.code.Scan.{site_of}
+use Rattle.js_bundle.specs.code.Scan.{site_of}
 use Rattle.js_bundle.proofs.check.references.resolve_all.Given as goal
 
 abbrev pub invariant-loop-i : goal.invariant-loop-i

@@ -1,6 +1,6 @@
 use Rattle.std.proofs.Common.{◌≡◌, IfOk, map, codes, subst, sym}
 use Rattle.std.proofs.lemmas.Result.{err_from_is_err_and}
-use Rattle.js_places.specs.code.Scan.{site_of}
+use Rattle.js_bundle.specs.code.Scan.{site_of}
 use Rattle.js_bundle.specs.Finding.{dynamic_by}
 use Rattle.js_bundle.proofs.Checking.ReferenceTexts.{reference_is, stopped_by_text}
 use Rattle.js_bundle.proofs.check.references.resolve_dynamic.Goals as goal

@@ -1,8 +1,8 @@
 use Rattle.std.proofs.Common.{Some, map, codes, slice_get, false, ap, sym, ◌∙◌}
 use Rattle.std.specs.Option.{option_map_or}
-use Rattle.js_places.specs.code.Scan.{site_of}
+use Rattle.js_bundle.specs.code.Scan.{site_of}
 use Rattle.js_bundle.specs.Finding.{dynamic_as}
-use Rattle.js_places.specs.Names.{makes}
+use Rattle.js_bundle.specs.Names.{makes}
 use Rattle.js_bundle.proofs.Checking.ReferenceTexts.{dynamic_found}
 use Rattle.js_bundle.proofs.check.references.resolve_dynamic_url.Goals as goal
 

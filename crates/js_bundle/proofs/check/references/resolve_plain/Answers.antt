@@ -1,6 +1,6 @@
 use Rattle.std.proofs.Common.{map}
 use Rattle.std.proofs.lemmas.Result.{err_from_is_err_and}
-use Rattle.js_places.specs.code.Scan.{site_of}
+use Rattle.js_bundle.specs.code.Scan.{site_of}
 use Rattle.js_bundle.proofs.Checking.ReferenceTexts.{stopped_by_text}
 use Rattle.js_bundle.proofs.check.references.resolve_plain.Goals as goal
 

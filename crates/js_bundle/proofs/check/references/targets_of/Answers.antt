@@ -1,5 +1,5 @@
 use Rattle.std.proofs.Common.{codes, map}
-use Rattle.js_places.specs.code.Scan.{site_of}
+use Rattle.js_bundle.specs.code.Scan.{site_of}
 use Rattle.js_bundle.proofs.Checking.NoReference.{no_ref, no_dynamic_ref, no_target, no_dynamic, clear_without}
 use Rattle.js_bundle.proofs.check.references.targets_of.Goals as goal
 

@@ -1,7 +1,7 @@
 use Rattle.std.proofs.Common.{is_some, map, ap, ◌∙◌, arith}
-use Rattle.js_places.specs.code.Index.{number_of_key, name_key}
-use Rattle.js_places.specs.code.Scan.{site_of}
-use Rattle.js_places.proofs.Indexing.IndexFinds.{made_is}
+use Rattle.js_bundle.specs.code.Index.{number_of_key, name_key}
+use Rattle.js_bundle.specs.code.Scan.{site_of}
+use Rattle.js_bundle.proofs.Indexing.IndexFinds.{made_is}
 use Rattle.js_bundle.proofs.check.rules.is_made.Goals as goal
 
 pub returns : goal.returns

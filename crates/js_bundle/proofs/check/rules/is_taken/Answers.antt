@@ -1,8 +1,8 @@
 use Rattle.std.proofs.Common.{is_some, map, ap, ◌∙◌}
-use Rattle.js_places.specs.code.Index.{number_of_key}
-use Rattle.js_places.specs.code.Scan.{site_of}
-use Rattle.js_places.specs.Url.{printed}
-use Rattle.js_places.proofs.Indexing.IndexFinds.{taken_is}
+use Rattle.js_bundle.specs.code.Index.{number_of_key}
+use Rattle.js_bundle.specs.code.Scan.{site_of}
+use Rattle.js_bundle.specs.Url.{printed}
+use Rattle.js_bundle.proofs.Indexing.IndexFinds.{taken_is}
 use Rattle.js_bundle.proofs.check.rules.is_taken.Goals as goal
 
 pub returns : goal.returns

@@ -1,7 +1,7 @@
 use Rattle.std.proofs.Common.{subst}
 use Rattle.js_doc.specs.Seen.{value_of}
 use Rattle.js_assert.specs.Shape.{IsKeywordFault}
-use Rattle.js_places.specs.code.Scan.{site_of}
+use Rattle.js_bundle.specs.code.Scan.{site_of}
 use Rattle.js_bundle.proofs.Checking.AssertionRules.{clear_assertion, stopped_shape, stopped_pattern, stopped_large}
 use Rattle.js_bundle.proofs.check.rules.read_assertion.Goals as goal
 

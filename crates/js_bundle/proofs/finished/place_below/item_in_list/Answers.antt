@@ -1,6 +1,6 @@
 use Rattle.std.proofs.Common.{slice_get, sym, ap, ◌∙◌}
 use Rattle.js_doc.specs.Seen.{value_of}
-use Rattle.js_places.specs.Place.{items_in}
+use Rattle.js_bundle.specs.Place.{items_in}
 use Rattle.js_bundle.proofs.SchemaBelow.{item_at, values_are}
 use Rattle.js_bundle.proofs.finished.place_below.item_in_list.Goals as goal
 

@@ -1,5 +1,5 @@
 use Rattle.std.proofs.Common.{◌≡◌, map, drop}
-use Rattle.js_places.specs.code.Edges.{held_of}
+use Rattle.js_bundle.specs.code.Edges.{held_of}
 use Rattle.js_bundle.specs.code.PlaceBelow.{numbers_of_keyword}
 use Rattle.js_bundle.proofs.finished.place_below.numbers_of_keyword.Given as goal
 

@@ -1,6 +1,6 @@
 use Rattle.std.proofs.Common.{Some, None, map, slice_get, option_and_then, ap, ◌∙◌}
-use Rattle.js_places.specs.code.Index.{number_of_key}
-use Rattle.js_places.specs.Seen.{document_of}
+use Rattle.js_bundle.specs.code.Index.{number_of_key}
+use Rattle.js_bundle.specs.Seen.{document_of}
 use Rattle.js_bundle.proofs.Finding.ResourceTableRead.{anchored_in}
 use Rattle.js_bundle.proofs.schemas.Schemas.anchor_in.Goals as goal
 

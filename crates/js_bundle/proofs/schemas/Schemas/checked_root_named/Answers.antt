@@ -1,5 +1,5 @@
 use Rattle.std.proofs.Common.{map, ap, ◌∙◌}
-use Rattle.js_places.specs.Seen.{document_of}
+use Rattle.js_bundle.specs.Seen.{document_of}
 use Rattle.js_bundle.specs.code.CheckedSite.{checked_site_of}
 use Rattle.js_bundle.proofs.Finding.KnownRoots.{known_root, no_known_root}
 use Rattle.js_bundle.proofs.schemas.Schemas.checked_root_named.Goals as goal

@@ -1,5 +1,5 @@
 use Rattle.std.proofs.Common.{map}
-use Rattle.js_places.specs.Seen.{document_of}
+use Rattle.js_bundle.specs.Seen.{document_of}
 use Rattle.js_bundle.proofs.Finding.CheckedPlaces.{kept_site_at}
 use Rattle.js_bundle.proofs.schemas.Schemas.checked_site.Goals as goal
 

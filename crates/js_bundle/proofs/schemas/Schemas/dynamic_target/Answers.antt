@@ -1,5 +1,5 @@
 use Rattle.std.proofs.Common.{option_copied, ap}
-use Rattle.js_places.specs.PlaceNumber.{path_at}
+use Rattle.js_bundle.specs.PlaceNumber.{path_at}
 use Rattle.js_bundle.proofs.Finding.DynamicTargets.{leads_by_name, leads_first}
 use Rattle.js_bundle.proofs.schemas.Schemas.dynamic_target.Goals as goal
 

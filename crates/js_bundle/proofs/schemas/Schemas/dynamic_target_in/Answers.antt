@@ -1,6 +1,6 @@
 use Rattle.std.proofs.Common.{option_copied, ap}
-use Rattle.js_places.specs.Resource.{sites}
-use Rattle.js_places.specs.ResourceNumber.{roots_at}
+use Rattle.js_bundle.specs.Resource.{sites}
+use Rattle.js_bundle.specs.ResourceNumber.{roots_at}
 use Rattle.js_bundle.proofs.Finding.DynamicTargets.{leads_by_name, leads_first}
 use Rattle.js_bundle.proofs.schemas.Schemas.dynamic_target_in.Goals as goal
 

@@ -1,6 +1,6 @@
 use Rattle.std.proofs.Common.{map, nat_eq}
 use Rattle.indexmap.specs.IndexMap.{get}
-use Rattle.js_places.specs.Seen.{document_of}
+use Rattle.js_bundle.specs.Seen.{document_of}
 use Rattle.js_bundle.proofs.Finding.DynamicTargets.{reference_is, target_place, leads, reference_missing}
 use Rattle.js_bundle.proofs.schemas.Schemas.find_first_target.Goals as goal
 

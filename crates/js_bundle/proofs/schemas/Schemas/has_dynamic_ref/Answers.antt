@@ -1,6 +1,6 @@
 use Rattle.std.proofs.Common.{map, nat_eq, is_some, ap, ◌∙◌}
 use Rattle.indexmap.specs.IndexMap.{get}
-use Rattle.js_places.specs.Seen.{document_of}
+use Rattle.js_bundle.specs.Seen.{document_of}
 use Rattle.js_bundle.proofs.Finding.DynamicTargets.{has_dynamic_ref_listed}
 use Rattle.js_bundle.proofs.schemas.Schemas.has_dynamic_ref.Goals as goal
 

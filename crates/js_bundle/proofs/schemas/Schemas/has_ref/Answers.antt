@@ -1,6 +1,6 @@
 use Rattle.std.proofs.Common.{map, is_some, ap, ◌∙◌}
-use Rattle.js_places.specs.Finding.{under_number}
-use Rattle.js_places.specs.Seen.{document_of}
+use Rattle.js_bundle.specs.code.PlaceNumbers.{under_number}
+use Rattle.js_bundle.specs.Seen.{document_of}
 use Rattle.js_bundle.proofs.Finding.ListedUnderNumber.{has_ref_listed}
 use Rattle.js_bundle.proofs.schemas.Schemas.has_ref.Goals as goal
 

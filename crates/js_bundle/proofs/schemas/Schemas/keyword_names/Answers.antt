@@ -1,7 +1,7 @@
 use Rattle.std.proofs.Common.{map}
-use Rattle.js_places.specs.KeywordName.{member_keywords}
-use Rattle.js_places.specs.Seen.{document_of}
-use Rattle.js_places.proofs.Indexing.PartsOfPlaces.{part_of}
+use Rattle.js_bundle.specs.KeywordName.{member_keywords}
+use Rattle.js_bundle.specs.Seen.{document_of}
+use Rattle.js_bundle.proofs.Indexing.PartsOfPlaces.{part_of}
 use Rattle.js_bundle.proofs.schemas.Schemas.keyword_names.Goals as goal
 
 pub returns : goal.returns

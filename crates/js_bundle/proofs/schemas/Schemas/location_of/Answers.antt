@@ -1,7 +1,7 @@
 use Rattle.std.proofs.Common.{◌++◌, [], map, Some, ap, ◌∙◌, sym}
-use Rattle.js_places.specs.code.StoredLocation.{stored_location}
-use Rattle.js_places.specs.PlaceNumber.{place_at}
-use Rattle.js_places.specs.Seen.{document_of}
+use Rattle.js_bundle.specs.code.StoredLocation.{stored_location}
+use Rattle.js_bundle.specs.PlaceNumber.{place_at}
+use Rattle.js_bundle.specs.Seen.{document_of}
 use Rattle.js_bundle.proofs.Finding.CheckedPlaces.{checked_as}
 use Rattle.js_bundle.proofs.Finding.LocationsLent.{in_one_piece, in_two_pieces}
 use Rattle.js_bundle.proofs.schemas.Schemas.location_of.Goals as goal

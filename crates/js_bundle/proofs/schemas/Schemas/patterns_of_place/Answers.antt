@@ -1,7 +1,7 @@
 use Rattle.std.proofs.Common.{map, subst}
 use Rattle.js_bundle.specs.AssertionsAndPatterns.{patterns_at}
-use Rattle.js_places.specs.Seen.{AreRead, document_of}
-use Rattle.js_places.proofs.Indexing.PartsOfPlaces.{part_of}
+use Rattle.js_bundle.specs.Seen.{AreRead, document_of}
+use Rattle.js_bundle.proofs.Indexing.PartsOfPlaces.{part_of}
 use Rattle.js_bundle.proofs.schemas.Schemas.patterns_of_place.Goals as goal
 
 pub returns-clause-patterns : goal.returns-clause-patterns

@@ -1,10 +1,10 @@
 use Rattle.std.proofs.Common.{◌≡◌, true, find, option_map, ap, sym, subst, ◌∙◌}
-use Rattle.js_places.specs.code.Index.{IsIndexOf, number_under, standing}
-use Rattle.js_places.specs.Names.{is_known_as, is_read, named}
-use Rattle.js_places.specs.Resource.{sites}
-use Rattle.js_places.specs.Url.{printed}
+use Rattle.js_bundle.specs.code.Index.{IsIndexOf, number_under, standing}
+use Rattle.js_bundle.specs.Names.{is_known_as, is_read, named}
+use Rattle.js_bundle.specs.Resource.{sites}
+use Rattle.js_bundle.specs.Url.{printed}
 use Rattle.js_bundle.proofs.Finding.NumbersStandForPlaces.{names_it, names_none, stands_there}
-use Rattle.js_places.proofs.Indexing.IndexFinds.{named_found}
+use Rattle.js_bundle.proofs.Indexing.IndexFinds.{named_found}
 use Rattle.js_bundle.proofs.schemas.Schemas.place_by_url.Goals as goal
 
 pub returns-in-Ok-Some-clause-ok : goal.returns-in-Ok-Some-clause-ok

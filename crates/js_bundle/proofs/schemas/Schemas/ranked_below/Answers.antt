@@ -2,8 +2,8 @@ use Rattle.std.proofs.Common.{[], map, slice_get, ap, ◌∙◌}
 use Rattle.std.specs.Option.{option_map_or}
 use Rattle.js_doc.specs.Seen.{value_of}
 use Rattle.js_bundle.specs.Schemas.{step_of}
-use Rattle.js_places.specs.Seen.{document_of}
-use Rattle.js_places.specs.code.Edges.{edges_of}
+use Rattle.js_bundle.specs.Seen.{document_of}
+use Rattle.js_bundle.specs.code.Edges.{edges_of}
 use Rattle.js_bundle.specs.code.PlaceBelow.{numbers_of_keyword}
 use Rattle.js_bundle.proofs.Finding.PlaceAtRank.{finds_ranked, schema_ranked}
 use Rattle.js_bundle.proofs.schemas.Schemas.ranked_below.Goals as goal

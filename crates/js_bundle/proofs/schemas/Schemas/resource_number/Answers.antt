@@ -1,5 +1,5 @@
 use Rattle.std.proofs.Common.{map}
-use Rattle.js_places.specs.Seen.{document_of}
+use Rattle.js_bundle.specs.Seen.{document_of}
 use Rattle.js_bundle.proofs.Finding.ResourceTableRead.{kept_number}
 use Rattle.js_bundle.proofs.schemas.Schemas.resource_number.Goals as goal
 

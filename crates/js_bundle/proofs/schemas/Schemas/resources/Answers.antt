@@ -1,5 +1,5 @@
 use Rattle.std.proofs.Common.{map, ap, ◌++◌, ◌∙◌}
-use Rattle.js_places.specs.Resource.{sites}
+use Rattle.js_bundle.specs.Resource.{sites}
 use Rattle.js_bundle.specs.Schemas.{numbered, resources_at, lent}
 use Rattle.js_bundle.specs.code.CheckedSite.{checked_site_of, resource_listed}
 use Rattle.js_bundle.proofs.Finding.ResourcesNext.{next_resources}

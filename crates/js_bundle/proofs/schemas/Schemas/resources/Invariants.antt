@@ -1,5 +1,5 @@
 use Rattle.std.proofs.Common.{◌≡◌, ◌++◌, map, drop}
-use Rattle.js_places.specs.Resource.{sites}
+use Rattle.js_bundle.specs.Resource.{sites}
 use Rattle.js_bundle.specs.Schemas.{numbered, resources_at, lent}
 use Rattle.js_bundle.proofs.schemas.Schemas.resources.Given as goal
 

@@ -1,7 +1,7 @@
 use Rattle.std.proofs.Common.{◌<◌, sym, ap, ◌∙◌, subst}
 use Rattle.js_doc.specs.Lookup.{at}
 use Rattle.js_doc.specs.Seen.{value_of}
-use Rattle.js_places.specs.PlaceNumber.{place_at}
+use Rattle.js_bundle.specs.PlaceNumber.{place_at}
 use Rattle.js_bundle.specs.code.CheckedSite.{checked_site_of}
 use Rattle.js_bundle.proofs.Finding.SchemaAtPlace.{schema_there, at_index, some_there}
 use Rattle.js_bundle.proofs.schemas.Schemas.schema.Goals as goal

@@ -2,8 +2,8 @@ use Rattle.std.proofs.Common.{[], map, None, option_map, slice_get, ap, sym, sub
 use Rattle.std.specs.Option.{option_map_or}
 use Rattle.js_doc.specs.Seen.{value_of}
 use Rattle.js_bundle.specs.Schemas.{step_of}
-use Rattle.js_places.specs.Seen.{document_of}
-use Rattle.js_places.specs.code.Edges.{edges_of}
+use Rattle.js_bundle.specs.Seen.{document_of}
+use Rattle.js_bundle.specs.code.Edges.{edges_of}
 use Rattle.js_bundle.specs.code.PlaceBelow.{numbers_of_keyword, IsNumberAt}
 use Rattle.js_bundle.specs.code.CheckedSite.{checked_site_of}
 use Rattle.js_bundle.proofs.Finding.NoPlaceBelow.{finds_nothing}

@@ -1,6 +1,6 @@
 use Rattle.std.proofs.Common.{map, ap, ◌∙◌}
-use Rattle.js_places.specs.Finding.{under_number}
-use Rattle.js_places.specs.Seen.{document_of}
+use Rattle.js_bundle.specs.code.PlaceNumbers.{under_number}
+use Rattle.js_bundle.specs.Seen.{document_of}
 use Rattle.js_bundle.proofs.Finding.ListedUnderNumber.{target_is, target_missing}
 use Rattle.js_bundle.proofs.schemas.Schemas.target.Goals as goal
 

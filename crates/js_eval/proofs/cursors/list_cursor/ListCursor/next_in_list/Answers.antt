@@ -2,8 +2,8 @@ use Rattle.std.proofs.Common.{◌≡◌, Some, option_map, slice_get, sym, ap, �
 use Rattle.std.proofs.lemmas.Option.{slice_get-get_or, slice_get-map}
 use Rattle.js_assert.specs.Argument.{values}
 use Rattle.js_doc.specs.Seen.{value_of}
-use Rattle.js_walk.specs.Seen.{keyword_of}
-use Rattle.js_walk.proofs.Holding.{item_ranked}
+use Rattle.js_eval.specs.Seen.{keyword_of}
+use Rattle.js_eval.proofs.Holding.{item_ranked}
 use Rattle.js_eval.proofs.cursors.list_cursor.ListCursor.next_in_list.Goals as goal
 
 pub apply_at_rank-requires-clause-held : goal.apply_at_rank-requires-clause-held

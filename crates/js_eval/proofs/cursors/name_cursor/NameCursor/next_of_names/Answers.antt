@@ -1,7 +1,7 @@
 use Rattle.js_assert.specs.Argument.{entries}
 use Rattle.js_doc.specs.Seen.{value_of}
-use Rattle.js_walk.specs.Seen.{keyword_of}
-use Rattle.js_walk.proofs.Holding.{member_ranked}
+use Rattle.js_eval.specs.Seen.{keyword_of}
+use Rattle.js_eval.proofs.Holding.{member_ranked}
 use Rattle.js_eval.proofs.cursors.name_cursor.NameCursor.next_of_names.Goals as goal
 
 pub apply_at_rank-requires-clause-held : goal.apply_at_rank-requires-clause-held

@@ -1,12 +1,12 @@
 use Rattle.std.proofs.Common.{◌≡◌, ◌∙◌, [], Some, refl, subst}
 use Rattle.js_tree.specs.Events.{closing, opening}
 use Rattle.js_tree.specs.Seen.{note_of}
-use Rattle.js_walk.specs.Bundle.{schemas_of}
-use Rattle.js_walk.specs.Seen.{instance_of, keyword_of}
-use Rattle.js_walk.specs.Sited.{numbered_site}
-use Rattle.js_walk.specs.Walk.Progress.{says_at}
-use Rattle.js_walk.proofs.Recursion.Splits.{split_at_name}
-use Rattle.js_walk.proofs.Recursion.Stepping.{trail_back}
+use Rattle.js_eval.specs.Bundle.{schemas_of}
+use Rattle.js_eval.specs.Seen.{instance_of, keyword_of}
+use Rattle.js_eval.specs.Sited.{numbered_site}
+use Rattle.js_eval.specs.Walk.Progress.{says_at}
+use Rattle.js_eval.proofs.Recursion.Splits.{split_at_name}
+use Rattle.js_eval.proofs.Recursion.Stepping.{trail_back}
 use Rattle.js_eval.proofs.reporters.collecting.CollectingReporterFinishedSchemasHeldText.leaf_keyword.Goals as goal
 
 pub cut-requires : goal.cut-requires

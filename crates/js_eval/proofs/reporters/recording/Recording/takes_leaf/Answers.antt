@@ -1,5 +1,5 @@
 use Rattle.std.proofs.Common.{subst}
-use Rattle.js_rows.specs.RelativeState.{TakesLeafAt}
+use Rattle.js_tree.specs.Rows.RelativeState.{TakesLeafAt}
 use Rattle.js_eval.proofs.reporters.recording.Recording.takes_leaf.Goals as goal
 
 pub returns-clause-at : goal.returns-clause-at

@@ -2,7 +2,7 @@ use Rattle.std.specs.Prelude.{true}
 use Rattle.std.proofs.Common.{◌≡◌, refl, subst}
 use Rattle.js_tree.specs.Events.{closing}
 use Rattle.js_tree.specs.Note.{silent}
-use Rattle.js_rows.specs.RelativeState.{relative_after, relative_state}
+use Rattle.js_tree.specs.Rows.RelativeState.{relative_after, relative_state}
 use Rattle.js_eval.proofs.reporters.recording.RecordingReporterFinishedSchemasHeldText.drops_silent.Goals as goal
 
 pub returns : goal.returns

@@ -4,15 +4,15 @@ use Rattle.std.proofs.lemmas.Result.{on_ok_weaker}
 use Rattle.js_doc.specs.Fragment.{fragment_token}
 use Rattle.js_tree.specs.Events.{closing}
 use Rattle.js_tree.specs.Seen.{note_of}
-use Rattle.js_walk.specs.Bundle.{schemas_of}
-use Rattle.js_walk.specs.Seen.{instance_of, keyword_of}
-use Rattle.js_walk.specs.Sited.{numbered_site}
-use Rattle.js_walk.specs.Walk.Progress.{says_at}
+use Rattle.js_eval.specs.Bundle.{schemas_of}
+use Rattle.js_eval.specs.Seen.{instance_of, keyword_of}
+use Rattle.js_eval.specs.Sited.{numbered_site}
+use Rattle.js_eval.specs.Walk.Progress.{says_at}
 use Rattle.js_eval.specs.code.Recorded.{AddsRow, TakesEvent}
 use Rattle.js_eval.proofs.LeafAsTwoEvents.{leaf_of_steps, leaf_recorded, name_as_it_is}
-use Rattle.js_walk.proofs.Paths.{in_one_piece, keyword_location_is}
-use Rattle.js_walk.proofs.Recursion.Splits.{split_at_name}
-use Rattle.js_walk.proofs.Recursion.Stepping.{trail_back}
+use Rattle.js_eval.proofs.Paths.{in_one_piece, keyword_location_is}
+use Rattle.js_eval.proofs.Recursion.Splits.{split_at_name}
+use Rattle.js_eval.proofs.Recursion.Stepping.{trail_back}
 use Rattle.js_eval.proofs.reporters.recording.RecordingReporterFinishedSchemasHeldText.leaf_keyword.Goals as goal
 
 pub returns-then-takes_leaf-clause-reported : goal.returns-then-takes_leaf-clause-reported

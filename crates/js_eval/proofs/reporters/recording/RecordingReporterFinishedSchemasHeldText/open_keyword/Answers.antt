@@ -1,8 +1,8 @@
 use Rattle.std.proofs.Common.{◌++◌, ◌∙◌, ap, sym, append_assoc}
 use Rattle.js_doc.specs.Fragment.{fragment_token}
-use Rattle.js_rows.specs.RelativeState.{relative_state}
+use Rattle.js_tree.specs.Rows.RelativeState.{relative_state}
 use Rattle.js_eval.proofs.OpeningsAlike.{opening_alike}
-use Rattle.js_walk.proofs.Paths.{in_one_piece, keyword_location_is}
+use Rattle.js_eval.proofs.Paths.{in_one_piece, keyword_location_is}
 use Rattle.js_eval.proofs.reporters.recording.RecordingReporterFinishedSchemasHeldText.open_keyword.Goals as goal
 
 pub returns-then-is_written_as_it_is : goal.returns-then-is_written_as_it_is

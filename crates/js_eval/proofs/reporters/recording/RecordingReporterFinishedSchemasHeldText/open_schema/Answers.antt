@@ -1,7 +1,7 @@
 use Rattle.std.proofs.Common.{◌++◌}
-use Rattle.js_rows.specs.RelativeState.{relative_state}
+use Rattle.js_tree.specs.Rows.RelativeState.{relative_state}
 use Rattle.js_eval.proofs.OpeningsAlike.{opening_alike}
-use Rattle.js_walk.proofs.Paths.{location_is}
+use Rattle.js_eval.proofs.Paths.{location_is}
 use Rattle.js_eval.proofs.reporters.recording.RecordingReporterFinishedSchemasHeldText.open_schema.Goals as goal
 
 pub returns : goal.returns

@@ -1,0 +1,13 @@
+use Rattle.std.proofs.Common.{◌≤◌, option_map, MatchOption, subst}
+use Rattle.js_bundle.specs.code.TextPrefix.{BeginsKey, shared_with}
+use Rattle.js_bundle.specs.code.Scan.{site_of}
+use Rattle.js_bundle.proofs.Indexing.SharedTokens.{key_goes_on}
+use Rattle.js_bundle.proofs.index.keys.begin_key.Goals as goal
+
+pub returns-in-Some-clause-begins : goal.returns-in-Some-clause-begins
+returns-in-Some-clause-begins c =
+    let b = c.args.prefix.now in let site = site_of c.args.pair.site.now in
+    key_goes_on b (site_of c.in-Some.before.now) site c.args.most
+    (subst (λ o. MatchOption o (Unit {0}) (λ x. BeginsKey b (site_of x.now))) c.in-Some.is c.requires.before)
+    c.if-before-site.true c.if-prefix-most.true
+    (subst (λ o. c.args.most ≤ shared_with (option_map (λ x. site_of x.now) o) site) c.in-Some.is c.requires.most)

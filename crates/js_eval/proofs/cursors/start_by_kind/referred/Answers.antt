@@ -1,9 +1,0 @@
-use Rattle.std.proofs.Common.{ap, ◌∙◌, ◌∷◌, []}
-use Rattle.js_walk.specs.SchemaSet as spec
-use Rattle.js_walk.specs.Seen.{instance_of}
-use Rattle.js_eval.proofs.cursors.start_by_kind.referred.Goals as goal
-
-pub returns-clause-asked : goal.returns-clause-asked
-returns-clause-asked c = c.alone.ensures.asked c.args.schemas.now
-    ∙ ap (λ s. record { place = s; step = spec.Alone; at = spec.Alone; value = instance_of c.args.value } ∷ [])
-    c.target_at-place.ensures.site

@@ -1,8 +1,0 @@
-use Rattle.js_walk.proofs.AssertionThere.{assertion_is}
-use Rattle.js_walk.specs.Seen.{keyword_of}
-use Rattle.js_eval.proofs.judging.passing.look_up_assertion.Goals as goal
-
-pub returns : goal.returns
-returns c =
-    assertion_is c.args.schemas.now c.args.place (keyword_of c.args.keyword) _ c.requires.place
-    c.requires.keyword c.assertion.ensures

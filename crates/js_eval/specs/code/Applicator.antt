@@ -1,0 +1,19 @@
+-- The keywords that apply schemas, by which keywords of the standard the members of a schema are (of private
+-- functions).
+use Rattle.std.specs.Prelude.{ℕ, Bool, true, List, drop, filter}
+use Rattle.std.specs.List.{list_any}
+use Rattle.js_doc.specs.Value.{Named}
+use Rattle.js_bundle.specs.declared.keyword_name.KeywordName.{KeywordName}
+use Rattle.js_eval.specs.Walk.Visited.{may_apply, is_visited}
+use Rattle.js_eval.specs.code.Standard.{kind_by}
+
+-- the keyword applies schemas (Core, sections 8.2.3, 10 and 11)
+abbrev pub applies : KeywordName → Bool
+applies which = may_apply (kind_by which)
+
+abbrev pub has_applicator : List KeywordName → Bool
+has_applicator names = list_any applies names
+
+-- the members from the rank on that apply schemas
+abbrev pub applicators_from : Named → ℕ → Named
+applicators_from ms rank = filter (is_visited true) (drop rank ms)

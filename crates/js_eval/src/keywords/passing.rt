@@ -1,0 +1,85 @@
+//! Whether a keyword passes, from the number of its applications and the number of those that succeed.
+ghost use Rattle.js_assert.specs.Argument.{entries};
+ghost use Rattle.js_assert.specs.Assertion.{asserted};
+ghost use Rattle.js_eval.specs.Passes.{how_many, passes_of};
+ghost use Rattle.js_eval.specs.Walk.Progress.{IsKeywordAt, passes_at};
+ghost use Rattle.js_eval.specs.code.Terms.{IsSchemaAt, instance_of, keyword_of, numbered_site, schemas_of, value_of};
+ghost use Rattle.js_eval.specs.declared.kinds.kind.Kind.TheVariants.{Assertion as AssertionKind};
+ghost use Rattle.std.specs.Option.{option_map_or};
+ghost use Rattle.std.specs.Prelude.{Bool, IfOk, List, length, true, ℕ, ◌≡◌};
+ghost use Rattle.js_assert.specs.Assertion as spec;
+ghost use Rattle.js_eval.specs.Keywords as table;
+
+use crate::evaluation::Tally;
+use crate::instance::Instance;
+use crate::keywords::assertions::{look_up_assertion, satisfies};
+use crate::keywords::contains::contains;
+use crate::keywords::in_place::{holds_all, holds_any};
+use crate::kinds::keyword::Keyword;
+use crate::kinds::kind::Kind;
+use crate::searching::searchers::Searchers;
+use js_assert::Assertion;
+use js_bundle::{Place, Schemas};
+use js_doc::{Doc, Memory};
+use std::alloc::Global;
+
+/// Whether a keyword passes. `tally`: the number of its applications, and of those that succeed; `matching`: the number
+/// of items that match the adjacent `contains`.
+///
+/// # Errors
+/// `Memory` if an allocation fails.
+#[tactic(auto, unfolding(crate::specs::Walk::Progress::passes_at))]
+pub(crate) fn judge_keyword<'a>(
+    alloc: Global,
+    schemas: &'a Schemas,
+    searchers: &Searchers<'a>,
+    place: Place,
+    schema: &Doc,
+    value: Instance<'_>,
+    keyword: Keyword<'_>,
+    tally: Tally,
+    matching: u64,
+) -> Result<bool, Memory>
+    requires schema { IsSchemaAt schemas.now place (value_of schema.now) }
+    requires keyword { IsKeywordAt (schemas_of schemas.now) (numbered_site schemas.now place) (keyword_of keyword) }
+    ensures { IfOk result (λ b. (verdicts : List Bool) → length verdicts ≡ tally.asked
+        → how_many verdicts ≡ tally.succeeded
+        → b ≡ passes_at (schemas_of schemas.now) (numbered_site schemas.now place) (instance_of value.entry) matching
+        (keyword_of keyword.entry) verdicts) }
+{
+    let kind = keyword.kind;
+    let said = match kind {
+        Kind::Assertion => match look_up_assertion(schemas, place, keyword) {
+            Some(assertion) => satisfies(alloc, searchers, assertion, value, matching)?,
+            None => true,
+        },
+        _ => true,
+    };
+    Ok(passes_by_count(kind, schema, value, said, tally))
+}
+
+/// Whether a keyword of this kind in `schema` passes. `said`: whether the value satisfies it, if it is an assertion.
+pub(crate) fn passes_by_count(
+    kind: Kind,
+    schema: &Doc,
+    value: Instance<'_>,
+    said: bool,
+    tally: Tally,
+) -> bool
+    ensures { (matching : ℕ) (k : table.Keyword) (verdicts : List Bool)
+        → (kind ≡ AssertionKind → option_map_or (λ a. spec.says a (instance_of value.entry) matching)
+        (asserted k.0 k.1 (entries (value_of schema.now))) true ≡ said)
+        → length verdicts ≡ tally.asked → how_many verdicts ≡ tally.succeeded
+        → result ≡ passes_of (entries (value_of schema.now)) (instance_of value.entry) matching k verdicts kind }
+{
+    match kind {
+        Kind::AnyOf => holds_any(tally),
+        Kind::OneOf => tally.succeeded == 1,
+        Kind::Not => !holds_any(tally),
+        Kind::If => true,
+        Kind::Contains => contains(schema, value, tally),
+        Kind::Assertion => said,
+        Kind::Annotation => true,
+        _ => holds_all(tally),
+    }
+}

@@ -1,5 +1,0 @@
-use Rattle.js_doc.proofs.PartLists.{member_list-members}
-use Rattle.js_places.proofs.index.keyword_table.push_names.Goals as goal
-
-pub returns-in-Members : goal.returns-in-Members
-returns-in-Members c = rw c.in-Members.is (rw (member_list-members c.in-Members.members) c.push_members.ensures)

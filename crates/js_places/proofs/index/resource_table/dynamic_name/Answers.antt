@@ -1,7 +1,0 @@
-use Rattle.js_places.specs.code.Scan.{site_of}
-use Rattle.js_places.proofs.Indexing.NoKeyword.{no_dynamic_anchor}
-use Rattle.js_places.proofs.index.resource_table.dynamic_name.Goals as goal
-
-pub returns : goal.returns
-returns c = no_dynamic_anchor (site_of c.args.site.now) c.args.names.now c.contains.result c.requires
-    c.contains.ensures.value c.if-contains.false

@@ -1,5 +1,0 @@
-use Rattle.js_places.proofs.Indexing.ResourceNumbers.{numbers_resources}
-use Rattle.js_places.proofs.laws.a_number_determines_a_resource.Goals as goal
-
-pub returns : goal.returns
-returns c = numbers_resources

@@ -1,5 +1,0 @@
-use Rattle.js_places.proofs.Listing.AllPlaces.{each_once}
-use Rattle.js_places.proofs.laws.the_list_has_each_of_all_once.Goals as goal
-
-pub returns : goal.returns
-returns c = each_once

@@ -1,5 +1,0 @@
-use Rattle.js_places.proofs.Listing.AllPlaces.{lists_all_places}
-use Rattle.js_places.proofs.laws.the_list_has_the_places_of_all.Goals as goal
-
-pub returns : goal.returns
-returns c = lists_all_places

@@ -1,5 +1,0 @@
-use Rattle.js_rows.proofs.Placing.{placed_tree_again}
-use Rattle.js_rows.proofs.laws.a_located_tree_is_placed_again.Goals as goal
-
-pub returns : goal.returns
-returns c = λ t h. placed_tree_again t h

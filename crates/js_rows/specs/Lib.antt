@@ -1,6 +1,0 @@
-pub mod Holding
-pub mod Locations
-pub mod Marks
-pub mod Relative
-pub mod RelativeState
-pub mod code

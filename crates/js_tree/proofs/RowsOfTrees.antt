@@ -1,0 +1,21 @@
+-- Relative rows of trees: collected, kept, compared, and made a tree again.
+pub mod AddedRows
+pub mod ApartRows
+pub mod AscendingParts
+pub mod DifferingTrees
+pub mod EscapedRows
+pub mod KeptBetween
+pub mod KeptRows
+pub mod Leaves
+pub mod LeftTrees
+pub mod MarkedRows
+pub mod NextTrees
+pub mod PlacedRows
+pub mod Placing
+pub mod RelativeRowsCollected
+pub mod RootBack
+pub mod RoomLeft
+pub mod SiblingsDiffer
+pub mod SilentLeaves
+pub mod TrimmedRowsCollected
+pub mod UndoneEscapes

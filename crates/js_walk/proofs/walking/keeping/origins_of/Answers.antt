@@ -1,6 +1,0 @@
-use Rattle.std.proofs.Common.{ap, sym}
-use Rattle.js_walk.specs.Evaluated.{origins}
-use Rattle.js_walk.proofs.walking.keeping.origins_of.Goals as goal
-
-pub returns-in-Contains : goal.returns-in-Contains
-returns-in-Contains c = ap origins (sym c.in-Contains.is)

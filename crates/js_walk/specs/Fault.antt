@@ -1,8 +1,0 @@
--- What a fault of a walk says.
-use Rattle.js_walk.specs.declared.walking.fault.WalkFault.{WalkFault}
-use Rattle.js_walk.specs.declared.walking.fault.WalkFault.TheVariants.{Memory, TooLarge}
-
--- nothing is claimed about `Memory`
-abbrev pub OnTooLarge : WalkFault → Type 0 → Type 0
-OnTooLarge Memory P = Unit {0}
-OnTooLarge TooLarge P = P
