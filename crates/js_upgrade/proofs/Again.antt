@@ -16,14 +16,15 @@ use Rattle.js_upgrade.specs.Keyword.{applicator_change, assertion_change, change
 use Rattle.js_upgrade.specs.Laws.{TwiceIsOnce}
 use Rattle.js_upgrade.specs.Upgrade.{becomes, declared, dialect_found, dialect_in, dialect_or, document_dialect}
 use Rattle.js_upgrade.specs.Schema.{is_identifier}
-use Rattle.js_upgrade.specs.Upgrade.{document_upgraded, holding_in, holding_of, identifier, identifies}
+use Rattle.js_upgrade.specs.Upgrade.{document_upgraded, holding_in, holding_by_change, identifier, identifies}
 use Rattle.js_upgrade.specs.Upgrade.{items_upgraded, keywords_upgraded, members_upgraded, own_dialect, root_upgraded}
 use Rattle.js_upgrade.specs.Upgrade.{schema_uri, upgraded, with_schema_uri}
 use Rattle.js_upgrade.specs.declared.dialect.Dialect.{Dialect}
 use Rattle.js_upgrade.specs.declared.dialect.Dialect.TheVariants.{Draft03, Draft04, Draft06}
 use Rattle.js_upgrade.specs.declared.dialect.Dialect.TheVariants.{Draft07, Draft2019, Draft2020}
-use Rattle.js_upgrade.specs.declared.holding.Holding.{Holding}
-use Rattle.js_upgrade.specs.declared.holding.Holding.TheVariants.{One, Listed, Named as ByName, OneOrListed, Nothing}
+use Rattle.js_upgrade.specs.declared.holding.SchemaHolding.{SchemaHolding}
+use Rattle.js_upgrade.specs.declared.holding.SchemaHolding.TheVariants.{One, Listed, Named as ByName, OneOrListed}
+use Rattle.js_upgrade.specs.declared.holding.SchemaHolding.TheVariants.{Nothing}
 use Rattle.js_upgrade.proofs.Agreeing.{IsFit}
 use Rattle.js_upgrade.proofs.Each.{Each, are_current, each_current, each_gathered, each_put}
 use Rattle.js_upgrade.proofs.InOrder.{names_ascend}
@@ -40,7 +41,8 @@ nothing_upgraded d (text s) = refl
 nothing_upgraded d (list vs) = refl
 nothing_upgraded d (object ms) = refl
 
-kept_by : (k name : Text) (held : Text → Holding) (d : Dialect) (v : Value) (new old : Option Value) (o : Ordering)
+kept_by : (k name : Text) (held : Text
+    → SchemaHolding) (d : Dialect) (v : Value) (new old : Option Value) (o : Ordering)
     → name_cmp k name ≡ o → held k ≡ Nothing → new ≡ old
     → match_ordering o new (Some (upgraded (held name) d v)) new ≡ match_ordering o old (Some v) old
 kept_by k name held d v new old Less is h same = same
@@ -49,7 +51,7 @@ kept_by k name held d v new old Equal is h same =
     ∙ ap Some (nothing_upgraded d v)
 kept_by k name held d v new old Greater is h same = same
 
-get_kept : (held : Text → Holding) (d : Dialect) (k : Text) → held k ≡ Nothing → (ms : Members)
+get_kept : (held : Text → SchemaHolding) (d : Dialect) (k : Text) → held k ≡ Nothing → (ms : Members)
     → get k (members_upgraded held d ms) ≡ get k (member_list ms)
 get_kept held d k h no_members = refl
 get_kept held d k h (member name v ms) =
@@ -58,8 +60,8 @@ get_kept held d k h (member name v ms) =
 
 -- ---- so is the dialect
 
-abbrev pub in_2020 : Text → Holding
-in_2020 name = holding_of (change_in Draft2020 name)
+abbrev pub in_2020 : Text → SchemaHolding
+in_2020 name = holding_by_change (change_in Draft2020 name)
 
 schema_held : in_2020 (codes "$schema") ≡ Nothing
 unfolding core_change applicator_change assertion_change
@@ -108,7 +110,7 @@ again_by d siblings (Some e) is = again_if (identifies e siblings) e d is
 
 -- ---- a schema
 
-pub upgraded_members_ascend : (held : Text → Holding) (d : Dialect) (ms : Members) → NamesAscendInMembers ms
+pub upgraded_members_ascend : (held : Text → SchemaHolding) (d : Dialect) (ms : Members) → NamesAscendInMembers ms
     → IsAscending (members_upgraded held d ms)
 upgraded_members_ascend held d ms s =
     subst (λ ns. IsAscending (members_upgraded held d ns)) (members-member_list ms)
@@ -155,7 +157,7 @@ schema_current d ms s e =
     current_made (own_dialect d (member_list ms)) ms s (again_by d (member_list ms) (declared (member_list ms))) e
 
 mutual
-  pub current : (h : Holding) (d : Dialect) (v : Value) → NamesAscend v → IsCurrent h (upgraded h d v)
+  pub current : (h : SchemaHolding) (d : Dialect) (v : Value) → NamesAscend v → IsCurrent h (upgraded h d v)
   current One d (object ms) s =
       schema_current d ms s (members_current (holding_in (own_dialect d (member_list ms)) (member_list ms))
       (own_dialect d (member_list ms)) ms s)
@@ -195,7 +197,7 @@ mutual
   items_current d no_items s = tt
   items_current d (item v vs) s = (current One d v s.0, items_current d vs s.1)
 
-  members_current : (held : Text → Holding) (d : Dialect) (ms : Members) → NamesAscendInMembers ms
+  members_current : (held : Text → SchemaHolding) (d : Dialect) (ms : Members) → NamesAscendInMembers ms
       → Each (λ k v. IsCurrent (held k) v) (members_upgraded held d ms)
   members_current held d no_members s = tt
   members_current held d (member name v ms) s = (current (held name) d v s.1, members_current held d ms s.2)

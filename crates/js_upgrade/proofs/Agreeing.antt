@@ -6,10 +6,10 @@ use Rattle.js_doc.specs.Value.{Value, Text, Named}
 use Rattle.js_doc.proofs.TokenLookup.{is_text-sound}
 use Rattle.js_upgrade.specs.Current.{IsCurrent}
 use Rattle.js_upgrade.specs.Dialect.{found, first_of, is_before}
-use Rattle.js_upgrade.specs.Keyword.{applicator_change, applicators, assertion_change, assertions}
-use Rattle.js_upgrade.specs.Keyword.{change_in, core, core_change, or_stays}
+use Rattle.js_upgrade.specs.Keyword.{applicator_change, applicator_rows, assertion_change, assertion_rows}
+use Rattle.js_upgrade.specs.Keyword.{change_in, core_rows, core_change, or_stays}
 use Rattle.js_upgrade.specs.Schema.{beside_reference, change_of, hides}
-use Rattle.js_upgrade.specs.Upgrade.{holding_in, holding_of}
+use Rattle.js_upgrade.specs.Upgrade.{holding_in, holding_by_change}
 use Rattle.js_upgrade.specs.declared.dialect.Dialect.{Dialect}
 use Rattle.js_upgrade.specs.declared.dialect.Dialect.TheVariants.{Draft03, Draft04, Draft06}
 use Rattle.js_upgrade.specs.declared.dialect.Dialect.TheVariants.{Draft07, Draft2019, Draft2020}
@@ -20,22 +20,23 @@ use Rattle.js_upgrade.specs.declared.keyword.Change.TheVariants.{Goes, Identifie
 use Rattle.js_upgrade.specs.declared.keyword.Change.TheVariants.{Dependencies, Minimum, Maximum, Divisor, Types}
 use Rattle.js_upgrade.specs.declared.keyword.Change.TheVariants.{Disallowed, Extended, Properties}
 use Rattle.js_upgrade.specs.declared.keyword.Change.TheVariants.{Contains, RecursiveReference, RecursiveAnchor}
-use Rattle.js_upgrade.specs.declared.holding.Holding.{Holding}
-use Rattle.js_upgrade.specs.declared.holding.Holding.TheVariants.{One, Listed, Named as ByName, OneOrListed, Nothing}
+use Rattle.js_upgrade.specs.declared.holding.SchemaHolding.{SchemaHolding}
+use Rattle.js_upgrade.specs.declared.holding.SchemaHolding.TheVariants.{One, Listed, Named as ByName, OneOrListed}
+use Rattle.js_upgrade.specs.declared.holding.SchemaHolding.TheVariants.{Nothing}
 use Rattle.js_upgrade.proofs.PlainChanges.{is_plain}
 
-abbrev number : Holding → ℕ
+abbrev number : SchemaHolding → ℕ
 number One = 0
 number Listed = 1
 number ByName = 2
 number OneOrListed = 3
 number Nothing = 4
 
-abbrev with_number : ℕ → Holding
+abbrev with_number : ℕ → SchemaHolding
 with_number n =
     cond (n == 0) One (cond (n == 1) Listed (cond (n == 2) ByName (cond (n == 3) OneOrListed Nothing)))
 
-numbered : (h : Holding) → with_number (number h) ≡ h
+numbered : (h : SchemaHolding) → with_number (number h) ≡ h
 numbered One = refl
 numbered Listed = refl
 numbered ByName = refl
@@ -45,7 +46,7 @@ numbered Nothing = refl
 -- ---- the tables, line by line
 
 abbrev agrees : Change → Change → Bool
-agrees old new = cond (is_plain old) (number (holding_of old) == number (holding_of new)) true
+agrees old new = cond (is_plain old) (number (holding_by_change old) == number (holding_by_change new)) true
 
 abbrev all_agree : List (Text × Change) → List (Text × Change) → Bool
 all_agree [] [] = true
@@ -53,7 +54,7 @@ all_agree [] (new ∷ news) = false
 all_agree (old ∷ olds) [] = false
 all_agree (old ∷ olds) (new ∷ news) = cond (agrees old.1 new.1) (all_agree olds news) false
 
-core_agrees : (d : Dialect) → all_agree (core d) (core Draft2020) ≡ true
+core_agrees : (d : Dialect) → all_agree (core_rows d) (core_rows Draft2020) ≡ true
 core_agrees Draft03 = refl
 core_agrees Draft04 = refl
 core_agrees Draft06 = refl
@@ -61,7 +62,7 @@ core_agrees Draft07 = refl
 core_agrees Draft2019 = refl
 core_agrees Draft2020 = refl
 
-applicators_agree : (d : Dialect) → all_agree (applicators d) (applicators Draft2020) ≡ true
+applicators_agree : (d : Dialect) → all_agree (applicator_rows d) (applicator_rows Draft2020) ≡ true
 applicators_agree Draft03 = refl
 applicators_agree Draft04 = refl
 applicators_agree Draft06 = refl
@@ -69,7 +70,7 @@ applicators_agree Draft07 = refl
 applicators_agree Draft2019 = refl
 applicators_agree Draft2020 = refl
 
-assertions_agree : (d : Dialect) → all_agree (assertions d) (assertions Draft2020) ≡ true
+assertions_agree : (d : Dialect) → all_agree (assertion_rows d) (assertion_rows Draft2020) ≡ true
 assertions_agree Draft03 = refl
 assertions_agree Draft04 = refl
 assertions_agree Draft06 = refl
@@ -138,17 +139,18 @@ changes_agree d name =
     (first_of (applicator_change Draft2020 name) (core_change Draft2020 name)))
     (first_agrees (assertion_change d name) (first_of (applicator_change d name) (core_change d name))
     (assertion_change Draft2020 name) (first_of (applicator_change Draft2020 name) (core_change Draft2020 name))
-    (found_agree (assertions d) (assertions Draft2020) name refl (assertions_agree d))
+    (found_agree (assertion_rows d) (assertion_rows Draft2020) name refl (assertions_agree d))
     (first_agrees (applicator_change d name) (core_change d name) (applicator_change Draft2020 name)
     (core_change Draft2020 name)
-    (found_agree (applicators d) (applicators Draft2020) name refl (applicators_agree d))
-    (found_agree (core d) (core Draft2020) name refl (core_agrees d))))
+    (found_agree (applicator_rows d) (applicator_rows Draft2020) name refl (applicators_agree d))
+    (found_agree (core_rows d) (core_rows Draft2020) name refl (core_agrees d))))
 
-agreed : (old new : Change) → is_plain old ≡ true → agrees old new ≡ true → holding_of old ≡ holding_of new
+agreed : (old new : Change) → is_plain old ≡ true → agrees old new ≡ true → holding_by_change old
+    ≡ holding_by_change new
 agreed old new plain e =
-    let same : (number (holding_of old) == number (holding_of new)) ≡ true =
-    sym (ap (λ b. cond b (number (holding_of old) == number (holding_of new)) true) plain) ∙ e in
-    sym (numbered (holding_of old)) ∙ ap with_number (eqb-true _ _ same) ∙ numbered (holding_of new)
+    let same : (number (holding_by_change old) == number (holding_by_change new)) ≡ true =
+    sym (ap (λ b. cond b (number (holding_by_change old) == number (holding_by_change new)) true) plain) ∙ e in
+    sym (numbered (holding_by_change old)) ∙ ap with_number (eqb-true _ _ same) ∙ numbered (holding_by_change new)
 
 -- ---- `$schema` doesn't stay in an older draft
 
@@ -174,17 +176,17 @@ stands_by d name false e plain = refl
 
 -- as 2020-12 holds it
 abbrev pub IsFit : Bool → Text → Value → Type 0
-IsFit last name v = IsCurrent (holding_of (change_in Draft2020 name)) v × (may_stand last name ≡ true)
+IsFit last name v = IsCurrent (holding_by_change (change_in Draft2020 name)) v × (may_stand last name ≡ true)
 
 plain_fit : (d : Dialect) (name : Text) (v : Value) → is_plain (change_in d name) ≡ true
-    → IsCurrent (holding_of (change_in d name)) v → IsFit (not (is_before d Draft2020)) name v
+    → IsCurrent (holding_by_change (change_in d name)) v → IsFit (not (is_before d Draft2020)) name v
 plain_fit d name v plain c = (
   subst (λ h. IsCurrent h v) (agreed (change_in d name) (change_in Draft2020 name) plain (changes_agree d name)) c,
   stands_by d name (bytes_eq name (codes "$schema")) refl plain,
 )
 
 pub beside_plain : (change : Change) → is_plain (beside_reference change) ≡ true
-    → (is_plain change ≡ true) × (holding_of (beside_reference change) ≡ holding_of change)
+    → (is_plain change ≡ true) × (holding_by_change (beside_reference change) ≡ holding_by_change change)
 beside_plain Stays e = (refl, refl)
 beside_plain Refers e = (refl, refl)
 beside_plain Asserts e = absurd (cc)
@@ -210,7 +212,7 @@ beside_plain RecursiveAnchor e = absurd (cc)
 
 fit_by : (hidden : Bool) (d : Dialect) (name : Text) (v : Value)
     → is_plain (cond hidden (beside_reference (change_in d name)) (change_in d name)) ≡ true
-    → IsCurrent (holding_of (cond hidden (beside_reference (change_in d name)) (change_in d name))) v
+    → IsCurrent (holding_by_change (cond hidden (beside_reference (change_in d name)) (change_in d name))) v
     → IsFit (not (is_before d Draft2020)) name v
 fit_by true d name v plain c =
     let p = beside_plain (change_in d name) plain in

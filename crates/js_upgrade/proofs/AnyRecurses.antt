@@ -2,10 +2,10 @@
 use Rattle.std.proofs.Common.{◌≡◌, List, [], ◌∷◌, ◌||◌, map, refl, ap}
 use Rattle.std.specs.List.{list_any}
 use Rattle.js_upgrade.specs.Resource.{recurses}
-use Rattle.js_upgrade.specs.Seen.{resource_of}
+use Rattle.js_upgrade.specs.Seen.{resource_seen}
 use Rattle.js_upgrade.specs.declared.resources.Resource.{Resource}
 
 pub any_recurses : (all : List Resource)
-    → list_any recurses (map resource_of all) ≡ list_any (λ r. recurses (resource_of r)) all
+    → list_any recurses (map resource_seen all) ≡ list_any (λ r. recurses (resource_seen r)) all
 any_recurses [] = refl
-any_recurses (r ∷ all) = ap (λ b. recurses (resource_of r) || b) (any_recurses all)
+any_recurses (r ∷ all) = ap (λ b. recurses (resource_seen r) || b) (any_recurses all)

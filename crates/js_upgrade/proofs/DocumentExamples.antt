@@ -13,10 +13,10 @@ use Rattle.url.specs.Scheme.{default_port, scheme_len, scheme_type}
 use Rattle.url.specs.declared.host.Host.TheVariants.{Domain}
 use Rattle.js_doc.specs.Value.{Value, text, Text, Named}
 use Rattle.js_upgrade.specs.Dialect.{version_named}
-use Rattle.js_upgrade.specs.Documents.{Source, all_upgraded}
+use Rattle.js_upgrade.specs.Documents.{SourceDocument, all_upgraded, are_known, each_upgraded}
 use Rattle.js_upgrade.specs.Keyword.{core_change, applicator_change, assertion_change}
 use Rattle.js_upgrade.specs.Upgrade.{schema_uri}
-use Rattle.js_upgrade.specs.Url.{printed, without_fragment}
+use Rattle.js_upgrade.specs.Url.{uri_printed, uri_without_fragment}
 use Rattle.js_upgrade.specs.declared.dialect.Dialect.{Dialect}
 use Rattle.js_upgrade.specs.declared.dialect.Dialect.TheVariants.{Draft07, Draft2020}
 use Rattle.js_upgrade.proofs.Examples.{arr, is_null, is_string, obj}
@@ -34,7 +34,7 @@ at_path path =
       fragment = None;
     }
 
-abbrev pub source : Dialect → Text → Named → Source
+abbrev pub source : Dialect → Text → Named → SourceDocument
 source d path ms = record { uri = at_path path; assumed = d; root = obj ms }
 
 abbrev pub refers : Text → Value
@@ -50,7 +50,8 @@ within : all_upgraded (source Draft07 (codes "/s") ((codes "const", refers (code
     ∷ (codes "not", refers (codes "#/definitions/x")) ∷ []) ∷ [])
     ≡ Some (obj ((codes "$defs", obj ((codes "x", is_null) ∷ [])) ∷ (codes "$schema", schema_uri)
     ∷ (codes "const", refers (codes "#/definitions/x")) ∷ (codes "not", refers (codes "#/$defs/x")) ∷ []) ∷ [])
-unfolding core_change applicator_change assertion_change version_named printed without_fragment chars encode
+unfolding are_known each_upgraded core_change applicator_change assertion_change version_named uri_printed
+    uri_without_fragment chars encode
     is_utf8 should_percent_encode percent_decode percent_encode percent_encode_byte split_once strip_tabs_and_new_lines
     trim_c0_control_and_space parse_parts parse_url split_scheme default_port scheme_len scheme_type
 within = refl
@@ -61,7 +62,8 @@ between : all_upgraded (source Draft2020 (codes "/s") ((codes "not", refers (cod
     ≡ Some (obj ((codes "not", refers (codes "t#/$defs/x/prefixItems/1")) ∷ [])
     ∷ obj ((codes "$defs", obj ((codes "x", obj ((codes "prefixItems", arr (is_null ∷ is_string ∷ [])) ∷ [])) ∷ []))
     ∷ (codes "$schema", schema_uri) ∷ []) ∷ [])
-unfolding core_change applicator_change assertion_change version_named printed without_fragment chars encode
+unfolding are_known each_upgraded core_change applicator_change assertion_change version_named uri_printed
+    uri_without_fragment chars encode
     is_utf8 should_percent_encode percent_decode percent_encode percent_encode_byte rsplit_once split_once
     strip_tabs_and_new_lines trim_c0_control_and_space leading_slashes parse_body parse_parts parse_relative parse_url
     split_scheme digits dot_count parse_segments push_segment shorten_path default_port scheme_len scheme_type

@@ -6,8 +6,8 @@ use Rattle.js_doc.specs.Members.{name_cmp, put}
 use Rattle.js_doc.specs.Parts.{member_list}
 use Rattle.js_doc.proofs.FiniteMaps.{name_equal}
 use Rattle.js_upgrade.specs.Current.{AreCurrent, IsCurrent}
-use Rattle.js_upgrade.specs.Schema.{gathered, put_all}
-use Rattle.js_upgrade.specs.declared.holding.Holding.{Holding}
+use Rattle.js_upgrade.specs.Schema.{gathered_members, put_all}
+use Rattle.js_upgrade.specs.declared.holding.SchemaHolding.{SchemaHolding}
 
 abbrev pub Each : (Text → Value → Type 0) → Named → Type 0
 Each P [] = Unit {0}
@@ -32,7 +32,7 @@ each_put_all P (m ∷ ms) among e f = each_put_all P ms (put m.0 m.1 among) e.1 
 
 pub each_gathered : (P Q : Text → Value → Type 0) (f : Text → Value → Named)
     → ((k : Text) (v : Value) → Q k v → Each P (f k v)) → (ms among : Named) → Each Q ms → Each P among
-    → Each P (gathered f ms among)
+    → Each P (gathered_members f ms among)
 each_gathered P Q f next [] among e g = g
 each_gathered P Q f next (m ∷ ms) among e g =
     each_gathered P Q f next ms (put_all (f m.0 m.1) among) e.1
@@ -42,12 +42,12 @@ pub each_append : (P : Text → Value → Type 0) (ms ns : Named) → Each P ms 
 each_append P [] ns e f = f
 each_append P (m ∷ ms) ns e f = (e.0, each_append P ms ns e.1 f)
 
-pub are_current : (held : Text → Holding) (ms : Named) → Each (λ k v. IsCurrent (held k) v) ms
+pub are_current : (held : Text → SchemaHolding) (ms : Named) → Each (λ k v. IsCurrent (held k) v) ms
     → AreCurrent held (members ms)
 are_current held [] e = tt
 are_current held (m ∷ ms) e = (e.0, are_current held ms e.1)
 
-pub each_current : (held : Text → Holding) (ms : Members) → AreCurrent held ms
+pub each_current : (held : Text → SchemaHolding) (ms : Members) → AreCurrent held ms
     → Each (λ k v. IsCurrent (held k) v) (member_list ms)
 each_current held no_members c = tt
 each_current held (member name v ms) c = (c.0, each_current held ms c.1)

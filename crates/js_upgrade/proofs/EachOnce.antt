@@ -10,15 +10,16 @@ use Rattle.js_doc.specs.Seen.{value_of}
 use Rattle.js_doc.specs.Value.{Value, text, Text, Values}
 use Rattle.js_doc.specs.declared.doc.Doc.{Doc}
 use Rattle.js_upgrade.specs.Schema.{is_new, once, seen_with}
-use Rattle.js_upgrade.specs.code.HasSeen.{HasSeen, is_key}
+use Rattle.js_upgrade.specs.code.HasSeen.{HasSeen, is_seen_text}
 
 or_of : (a b : Bool) → cond a true b ≡ a || b
 or_of true b = refl
 or_of false b = refl
 
 pub text_seen : (old new : List (Bor Text)) (names : List Text) (k : Bor Text) (name : Text) (v : Value) (b : Bool)
-    → v ≡ text name → k.now ≡ name → b ≡ not (is_key old k.now)
-    → ((q : Bor Text) → is_key new q.now ≡ cond (is_eq (slice_cmp nat_cmp k.now q.now)) true (is_key old q.now))
+    → v ≡ text name → k.now ≡ name → b ≡ not (is_seen_text old k.now)
+    → ((q : Bor Text) → is_seen_text new q.now
+    ≡ cond (is_eq (slice_cmp nat_cmp k.now q.now)) true (is_seen_text old q.now))
     → HasSeen old names → (b ≡ is_new names v) × HasSeen new (seen_with names v)
 text_seen old new names k name v b is lent added updates seen = (
   added ∙ ap not (seen k) ∙ ap (λ n. not (list_any (bytes_eq n) names)) lent ∙ sym (ap (is_new names) is),

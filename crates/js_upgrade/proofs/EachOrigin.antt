@@ -9,8 +9,10 @@ use Rattle.js_doc.specs.Value.{Value, null, truth, whole, text, list, object, it
 use Rattle.js_doc.specs.Value.{Text, Values, Named}
 use Rattle.js_doc.proofs.TokenLookup.{is_text-sound}
 use Rattle.js_upgrade.specs.Schema.{alternative, alternatives_upgraded, dependencies_upgraded, dependent_names}
-use Rattle.js_upgrade.specs.Schema.{dependent_schema, extends_upgraded, gathered, identifier_upgraded, is_any, is_list}
-use Rattle.js_upgrade.specs.Schema.{is_mark, is_name, is_simple_type, is_true, list_or_schema_upgraded, members_found}
+use Rattle.js_upgrade.specs.Schema.{dependent_schema, extends_upgraded, gathered_members, identifier_upgraded, is_any}
+use Rattle.js_upgrade.specs.Schema.{is_some_list}
+use Rattle.js_upgrade.specs.Schema.{is_mark, is_plain_name, is_simple_type, is_true, list_or_schema_upgraded}
+use Rattle.js_upgrade.specs.Schema.{members_found}
 use Rattle.js_upgrade.specs.Schema.{one, required_names, some_items, some_members, some_name, some_uri}
 use Rattle.js_upgrade.specs.Schema.{holder, is_identifier, recursive_name, types_upgraded, upgraded_by}
 use Rattle.js_upgrade.specs.declared.keyword.Change.{Change}
@@ -59,14 +61,14 @@ module _ (f : Text → Text) (k : Text) where
   identifier_from (text t) e g =
       each_append (λ n w. f n ≡ k) (some_uri (before_first is_mark t)) (some_name (after_first is_mark t))
       (uri_from (before_first is_mark t) e)
-      (choice_from (is_name (after_first is_mark t)) (codes "$anchor") (text (after_first is_mark t)) g)
+      (choice_from (is_plain_name (after_first is_mark t)) (codes "$anchor") (text (after_first is_mark t)) g)
   identifier_from null e g = (e, tt)
   identifier_from (truth b) e g = (e, tt)
   identifier_from (whole z) e g = (e, tt)
   identifier_from (list vs) e g = (e, tt)
   identifier_from (object ms) e g = (e, tt)
 
-  list_or_schema_from : (listed : Bool) (v : Value) → is_list (Some v) ≡ listed
+  list_or_schema_from : (listed : Bool) (v : Value) → is_some_list (Some v) ≡ listed
       → f (cond listed (codes "prefixItems") (codes "items")) ≡ k → AllFrom (list_or_schema_upgraded v)
   list_or_schema_from true (list vs) is e = items_from (codes "prefixItems") (item_list vs) e
   list_or_schema_from false (list vs) is e = absurd (cc)
@@ -92,8 +94,8 @@ module _ (f : Text → Text) (k : Text) where
   dependencies_from : (v : Value) → f (codes "dependentRequired") ≡ k → f (codes "dependentSchemas") ≡ k
       → AllFrom (dependencies_upgraded v)
   dependencies_from (object ms) e g =
-      let names = gathered dependent_names (member_list ms) [] in
-      let schemas = gathered dependent_schema (member_list ms) [] in
+      let names = gathered_members dependent_names (member_list ms) [] in
+      let schemas = gathered_members dependent_schema (member_list ms) [] in
       each_append (λ n w. f n ≡ k) (some_members (codes "dependentRequired") names)
       (some_members (codes "dependentSchemas") schemas) (members_from (codes "dependentRequired") names e)
       (members_from (codes "dependentSchemas") schemas g)
@@ -130,9 +132,9 @@ module _ (f : Text → Text) (k : Text) where
 
   -- ---- each change
 
-  pub each_from : (siblings : Named) (listed : Bool) (v : Value) → is_list (get (codes "items") siblings) ≡ listed
+  pub each_from : (siblings : Named) (listed : Bool) (v : Value) → is_some_list (get (codes "items") siblings) ≡ listed
       → (change : Change) → all_from f k (outputs listed change) ≡ true → (is_plain change ≡ true → f k ≡ k)
-      → (change ≡ Items → is_list (Some v) ≡ listed) → (change ≡ Contains → f (holder siblings) ≡ k)
+      → (change ≡ Items → is_some_list (Some v) ≡ listed) → (change ≡ Contains → f (holder siblings) ≡ k)
       → AllFrom (upgraded_by siblings k v change)
   each_from siblings listed v is Stays e plain same held = (plain refl, tt)
   each_from siblings listed v is Asserts e plain same held = (plain refl, tt)
@@ -149,7 +151,7 @@ module _ (f : Text → Text) (k : Text) where
       list_or_schema_from listed v (same refl)
       (from_first f k (cond listed (codes "prefixItems") (codes "items")) [] e)
   each_from siblings listed v is AdditionalItems e plain same held =
-      behind_from listed (is_list (get (codes "items") siblings)) v is e
+      behind_from listed (is_some_list (get (codes "items") siblings)) v is e
   each_from siblings listed v is Dependencies e plain same held =
       dependencies_from v (from_first f k (codes "dependentRequired") (codes "dependentSchemas" ∷ []) e)
       (from_second f k (codes "dependentRequired") (codes "dependentSchemas") [] e)

@@ -12,9 +12,9 @@ use Rattle.url.specs.Scheme.{default_port, scheme_len, scheme_type}
 use Rattle.js_doc.specs.Pointer.{Tokens}
 use Rattle.js_doc.specs.Value.{Value, null, text, Text, Named}
 use Rattle.js_upgrade.specs.Dialect.{version_named}
-use Rattle.js_upgrade.specs.Fault.{Found, Kind, first_fault, source_fault}
+use Rattle.js_upgrade.specs.Fault.{FoundFault, FaultKind, first_fault, source_fault}
 use Rattle.js_upgrade.specs.Keyword.{core_change, applicator_change, assertion_change}
-use Rattle.js_upgrade.specs.Url.{printed, without_fragment}
+use Rattle.js_upgrade.specs.Url.{uri_printed, uri_without_fragment}
 use Rattle.js_upgrade.specs.declared.dialect.Dialect.TheVariants.{Draft04, Draft07, Draft2019}
 use Rattle.js_upgrade.specs.declared.fault.Pass.TheVariants.{Names, References, Contained}
 use Rattle.js_upgrade.specs.declared.fault.UpgradeFaultKind.TheVariants.{BadKeyword, DuplicateUri, UnknownDialect}
@@ -22,7 +22,7 @@ use Rattle.js_upgrade.specs.declared.fault.UpgradeFaultKind.TheVariants.{BadRefe
 use Rattle.js_upgrade.proofs.DocumentExamples.{refers, source}
 use Rattle.js_upgrade.proofs.Examples.{is_null, obj}
 
-abbrev found : Tokens → Kind → Found
+abbrev found : Tokens → FaultKind → FoundFault
 found place kind = record { place = place; kind = kind }
 
 -- a dialect that isn't known
@@ -70,9 +70,10 @@ hidden = refl
 nowhere : first_fault (source Draft07 (codes "/s") ((codes "const", refers (codes "#/y"))
     ∷ (codes "not", refers (codes "#/definitions/x")) ∷ (codes "x", refers (codes "#/y")) ∷ []) ∷ [])
     ≡ Some (record { document = 0; place = codes "not" ∷ codes "$ref" ∷ []; kind = Unresolved })
-unfolding core_change applicator_change assertion_change version_named printed without_fragment chars encode
-    is_utf8 should_percent_encode percent_decode percent_encode percent_encode_byte split_once strip_tabs_and_new_lines
-    trim_c0_control_and_space parse_parts parse_url split_scheme default_port scheme_len scheme_type
+unfolding first_fault core_change applicator_change assertion_change version_named uri_printed uri_without_fragment
+    chars encode is_utf8 should_percent_encode percent_decode percent_encode percent_encode_byte split_once
+    strip_tabs_and_new_lines trim_c0_control_and_space parse_parts parse_url split_scheme default_port scheme_len
+    scheme_type
 nowhere = refl
 
 -- what 2019-09 follows dynamically is `#`; to draft-07 it is an unknown keyword
@@ -95,14 +96,14 @@ unknown_there = refl
 -- two documents under one URI
 twice : first_fault (source Draft07 (codes "/s") [] ∷ source Draft04 (codes "/s") [] ∷ [])
     ≡ Some (record { document = 1; place = []; kind = DuplicateUri })
-unfolding printed chars digits default_port
+unfolding first_fault uri_printed chars digits default_port
 twice = refl
 
 -- names come before references
 names_first : first_fault (source Draft07 (codes "/s") ((codes "$ref", text (codes "t")) ∷ [])
     ∷ source Draft07 (codes "/t") unknown ∷ [])
     ≡ Some (record { document = 1; place = codes "$schema" ∷ []; kind = UnknownDialect })
-unfolding core_change applicator_change assertion_change version_named
+unfolding first_fault core_change applicator_change assertion_change version_named
 names_first = refl
 
 -- `contains` of draft-07 would evaluate where a schema of 2019-09 has `unevaluatedItems`, unless a reference hides it
@@ -114,12 +115,12 @@ unevaluated = (codes "unevaluatedItems", null) ∷ []
 
 contained : first_fault (source Draft2019 (codes "/s") unevaluated ∷ source Draft07 (codes "/t") contains ∷ [])
     ≡ Some (record { document = 1; place = codes "contains" ∷ []; kind = BadKeyword })
-unfolding core_change applicator_change assertion_change version_named printed chars digits default_port
+unfolding first_fault core_change applicator_change assertion_change version_named uri_printed chars digits default_port
 contained = refl
 
 contained_alone : first_fault (source Draft07 (codes "/s") unevaluated ∷ source Draft07 (codes "/t") contains ∷ [])
     ≡ None
-unfolding core_change applicator_change assertion_change version_named printed chars digits default_port
+unfolding first_fault core_change applicator_change assertion_change version_named uri_printed chars digits default_port
 contained_alone = refl
 
 contained_hidden : source_fault Contained []

@@ -9,46 +9,50 @@ use Rattle.js_doc.specs.Value.{Text, Named, Values, object, members}
 use Rattle.js_doc.specs.declared.doc.Doc.{Doc}
 use Rattle.js_doc.proofs.PartLists.{member_list-members}
 use Rattle.js_upgrade.specs.Dialect.{first_of}
-use Rattle.js_upgrade.specs.Fault.{Found, deeper, fault_in, member_fault, schema_fault}
+use Rattle.js_upgrade.specs.Fault.{FoundFault, deeper, fault_in, member_fault, schema_fault}
 use Rattle.js_upgrade.specs.Resource.{Resource, own_base}
 use Rattle.js_upgrade.specs.Seen.{found_of}
 use Rattle.js_upgrade.specs.Upgrade.{holding_in, own_dialect}
 use Rattle.js_upgrade.specs.declared.dialect.Dialect.{Dialect}
 use Rattle.js_upgrade.specs.declared.fault.Pass.{Pass}
-use Rattle.js_upgrade.specs.declared.finding.Found as rust
-use Rattle.js_upgrade.specs.declared.holding.Holding.TheVariants.{One}
+use Rattle.js_upgrade.specs.declared.finding.FoundFault as rust
+use Rattle.js_upgrade.specs.declared.holding.SchemaHolding.TheVariants.{One}
 use Rattle.js_upgrade.proofs.Loops.{Pairs}
 
 -- ---- what was found in one part decides, or the rest does
 
-module _ (token : Text) (rest : Option Found) where
-  goes_on : (found : Option rust.Found) (f : Option Found) → option_map found_of found ≡ f → is_some found ≡ false
+module _ (token : Text) (rest : Option FoundFault) where
+  goes_on : (found : Option rust.FoundFault) (f : Option FoundFault) → option_map found_of found ≡ f
+      → is_some found ≡ false
       → first_of (option_map (deeper token) f) rest ≡ rest
   goes_on None f is none = ap (λ g. first_of (option_map (deeper token) g) rest) (sym is)
   goes_on (Some r) f is none = absurd (cc)
 
-  stops : (found : Option rust.Found) (f : Option Found) → option_map found_of found ≡ f → is_some found ≡ true
+  stops : (found : Option rust.FoundFault) (f : Option FoundFault) → option_map found_of found ≡ f → is_some found
+      ≡ true
       → first_of (option_map (deeper token) f) rest ≡ option_map (deeper token) (option_map found_of found)
   stops None f is some = absurd (cc)
   stops (Some r) f is some = ap (λ g. first_of (option_map (deeper token) g) rest) (sym is)
 
 -- ---- a schema comes before those that it holds
 
-here_found : (here : Option rust.Found) (f rest : Option Found) → option_map found_of here ≡ f → is_some here ≡ true
+here_found : (here : Option rust.FoundFault) (f rest : Option FoundFault) → option_map found_of here ≡ f
+    → is_some here ≡ true
     → option_map found_of here ≡ first_of f rest
 here_found None f rest is some = absurd (cc)
 here_found (Some r) f rest is some = ap (λ g. first_of g rest) is
 
-not_here : (here : Option rust.Found) (f rest : Option Found) → option_map found_of here ≡ f → is_some here ≡ false
+not_here : (here : Option rust.FoundFault) (f rest : Option FoundFault) → option_map found_of here ≡ f
+    → is_some here ≡ false
     → first_of f rest ≡ rest
 not_here None f rest is none = ap (λ g. first_of g rest) (sym is)
 not_here (Some r) f rest is none = absurd (cc)
 
 module _ (pass : Pass) (all : List Resource) (d : Dialect) (base : Parts) (siblings : Named) where
-  abbrev pub keywords_fault : Dialect → Parts → Option Found
+  abbrev pub keywords_fault : Dialect → Parts → Option FoundFault
   keywords_fault own below = member_fault pass all (holding_in own siblings) own below (members siblings)
 
-  abbrev below_them : Option Found
+  abbrev below_them : Option FoundFault
   below_them =
       let own = own_dialect d siblings in keywords_fault own (own_base own base siblings)
 
@@ -60,11 +64,11 @@ module _ (pass : Pass) (all : List Resource) (d : Dialect) (base : Parts) (sibli
       (member_fault pass all (holding_in own ns) own (own_base own base ns) (members siblings)))
       (sym (member_list-members siblings))
 
-  pub schema_stops : (here : Option rust.Found) → option_map found_of here ≡ schema_fault pass all d base siblings
+  pub schema_stops : (here : Option rust.FoundFault) → option_map found_of here ≡ schema_fault pass all d base siblings
       → is_some here ≡ true → option_map found_of here ≡ fault_in pass all One d base (object (members siblings))
   schema_stops here is some = here_found here (schema_fault pass all d base siblings) below_them is some ∙ schema_is
 
-  pub schema_goes_on : (own : Dialect) (below : Parts) (here : Option rust.Found)
+  pub schema_goes_on : (own : Dialect) (below : Parts) (here : Option rust.FoundFault)
       → own ≡ own_dialect d siblings → below ≡ own_base own base siblings
       → option_map found_of here ≡ schema_fault pass all d base siblings → is_some here ≡ false
       → keywords_fault own below ≡ fault_in pass all One d base (object (members siblings))
@@ -74,8 +78,8 @@ module _ (pass : Pass) (all : List Resource) (d : Dialect) (base : Parts) (sibli
 
 -- ---- members, one after the other, where g is the first fault in them
 
-module _ (g : Named → Option Found) (found : Option rust.Found) (f : Option Found) (old left : Pairs)
-    (m : List ℕ × Doc) (whole : Option Found) where
+module _ (g : Named → Option FoundFault) (found : Option rust.FoundFault) (f : Option FoundFault) (old left : Pairs)
+    (m : List ℕ × Doc) (whole : Option FoundFault) where
   abbrev pub Unfolds : Type 0
   Unfolds = g (pair_of m ∷ map pair_of left)
       ≡ first_of (option_map (deeper m.0) f) (g (map pair_of left))
@@ -92,15 +96,16 @@ module _ (g : Named → Option Found) (found : Option rust.Found) (f : Option Fo
       sym (stops m.0 (g (map pair_of left)) found f is some)
       ∙ sym (ap (λ es. g (map pair_of es)) step ∙ unfolds) ∙ before
 
-pub members_end : (g : Named → Option Found) (old entries : Pairs) (schemas : Named) → g [] ≡ None → old ≡ []
+pub members_end : (g : Named → Option FoundFault) (old entries : Pairs) (schemas : Named) → g [] ≡ None → old ≡ []
     → map pair_of entries ≡ schemas → g (map pair_of old) ≡ g (map pair_of entries) → None ≡ g schemas
 members_end g old entries schemas unfolds none seen before =
     sym unfolds ∙ sym (ap (λ es. g (map pair_of es)) none) ∙ before ∙ ap g seen
 
 -- ---- the same of items
 
-module _ (g : ℕ → Values → Option Found) (found : Option rust.Found) (f : Option Found) (ds : List Doc) (i : ℕ)
-    (x : Doc) (whole : Option Found)
+module _ (g : ℕ → Values
+    → Option FoundFault) (found : Option rust.FoundFault) (f : Option FoundFault) (ds : List Doc) (i : ℕ)
+    (x : Doc) (whole : Option FoundFault)
     (unfolds : (vs : Values) → g i (value_of x ∷ vs) ≡ first_of (option_map (deeper (decimal i)) f) (g (i + 1) vs))
     (low : i < length ds) (at : x ≡ get_or ds i x) where
   this_one : g i (map value_of (drop i ds))

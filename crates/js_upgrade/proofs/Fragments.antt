@@ -19,6 +19,14 @@ none_by : (t : Text) (found : Option Tokens) → pointer_of t ≡ found → ((p 
 none_by t None e h = refl
 none_by t (Some p) e h = absurd (h p (pointer_of-sound t p e))
 
+-- of a text
+
+pub pointer_text_read : (t : Text) (p : Tokens) → pointer_text p ≡ t → Some p ≡ pointer_of t
+pointer_text_read t p e = sym (pointer_of-text p) ∙ ap pointer_of e
+
+pub no_pointer_text : (t : Text) → ((p : Tokens) → ¬ (pointer_text p ≡ t)) → None ≡ pointer_of t
+no_pointer_text t h = none_by t (pointer_of t) refl h
+
 no_pointer_by : (t : Text) (b : Bool) → is_utf8 t ≡ b → (IsUtf8 t → (p : Tokens) → ¬ (pointer_text p ≡ t))
     → None ≡ cond b (pointer_of t) None
 no_pointer_by t true e h = none_by t (pointer_of t) refl (h (IsUtf8-from_is_utf8 t e))

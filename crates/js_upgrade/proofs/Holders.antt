@@ -6,7 +6,7 @@ use Rattle.js_doc.specs.Members.{get, has_name}
 use Rattle.js_doc.specs.Value.{Value, Text, Named}
 use Rattle.js_doc.proofs.TokenLookup.{is_text-refl, is_text-sound}
 use Rattle.js_upgrade.specs.Origin.{moves_contains, or_contains, origin, origin_by}
-use Rattle.js_upgrade.specs.Schema.{change_of, holder, is_list}
+use Rattle.js_upgrade.specs.Schema.{change_of, holder, is_some_list}
 use Rattle.js_upgrade.specs.declared.dialect.Dialect.{Dialect}
 use Rattle.js_upgrade.specs.declared.keyword.Change.{Change}
 use Rattle.js_upgrade.specs.declared.keyword.Change.TheVariants.{Contains}
@@ -82,7 +82,7 @@ kept_by true true h old k is e more =
 
 module _ (d : Dialect) (siblings : Named) (k : Text) where
   abbrev listed : Bool
-  listed = is_list (get (codes "items") siblings)
+  listed = is_some_list (get (codes "items") siblings)
 
   abbrev change : Change
   change = change_of d siblings k

@@ -3,6 +3,8 @@ pub mod AgainTogether
 pub mod Agreeing
 pub mod Alternatives
 pub mod AnyRecurses
+pub mod CopiesAscend
+pub mod CopyLoops
 pub mod DocumentExamples
 pub mod Each
 pub mod EachOnce
@@ -14,7 +16,9 @@ pub mod Fragments
 pub mod Gathered
 pub mod Holders
 pub mod InOrder
+pub mod KeywordLengths
 pub mod KnownDialects
+pub mod LocalFragments
 pub mod Lookups
 pub mod Loops
 pub mod MovedExamples
@@ -34,3 +38,5 @@ pub mod Standing
 pub mod Staying
 pub mod StayingTogether
 pub mod StepsBack
+pub mod Tables
+pub mod WithoutCopies

@@ -7,7 +7,7 @@ use Rattle.std.proofs.lemmas.Cmp.{nat_list_cmp_total}
 use Rattle.js_doc.specs.Members.{get, name_cmp, put, IsAscending}
 use Rattle.js_doc.specs.Value.{Value, Text, Named}
 use Rattle.js_doc.proofs.FiniteMaps.{get-put, get-put_other, get_below, name_equal}
-use Rattle.js_upgrade.specs.Schema.{gathered, put_all}
+use Rattle.js_upgrade.specs.Schema.{gathered_members, put_all}
 use Rattle.js_upgrade.proofs.Each.{Each}
 
 -- ---- names that differ
@@ -60,8 +60,8 @@ module _ (src : Text → Text) (f : Text → Value → Named) (n : Text) where
   past_by : (m : Text × Value) (ms among : Named) (o : Ordering) → name_cmp (src n) m.0 ≡ o
       → match_ordering o (get (src n) ms) (Some m.1) (get (src n) ms) ≡ None → ComesFrom m.0 m.1
       → (get (src n) ms ≡ None
-      → get n (gathered f ms (put_all (f m.0 m.1) among)) ≡ get n (put_all (f m.0 m.1) among))
-      → get n (gathered f (m ∷ ms) among) ≡ get n among
+      → get n (gathered_members f ms (put_all (f m.0 m.1) among)) ≡ get n (put_all (f m.0 m.1) among))
+      → get n (gathered_members f (m ∷ ms) among) ≡ get n among
   past_by m ms among Equal is none from more = absurd (cc)
   past_by m ms among Less is none from more =
       more none ∙ put_all_other n (f m.0 m.1) among (other_names m.0 (f m.0 m.1) (less_differs (src n) m.0 is) from)
@@ -69,7 +69,8 @@ module _ (src : Text → Text) (f : Text → Value → Named) (n : Text) where
       more none
       ∙ put_all_other n (f m.0 m.1) among (other_names m.0 (f m.0 m.1) (greater_differs (src n) m.0 is) from)
 
-  past : (ms among : Named) → Each ComesFrom ms → get (src n) ms ≡ None → get n (gathered f ms among) ≡ get n among
+  past : (ms among : Named) → Each ComesFrom ms → get (src n) ms ≡ None → get n (gathered_members f ms among)
+      ≡ get n among
   past [] among e none = refl
   past (m ∷ ms) among e none =
       past_by m ms among (name_cmp (src n) m.0) refl none e.0 (past ms (put_all (f m.0 m.1) among) e.1)
@@ -80,8 +81,9 @@ module _ (src : Text → Text) (f : Text → Value → Named) (n : Text) where
 
   found_by : (m : Text × Value) (ms among : Named) (o : Ordering) → name_cmp (src n) m.0 ≡ o
       → IsAscending (m ∷ ms) → ComesFrom m.0 m.1 → Each ComesFrom ms → get n among ≡ None
-      → ((a : Named) → get n a ≡ None → get n (gathered f ms a) ≡ by_origin (get (src n) ms))
-      → get n (gathered f (m ∷ ms) among) ≡ by_origin (match_ordering o (get (src n) ms) (Some m.1) (get (src n) ms))
+      → ((a : Named) → get n a ≡ None → get n (gathered_members f ms a) ≡ by_origin (get (src n) ms))
+      → get n (gathered_members f (m ∷ ms) among)
+      ≡ by_origin (match_ordering o (get (src n) ms) (Some m.1) (get (src n) ms))
   found_by m ms among Equal is s from others none more =
       let same : src n ≡ m.0 = name_equal (src n) m.0 is in
       past ms (put_all (f m.0 m.1) among) others (ap (λ k. get k ms) same ∙ get_below m.0 ms s.0 s.1)
@@ -94,7 +96,7 @@ module _ (src : Text → Text) (f : Text → Value → Named) (n : Text) where
       (put_all_other n (f m.0 m.1) among (other_names m.0 (f m.0 m.1) (greater_differs (src n) m.0 is) from) ∙ none)
 
   pub gathered_from : (ms among : Named) → IsAscending ms → Each ComesFrom ms → get n among ≡ None
-      → get n (gathered f ms among) ≡ by_origin (get (src n) ms)
+      → get n (gathered_members f ms among) ≡ by_origin (get (src n) ms)
   gathered_from [] among s e none = none
   gathered_from (m ∷ ms) among s e none =
       found_by m ms among (name_cmp (src n) m.0) refl s e.0 e.1 none
@@ -103,7 +105,7 @@ module _ (src : Text → Text) (f : Text → Value → Named) (n : Text) where
 -- what stands under the name is what the member that it comes from becomes
 pub gathered_get : (src : Text → Text) (f : Text → Value → Named) (n : Text) (ms : Named) (v w : Value)
     → IsAscending ms → Each (λ k u. Each (λ l x. src l ≡ k) (f k u)) ms → get (src n) ms ≡ Some v
-    → get n (put_all (f (src n) v) []) ≡ Some w → get n (gathered f ms []) ≡ Some w
+    → get n (put_all (f (src n) v) []) ≡ Some w → get n (gathered_members f ms []) ≡ Some w
 gathered_get src f n ms v w s e found has =
     gathered_from src f n ms [] s e refl
     ∙ ap (option_and_then (λ u. get n (put_all (f (src n) u) []))) found ∙ has

@@ -10,12 +10,15 @@ use Rattle.js_doc.specs.Seen.{value_of, pair_of}
 use Rattle.js_doc.specs.declared.doc.Doc.{Doc}
 use Rattle.js_doc.proofs.PartLists.{member_list-members}
 use Rattle.js_doc.proofs.Smaller.{item_smaller, member_smaller}
-use Rattle.js_upgrade.specs.Schema.{gathered, is_true, put_all, required_names}
+use Rattle.js_upgrade.specs.Keyword.{change_in}
+use Rattle.js_upgrade.specs.Schema.{beside_reference, change_of, gathered_members, hides, is_true, put_all}
+use Rattle.js_upgrade.specs.Schema.{required_names}
 use Rattle.js_upgrade.specs.Upgrade.{holding_in, keywords_upgraded, members_upgraded}
 use Rattle.js_upgrade.specs.Upgrade.{own_dialect, upgraded}
 use Rattle.js_upgrade.specs.declared.dialect.Dialect.{Dialect}
-use Rattle.js_upgrade.specs.declared.holding.Holding.{Holding}
-use Rattle.js_upgrade.specs.declared.holding.Holding.TheVariants.{One}
+use Rattle.js_upgrade.specs.declared.holding.SchemaHolding.{SchemaHolding}
+use Rattle.js_upgrade.specs.declared.keyword.Change.{Change}
+use Rattle.js_upgrade.specs.declared.holding.SchemaHolding.TheVariants.{One}
 
 abbrev pub Pairs : Type 0
 Pairs = List (List ℕ × Doc)
@@ -47,15 +50,23 @@ pub next_item_smaller : (ds : List Doc) (vs : Values) (i : ℕ) {x : Doc} → ma
 next_item_smaller ds vs i {x} seen is low = item_smaller ds vs i x x seen low (sym is)
 
 -- one member more is among the keywords
-pub gathered_next : (f : Text → Value → Named) (held : Text → Holding) (d : Dialect) (old left : Pairs)
+pub gathered_next : (f : Text → Value → Named) (held : Text → SchemaHolding) (d : Dialect) (old left : Pairs)
     (m : List ℕ × Doc) (among new whole : Named) → old ≡ m ∷ left
     → new ≡ put_all (f m.0 (upgraded (held m.0) d (value_of m.1))) among
-    → gathered f (members_upgraded held d (members (map pair_of old))) among ≡ whole
-    → gathered f (members_upgraded held d (members (map pair_of left))) new ≡ whole
+    → gathered_members f (members_upgraded held d (members (map pair_of old))) among ≡ whole
+    → gathered_members f (members_upgraded held d (members (map pair_of left))) new ≡ whole
 gathered_next f held d old left m among new whole step put before =
     let rest = members_upgraded held d (members (map pair_of left)) in
-    ap (gathered f rest) put
-    ∙ sym (ap (λ es. gathered f (members_upgraded held d (members (map pair_of es))) among) step) ∙ before
+    ap (gathered_members f rest) put
+    ∙ sym (ap (λ es. gathered_members f (members_upgraded held d (members (map pair_of es))) among) step) ∙ before
+
+-- what becomes of a keyword, where it is known whether a reference hides it
+pub change_known : (d : Dialect) (siblings : Named) (hidden : Bool) (name key : Text) (change : Change)
+    → hidden ≡ hides d siblings → key ≡ name
+    → change ≡ cond hidden (beside_reference (change_in d key)) (change_in d key) → change ≡ change_of d siblings name
+change_known d siblings hidden name key change known same is =
+    is ∙ ap (λ b. cond b (beside_reference (change_in d key)) (change_in d key)) known
+    ∙ ap (change_of d siblings) same
 
 -- so a schema's keywords are what the definition says
 pub schema_is : (d own : Dialect) (siblings out : Named) → own ≡ own_dialect d siblings
@@ -101,10 +112,11 @@ required_next old left m out new whole step pushed before =
     ∙ sym (ap (λ es. out ++ required_names (map pair_of es)) step) ∙ before
 
 -- none is left
-pub gathered_end : (f : Text → Value → Named) (held : Text → Holding) (d : Dialect) (old : Pairs) (among whole : Named)
-    → old ≡ [] → gathered f (members_upgraded held d (members (map pair_of old))) among ≡ whole → among ≡ whole
+pub gathered_end : (f : Text → Value → Named) (held : Text
+    → SchemaHolding) (d : Dialect) (old : Pairs) (among whole : Named)
+    → old ≡ [] → gathered_members f (members_upgraded held d (members (map pair_of old))) among ≡ whole → among ≡ whole
 gathered_end f held d old among whole none before =
-    sym (ap (λ es. gathered f (members_upgraded held d (members (map pair_of es))) among) none) ∙ before
+    sym (ap (λ es. gathered_members f (members_upgraded held d (members (map pair_of es))) among) none) ∙ before
 
 pub all_seen : {pairs all : Pairs} {ms : Named} → map pair_of pairs ≡ ms → all ≡ pairs → map pair_of all ≡ ms
 all_seen seen same = ap (map pair_of) same ∙ seen

@@ -5,21 +5,21 @@ use Rattle.js_doc.specs.Pointer.{Tokens}
 use Rattle.js_doc.specs.Value.{text, Named}
 use Rattle.js_upgrade.specs.Dialect.{version_named}
 use Rattle.js_upgrade.specs.Keyword.{core_change, applicator_change, assertion_change}
-use Rattle.js_upgrade.specs.Moved.{moved}
+use Rattle.js_upgrade.specs.Moved.{moved_tokens}
 use Rattle.js_upgrade.specs.Schema.{is_simple_type}
 use Rattle.js_upgrade.specs.declared.dialect.Dialect.{Dialect}
 use Rattle.js_upgrade.specs.declared.dialect.Dialect.TheVariants.{Draft03}
 use Rattle.js_upgrade.specs.declared.dialect.Dialect.TheVariants.{Draft07, Draft2019, Draft2020}
-use Rattle.js_upgrade.specs.declared.holding.Holding.TheVariants.{One}
+use Rattle.js_upgrade.specs.declared.holding.SchemaHolding.TheVariants.{One}
 use Rattle.js_upgrade.proofs.Examples.{arr, is_null, is_string, names_04, obj}
 
 -- what stands at the one place in a schema of the draft stands at the other afterwards
 abbrev Moves : Dialect → Named → Tokens → Tokens → Type 0
-Moves d schema old new = moved One d (obj schema) old ≡ Some new
+Moves d schema old new = moved_tokens One d (obj schema) old ≡ Some new
 
 -- it stands nowhere
 abbrev Goes : Dialect → Named → Tokens → Type 0
-Goes d schema old = moved One d (obj schema) old ≡ None
+Goes d schema old = moved_tokens One d (obj schema) old ≡ None
 
 -- ---- definitions and items
 

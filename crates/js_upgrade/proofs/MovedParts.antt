@@ -10,15 +10,16 @@ use Rattle.js_doc.specs.Value.{Members, no_members, member, members, Text, Named
 use Rattle.js_doc.proofs.FiniteMaps.{get_below, get_here, get_past}
 use Rattle.js_doc.proofs.TokenLookup.{is_text-sound, member_is}
 use Rattle.js_upgrade.specs.Laws.{KeywordsHaveOrigins, StandsWhereMoved}
-use Rattle.js_upgrade.specs.Moved.{Reached, both, moved, reached, step, under}
+use Rattle.js_upgrade.specs.Moved.{Reached, both, moved_tokens, reached, step, tokens_under}
 use Rattle.js_upgrade.specs.Origin.{origin}
-use Rattle.js_upgrade.specs.Schema.{change_of, is_list, put_all}
-use Rattle.js_upgrade.specs.Upgrade.{becomes, holding_in, holding_of, items_upgraded, keywords_upgraded}
+use Rattle.js_upgrade.specs.Schema.{change_of, is_some_list, put_all}
+use Rattle.js_upgrade.specs.Upgrade.{becomes, holding_in, holding_by_change, items_upgraded, keywords_upgraded}
 use Rattle.js_upgrade.specs.Upgrade.{members_upgraded, own_dialect, upgraded}
 use Rattle.js_upgrade.specs.declared.dialect.Dialect.{Dialect}
 use Rattle.js_upgrade.specs.declared.keyword.Change.TheVariants.{Items}
-use Rattle.js_upgrade.specs.declared.holding.Holding.{Holding}
-use Rattle.js_upgrade.specs.declared.holding.Holding.TheVariants.{One, Listed, Named as ByName, OneOrListed, Nothing}
+use Rattle.js_upgrade.specs.declared.holding.SchemaHolding.{SchemaHolding}
+use Rattle.js_upgrade.specs.declared.holding.SchemaHolding.TheVariants.{One, Listed, Named as ByName, OneOrListed}
+use Rattle.js_upgrade.specs.declared.holding.SchemaHolding.TheVariants.{Nothing}
 use Rattle.js_upgrade.proofs.Again.{nothing_upgraded, upgraded_members_ascend}
 use Rattle.js_upgrade.proofs.Each.{Each}
 use Rattle.js_upgrade.proofs.EachOrigin.{each_from}
@@ -52,7 +53,7 @@ each_got (m ∷ ms) s = (
 
 -- ---- items stay a list where they are one
 
-listed_kept : (d : Dialect) (v : Value) → is_list (Some (upgraded OneOrListed d v)) ≡ is_list (Some v)
+listed_kept : (d : Dialect) (v : Value) → is_some_list (Some (upgraded OneOrListed d v)) ≡ is_some_list (Some v)
 listed_kept d null = refl
 listed_kept d (truth b) = refl
 listed_kept d (whole z) = refl
@@ -61,22 +62,22 @@ listed_kept d (list vs) = refl
 listed_kept d (object ms) = refl
 
 abbrev listed_in : Named → Bool
-listed_in siblings = is_list (get (codes "items") siblings)
+listed_in siblings = is_some_list (get (codes "items") siblings)
 
 named_items : (d : Dialect) (siblings : Named) (k : Text) → change_of d siblings k ≡ Items → k ≡ codes "items"
 named_items d siblings k is =
     is_text-sound k (codes "items") (sym (ap (λ c. is_named c k) is) ∙ named_own d siblings k)
 
 as_listed : (d : Dialect) (siblings : Named) (k : Text) (v : Value) → get k siblings ≡ Some v
-    → change_of d siblings k ≡ Items → listed_in siblings ≡ is_list (Some v)
+    → change_of d siblings k ≡ Items → listed_in siblings ≡ is_some_list (Some v)
 as_listed d siblings k v got is =
-    ap (λ l. is_list (get l siblings)) (sym (named_items d siblings k is)) ∙ ap is_list got
+    ap (λ l. is_some_list (get l siblings)) (sym (named_items d siblings k is)) ∙ ap is_some_list got
 
 upgraded_listed : (d : Dialect) (siblings : Named) (k : Text) (v : Value) → get k siblings ≡ Some v
     → change_of d siblings k ≡ Items
-    → is_list (Some (upgraded (holding_in d siblings k) d v)) ≡ listed_in siblings
+    → is_some_list (Some (upgraded (holding_in d siblings k) d v)) ≡ listed_in siblings
 upgraded_listed d siblings k v got is =
-    ap (λ c. is_list (Some (upgraded (holding_of c) d v))) is ∙ listed_kept d v
+    ap (λ c. is_some_list (Some (upgraded (holding_by_change c) d v))) is ∙ listed_kept d v
     ∙ sym (as_listed d siblings k v got is)
 
 -- ---- the keywords of a schema
@@ -127,8 +128,8 @@ named_member token ms part is = sym (member_at token ms) ∙ is
 
 schema_at : (d : Dialect) (ms : Members) (token : Text) (part : Value) (rest ts inner : Tokens) (x : Value)
     → NamesAscendInMembers ms → NamesAscend part → member_named token ms ≡ Some part
-    → under (member_list ms) token part rest (change_of d (member_list ms) token) ≡ Some ts
-    → moved (holding_in d (member_list ms) token) d part rest ≡ Some inner
+    → tokens_under (member_list ms) token part rest (change_of d (member_list ms) token) ≡ Some ts
+    → moved_tokens (holding_in d (member_list ms) token) d part rest ≡ Some inner
     → at inner (upgraded (holding_in d (member_list ms) token) d part) ≡ Some x
     → at (ts ++ inner) (object (members (keywords_upgraded d (member_list ms)
     (members_upgraded (holding_in d (member_list ms)) d ms)))) ≡ Some x
@@ -167,10 +168,11 @@ same_at d v token part ts inner x is e below =
     subst (λ t. at (t ++ inner) v ≡ Some x) (ap tokens_of e)
     (ap (option_and_then (at inner)) is ∙ sym (ap (at inner) (nothing_upgraded d part)) ∙ below)
 
-step_at : (h : Holding) (d : Dialect) (v : Value) (token : Text) (part : Value) (rest ts inner : Tokens) (x : Value)
+step_at : (h : SchemaHolding) (d : Dialect) (v : Value) (token : Text) (part : Value) (rest ts inner : Tokens)
+    (x : Value)
     → NamesAscend v → NamesAscend part → part_named token v ≡ Some part
     → (step h d v token part rest).into ≡ Some ts
-    → moved (step h d v token part rest).holding (step h d v token part rest).dialect part rest ≡ Some inner
+    → moved_tokens (step h d v token part rest).holding (step h d v token part rest).dialect part rest ≡ Some inner
     → at inner (upgraded (step h d v token part rest).holding (step h d v token part rest).dialect part) ≡ Some x
     → at (ts ++ inner) (upgraded h d v) ≡ Some x
 step_at One d (object ms) token part rest ts inner x s p is e mv below =
@@ -243,29 +245,29 @@ reached_or r (Some q) = q
 abbrev stood : Reached → Value
 stood r = upgraded r.holding r.dialect r.value
 
-stands_by : (token : Text) (rest : Tokens) (h : Holding) (d : Dialect) (v : Value) (new : Tokens) (r : Reached)
+stands_by : (token : Text) (rest : Tokens) (h : SchemaHolding) (d : Dialect) (v : Value) (new : Tokens) (r : Reached)
     → NamesAscend v
-    → ((k : Holding) (e : Dialect) (w : Value) (inner : Tokens) → NamesAscend w → reached k e w rest ≡ Some r
-    → moved k e w rest ≡ Some inner → at inner (upgraded k e w) ≡ Some (stood r))
+    → ((k : SchemaHolding) (e : Dialect) (w : Value) (inner : Tokens) → NamesAscend w → reached k e w rest ≡ Some r
+    → moved_tokens k e w rest ≡ Some inner → at inner (upgraded k e w) ≡ Some (stood r))
     → (found : Option Value) → part_named token v ≡ found
     → option_and_then
     (λ part. reached (step h d v token part rest).holding (step h d v token part rest).dialect part rest) found
     ≡ Some r
     → option_and_then
     (λ part. both (step h d v token part rest).into
-    (moved (step h d v token part rest).holding (step h d v token part rest).dialect part rest)) found ≡ Some new
+    (moved_tokens (step h d v token part rest).holding (step h d v token part rest).dialect part rest)) found ≡ Some new
     → at new (upgraded h d v) ≡ Some (stood r)
 stands_by token rest h d v new r s more None is there mv = absurd (cc)
 stands_by token rest h d v new r s more (Some part) is there mv =
     let st = step h d v token part rest in
-    let b = both_are st.into (moved st.holding st.dialect part rest) new mv in
+    let b = both_are st.into (moved_tokens st.holding st.dialect part rest) new mv in
     let p = part_ascends token v part s is in
     subst (λ t. at t (upgraded h d v) ≡ Some (stood r)) b.4
     (step_at h d v token part rest b.0 b.1 (stood r) s p is b.2 b.3
     (more st.holding st.dialect part b.1 p there b.3))
 
-stands : (tokens : Tokens) (h : Holding) (d : Dialect) (v : Value) (new : Tokens) (r : Reached) → NamesAscend v
-    → reached h d v tokens ≡ Some r → moved h d v tokens ≡ Some new → at new (upgraded h d v) ≡ Some (stood r)
+stands : (tokens : Tokens) (h : SchemaHolding) (d : Dialect) (v : Value) (new : Tokens) (r : Reached) → NamesAscend v
+    → reached h d v tokens ≡ Some r → moved_tokens h d v tokens ≡ Some new → at new (upgraded h d v) ≡ Some (stood r)
 stands [] h d v new r s there mv =
     subst (λ t. at t (upgraded h d v) ≡ Some (stood r)) (ap tokens_of mv)
     (ap (λ o. Some (stood (reached_or r o))) there)

@@ -11,11 +11,12 @@ use Rattle.js_doc.specs.Value.{Value, list, items, Text, Values}
 use Rattle.js_doc.specs.declared.doc.Doc.{Doc}
 use Rattle.js_doc.proofs.PartLists.{item_list-items}
 use Rattle.js_doc.proofs.TokenLookup.{member_is}
-use Rattle.js_upgrade.specs.Moved.{alternative_under, both, just, listed_under, moved, negated, step, types_under}
+use Rattle.js_upgrade.specs.Moved.{alternative_under, both, just, listed_under, moved_tokens, negated, step}
+use Rattle.js_upgrade.specs.Moved.{types_under}
 use Rattle.js_upgrade.specs.Schema.{is_any}
 use Rattle.js_upgrade.specs.code.Pushed.{IsPushed, IsStepped}
 use Rattle.js_upgrade.specs.declared.dialect.Dialect.{Dialect}
-use Rattle.js_upgrade.specs.declared.holding.Holding.{Holding}
+use Rattle.js_upgrade.specs.declared.holding.SchemaHolding.{SchemaHolding}
 use Rattle.js_upgrade.specs.declared.moving.Held.{Held}
 use Rattle.js_upgrade.proofs.Alternatives.{any_map}
 
@@ -83,27 +84,27 @@ joins out new (Some ts) (Some more) e =
     ap Some (sym (append_assoc out ts more)) ∙ ap (option_map (λ us. us ++ more)) e
 
 -- what is left of the tokens, at the part
-abbrev onward : Holding → Dialect → Value → Text → Tokens → Option Value → Option Tokens
+abbrev onward : SchemaHolding → Dialect → Value → Text → Tokens → Option Value → Option Tokens
 onward h d v token rest found =
     option_and_then
     (λ part. both (step h d v token part rest).into
-    (moved (step h d v token part rest).holding (step h d v token part rest).dialect part rest)) found
+    (moved_tokens (step h d v token part rest).holding (step h d v token part rest).dialect part rest)) found
 
 here : (tokens : Tokens) (i : ℕ) (token : Text) → i < length tokens → token ≡ get_or tokens i token
     → drop i tokens ≡ token ∷ drop (i + 1) tokens
 here tokens i token low is = drop_more tokens i token low ∙ ap (λ t. t ∷ drop (i + 1) tokens) (sym is)
 
 -- the next token, where the part is found or isn't
-at_token : (h : Holding) (d : Dialect) (v : Value) (tokens : Tokens) (i : ℕ) (token : Text) (found : Option Value)
+at_token : (h : SchemaHolding) (d : Dialect) (v : Value) (tokens : Tokens) (i : ℕ) (token : Text) (found : Option Value)
     → i < length tokens → token ≡ get_or tokens i token → found ≡ part_named token v
-    → moved h d v (drop i tokens) ≡ onward h d v token (drop (i + 1) tokens) found
+    → moved_tokens h d v (drop i tokens) ≡ onward h d v token (drop (i + 1) tokens) found
 at_token h d v tokens i token found low is same =
-    ap (moved h d v) (here tokens i token low is)
+    ap (moved_tokens h d v) (here tokens i token low is)
     ∙ ap (onward h d v token (drop (i + 1) tokens)) (sym same)
 
-module _ (out : Tokens) (h : Holding) (d : Dialect) (v : Value) (tokens : Tokens) (i : ℕ) (token : Text)
+module _ (out : Tokens) (h : SchemaHolding) (d : Dialect) (v : Value) (tokens : Tokens) (i : ℕ) (token : Text)
     (whole : Option Tokens) (low : i < length tokens) (is : token ≡ get_or tokens i token)
-    (before : both (Some out) (moved h d v (drop i tokens)) ≡ whole) where
+    (before : both (Some out) (moved_tokens h d v (drop i tokens)) ≡ whole) where
   pub no_part : None ≡ part_named token v → None ≡ whole
   no_part none = sym (ap (both (Some out)) (at_token h d v tokens i token None low is none)) ∙ before
 
@@ -113,20 +114,20 @@ module _ (out : Tokens) (h : Holding) (d : Dialect) (v : Value) (tokens : Tokens
       let rest = drop (i + 1) tokens in
       let s = step h d v token part rest in
       sym (ap (both (Some out)) (at_token h d v tokens i token (Some part) low is same)
-      ∙ ap (λ o. both (Some out) (both o (moved s.holding s.dialect part rest))) none) ∙ before
+      ∙ ap (λ o. both (Some out) (both o (moved_tokens s.holding s.dialect part rest))) none) ∙ before
 
   pub step_made : (new : Tokens) (held : Held) (part : Value) → Some part ≡ part_named token v
       → IsStepped out new (step h d v token part (drop (i + 1) tokens)) (Some held)
-      → both (Some new) (moved held.holding held.dialect part (drop (i + 1) tokens)) ≡ whole
+      → both (Some new) (moved_tokens held.holding held.dialect part (drop (i + 1) tokens)) ≡ whole
   step_made new held part same stepped =
       let rest = drop (i + 1) tokens in
       let s = step h d v token part rest in
-      ap (λ k. both (Some new) (moved k held.dialect part rest)) stepped.0
-      ∙ ap (λ e. both (Some new) (moved s.holding e part rest)) stepped.1
-      ∙ sym (joins out new s.into (moved s.holding s.dialect part rest) stepped.2)
+      ap (λ k. both (Some new) (moved_tokens k held.dialect part rest)) stepped.0
+      ∙ ap (λ e. both (Some new) (moved_tokens s.holding e part rest)) stepped.1
+      ∙ sym (joins out new s.into (moved_tokens s.holding s.dialect part rest) stepped.2)
       ∙ sym (ap (both (Some out)) (at_token h d v tokens i token (Some part) low is same)) ∙ before
 
-pub all_moved : (out : Tokens) (h : Holding) (d : Dialect) (v : Value) (left : Tokens) (whole : Option Tokens)
-    → left ≡ [] → both (Some out) (moved h d v left) ≡ whole → Some out ≡ whole
+pub all_moved : (out : Tokens) (h : SchemaHolding) (d : Dialect) (v : Value) (left : Tokens) (whole : Option Tokens)
+    → left ≡ [] → both (Some out) (moved_tokens h d v left) ≡ whole → Some out ≡ whole
 all_moved out h d v left whole none before =
-    ap Some (sym (append-nil out)) ∙ sym (ap (λ ts. both (Some out) (moved h d v ts)) none) ∙ before
+    ap Some (sym (append-nil out)) ∙ sym (ap (λ ts. both (Some out) (moved_tokens h d v ts)) none) ∙ before

@@ -5,9 +5,9 @@ use Rattle.std.proofs.lemmas.Bool.{and_parts}
 use Rattle.js_doc.specs.Value.{Text, Named}
 use Rattle.js_doc.proofs.TokenLookup.{is_text-sound}
 use Rattle.js_upgrade.specs.Dialect.{found, first_of}
-use Rattle.js_upgrade.specs.Keyword.{applicator_change, applicators, assertion_change, assertions}
-use Rattle.js_upgrade.specs.Keyword.{change_in, core, core_change, or_stays}
-use Rattle.js_upgrade.specs.Origin.{moves_contains, origin_by, origins}
+use Rattle.js_upgrade.specs.Keyword.{applicator_change, applicator_rows, assertion_change, assertion_rows}
+use Rattle.js_upgrade.specs.Keyword.{change_in, core_rows, core_change, or_stays}
+use Rattle.js_upgrade.specs.Origin.{moves_contains, origin_by, origin_rows}
 use Rattle.js_upgrade.specs.Schema.{beside_reference, change_of, hides}
 use Rattle.js_upgrade.specs.declared.dialect.Dialect.{Dialect}
 use Rattle.js_upgrade.specs.declared.dialect.Dialect.TheVariants.{Draft03, Draft04, Draft06}
@@ -82,7 +82,7 @@ abbrev all_fit : Dialect → Bool → List (Text × Change) → Bool
 all_fit d listed [] = true
 all_fit d listed (row ∷ rows) = fits d listed row.0 row.1 && all_fit d listed rows
 
-core_fits : (d : Dialect) (listed : Bool) → all_fit d listed (core d) ≡ true
+core_fits : (d : Dialect) (listed : Bool) → all_fit d listed (core_rows d) ≡ true
 core_fits Draft03 true = refl
 core_fits Draft04 true = refl
 core_fits Draft06 true = refl
@@ -96,7 +96,7 @@ core_fits Draft07 false = refl
 core_fits Draft2019 false = refl
 core_fits Draft2020 false = refl
 
-applicators_fit : (d : Dialect) (listed : Bool) → all_fit d listed (applicators d) ≡ true
+applicators_fit : (d : Dialect) (listed : Bool) → all_fit d listed (applicator_rows d) ≡ true
 applicators_fit Draft03 true = refl
 applicators_fit Draft04 true = refl
 applicators_fit Draft06 true = refl
@@ -110,7 +110,7 @@ applicators_fit Draft07 false = refl
 applicators_fit Draft2019 false = refl
 applicators_fit Draft2020 false = refl
 
-assertions_fit : (d : Dialect) (listed : Bool) → all_fit d listed (assertions d) ≡ true
+assertions_fit : (d : Dialect) (listed : Bool) → all_fit d listed (assertion_rows d) ≡ true
 assertions_fit Draft03 true = refl
 assertions_fit Draft04 true = refl
 assertions_fit Draft06 true = refl
@@ -160,10 +160,10 @@ unfolding core_change applicator_change assertion_change
 change_fits d listed k =
     or_fits d listed k (first_of (assertion_change d k) (first_of (applicator_change d k) (core_change d k)))
     (first_fits d listed k (assertion_change d k) (first_of (applicator_change d k) (core_change d k))
-    (found_fits d listed k (assertions d) (assertions_fit d listed))
+    (found_fits d listed k (assertion_rows d) (assertions_fit d listed))
     (first_fits d listed k (applicator_change d k) (core_change d k)
-    (found_fits d listed k (applicators d) (applicators_fit d listed))
-    (found_fits d listed k (core d) (core_fits d listed))))
+    (found_fits d listed k (applicator_rows d) (applicators_fit d listed))
+    (found_fits d listed k (core_rows d) (core_fits d listed))))
 
 -- ---- a name that stays is its own
 
@@ -174,7 +174,7 @@ abbrev all_keep : Dialect → List (Text × Text) → Bool
 all_keep d [] = true
 all_keep d (row ∷ rows) = row_keeps d row && all_keep d rows
 
-origins_keep : (d : Dialect) (listed : Bool) → all_keep d (origins d listed) ≡ true
+origins_keep : (d : Dialect) (listed : Bool) → all_keep d (origin_rows d listed) ≡ true
 unfolding core_change applicator_change assertion_change
 origins_keep Draft03 true = refl
 origins_keep Draft04 true = refl
@@ -212,7 +212,7 @@ found_kept d k (row ∷ rows) e plain =
     kept_here d k row (found rows k) (bytes_eq k row.0) refl parts.0 plain (found_kept d k rows parts.1 plain)
 
 plain_own : (d : Dialect) (listed : Bool) (k : Text) → is_plain (change_in d k) ≡ true → origin_by d listed k ≡ k
-plain_own d listed k plain = found_kept d k (origins d listed) (origins_keep d listed) plain
+plain_own d listed k plain = found_kept d k (origin_rows d listed) (origins_keep d listed) plain
 
 -- ---- beside a reference too
 

@@ -12,12 +12,14 @@ use Rattle.js_upgrade.specs.Current.{IsCurrent, ItemsAreCurrent}
 use Rattle.js_upgrade.specs.Dialect.{is_before}
 use Rattle.js_upgrade.specs.Keyword.{applicator_change, assertion_change, change_in, core_change}
 use Rattle.js_upgrade.specs.Schema.{alternative, alternatives_upgraded, change_of, dependencies_upgraded}
-use Rattle.js_upgrade.specs.Schema.{dependent_names, dependent_schema, extends_upgraded, gathered, is_any, is_list}
-use Rattle.js_upgrade.specs.Schema.{identifier_upgraded, is_mark, is_name, some_name, some_uri}
+use Rattle.js_upgrade.specs.Schema.{dependent_names, dependent_schema, extends_upgraded, gathered_members, is_any}
+use Rattle.js_upgrade.specs.Schema.{is_some_list}
+use Rattle.js_upgrade.specs.Schema.{identifier_upgraded, is_mark, is_plain_name, some_name, some_uri}
 use Rattle.js_upgrade.specs.Schema.{is_simple_type, is_true, list_or_schema_upgraded, members_found, one, put_all}
 use Rattle.js_upgrade.specs.Schema.{required_names, some_items, some_members, types_upgraded, upgraded_by}
-use Rattle.js_upgrade.specs.Schema.{contains_upgraded, counted, is_identifier, negation, recursive_name, some_value}
-use Rattle.js_upgrade.specs.Upgrade.{becomes, dialect_in, dialect_or, holding_in, holding_of, own_dialect}
+use Rattle.js_upgrade.specs.Schema.{contains_upgraded, contains_with_limits, is_identifier, negation, recursive_name}
+use Rattle.js_upgrade.specs.Schema.{some_value}
+use Rattle.js_upgrade.specs.Upgrade.{becomes, dialect_in, dialect_or, holding_in, holding_by_change, own_dialect}
 use Rattle.js_upgrade.specs.declared.dialect.Dialect.{Dialect}
 use Rattle.js_upgrade.specs.declared.dialect.Dialect.TheVariants.{Draft2020}
 use Rattle.js_upgrade.specs.declared.keyword.Change.{Change}
@@ -27,15 +29,17 @@ use Rattle.js_upgrade.specs.declared.keyword.Change.TheVariants.{Goes, Identifie
 use Rattle.js_upgrade.specs.declared.keyword.Change.TheVariants.{Dependencies, Minimum, Maximum, Divisor, Types}
 use Rattle.js_upgrade.specs.declared.keyword.Change.TheVariants.{Disallowed, Extended, Properties}
 use Rattle.js_upgrade.specs.declared.keyword.Change.TheVariants.{Contains, RecursiveReference, RecursiveAnchor}
-use Rattle.js_upgrade.specs.declared.holding.Holding.{Holding}
-use Rattle.js_upgrade.specs.declared.holding.Holding.TheVariants.{One, Listed, Named as ByName, OneOrListed, Nothing}
+use Rattle.js_upgrade.specs.declared.holding.SchemaHolding.{SchemaHolding}
+use Rattle.js_upgrade.specs.declared.holding.SchemaHolding.TheVariants.{One, Listed, Named as ByName, OneOrListed}
+use Rattle.js_upgrade.specs.declared.holding.SchemaHolding.TheVariants.{Nothing}
 use Rattle.js_upgrade.proofs.Agreeing.{IsFit, may_stand, stays_fit}
 use Rattle.js_upgrade.proofs.Each.{Each, are_current, each_append, each_current, each_gathered, each_put_all}
 use Rattle.js_upgrade.proofs.PlainChanges.{is_plain}
 
 -- ---- a member with a known name
 
-held_fit : (last : Bool) (name : Text) (v : Value) (h : Holding) → holding_of (change_in Draft2020 name) ≡ h
+held_fit : (last : Bool) (name : Text) (v : Value) (h : SchemaHolding)
+    → holding_by_change (change_in Draft2020 name) ≡ h
     → may_stand last name ≡ true → IsCurrent h v → IsFit last name v
 held_fit last name v h is stands c = (subst (λ k. IsCurrent k v) (sym is) c, stands)
 
@@ -47,7 +51,7 @@ nothing_current (text s) = tt
 nothing_current (list vs) = tt
 nothing_current (object ms) = tt
 
-listed_fit : (last : Bool) (name : Text) (vs : ItemList) → holding_of (change_in Draft2020 name) ≡ Listed
+listed_fit : (last : Bool) (name : Text) (vs : ItemList) → holding_by_change (change_in Draft2020 name) ≡ Listed
     → may_stand last name ≡ true → ItemsAreCurrent vs → Each (IsFit last) (some_items name (item_list vs))
 listed_fit last name no_items is stands c = tt
 listed_fit last name (item v vs) is stands c = (
@@ -66,7 +70,7 @@ without_schema (m ∷ ms) e =
     ∙ without_schema ms e.1
 
 each_held : (last : Bool) (ms : Named) → Each (IsFit last) ms
-    → Each (λ k v. IsCurrent (holding_of (change_in Draft2020 k)) v) ms
+    → Each (λ k v. IsCurrent (holding_by_change (change_in Draft2020 k)) v) ms
 each_held last [] e = tt
 each_held last (m ∷ ms) e = (e.0.0, each_held last ms e.1)
 
@@ -74,7 +78,7 @@ pub schema_fit : (ks : Named) → Each (IsFit false) ks → IsCurrent One (objec
 schema_fit ks e = (
   ap (own_dialect Draft2020) (member_list-members ks)
       ∙ ap (λ found. dialect_or Draft2020 ks (option_and_then dialect_in found)) (without_schema ks e),
-  are_current (λ name. holding_of (change_in Draft2020 name)) ks (each_held false ks e),
+  are_current (λ name. holding_by_change (change_in Draft2020 name)) ks (each_held false ks e),
 )
 
 -- ---- identifiers
@@ -97,7 +101,7 @@ identifier_fit : (last : Bool) (v : Value) → Each (IsFit last) (identifier_upg
 identifier_fit last (text t) =
     each_append (IsFit last) (some_uri (before_first is_mark t)) (some_name (after_first is_mark t))
     (uri_fit last (before_first is_mark t))
-    (name_fit last (is_name (after_first is_mark t)) (after_first is_mark t))
+    (name_fit last (is_plain_name (after_first is_mark t)) (after_first is_mark t))
 identifier_fit last null = id_fit last null
 identifier_fit last (truth b) = id_fit last (truth b)
 identifier_fit last (whole z) = id_fit last (whole z)
@@ -149,8 +153,8 @@ dependent_one name (object ms) c = (c, tt)
 
 dependencies_fit : (last : Bool) (v : Value) → IsCurrent ByName v → Each (IsFit last) (dependencies_upgraded v)
 dependencies_fit last (object ms) c =
-    each_append (IsFit last) _ _ (names_fit last (gathered dependent_names (member_list ms) []))
-    (schemas_fit last (gathered dependent_schema (member_list ms) [])
+    each_append (IsFit last) _ _ (names_fit last (gathered_members dependent_names (member_list ms) []))
+    (schemas_fit last (gathered_members dependent_schema (member_list ms) [])
     (each_gathered (λ k w. IsCurrent One w) (λ k w. IsCurrent One w) dependent_schema dependent_one (member_list ms) []
     (each_current (λ name. One) ms c) tt))
 dependencies_fit last null c = tt
@@ -267,7 +271,7 @@ own_contains : (last : Bool) (v : Value) → IsCurrent One v → Each (IsFit las
 unfolding core_change applicator_change assertion_change
 own_contains last v c = (held_fit last (codes "contains") v One refl refl c, tt)
 
-counted_current : (siblings : Named) (v : Value) → IsCurrent One v → IsCurrent One (counted siblings v)
+counted_current : (siblings : Named) (v : Value) → IsCurrent One v → IsCurrent One (contains_with_limits siblings v)
 counted_current siblings v c =
     let most = some_value (codes "maxContains") (get (codes "maxContains") siblings) in
     let least = some_value (codes "minContains") (get (codes "minContains") siblings) in
@@ -297,9 +301,9 @@ contains_fit : (last : Bool) (siblings : Named) (v : Value) → IsCurrent One v
     → Each (IsFit last) (contains_upgraded siblings v)
 contains_fit last siblings v c =
     held_by last (has_name (codes "allOf") siblings) (has_name (codes "anyOf") siblings)
-    (has_name (codes "oneOf") siblings) (negation (negation (counted siblings v)))
-    (negation_current (negation (counted siblings v))
-    (negation_current (counted siblings v) (counted_current siblings v c)))
+    (has_name (codes "oneOf") siblings) (negation (negation (contains_with_limits siblings v)))
+    (negation_current (negation (contains_with_limits siblings v))
+    (negation_current (contains_with_limits siblings v) (counted_current siblings v c)))
 
 -- ---- $recursiveAnchor of 2019-09
 
@@ -311,7 +315,7 @@ anchor_fit last false v = tt
 -- ---- each change
 
 module _ (last : Bool) (siblings : Named) (name : Text) (v : Value) where
-  outcome : (change : Change) → (is_plain change ≡ true → IsFit last name v) → IsCurrent (holding_of change) v
+  outcome : (change : Change) → (is_plain change ≡ true → IsFit last name v) → IsCurrent (holding_by_change change) v
       → Each (IsFit last) (upgraded_by siblings name v change)
   unfolding core_change applicator_change assertion_change
   outcome Stays plain c = (plain refl, tt)
@@ -324,7 +328,7 @@ module _ (last : Bool) (siblings : Named) (name : Text) (v : Value) where
   outcome Identifier plain c = identifier_fit last v
   outcome Definitions plain c = (held_fit last (codes "$defs") v ByName refl refl c, tt)
   outcome Items plain c = items_fit last v c
-  outcome AdditionalItems plain c = behind_list_fit last (is_list (get (codes "items") siblings)) v c
+  outcome AdditionalItems plain c = behind_list_fit last (is_some_list (get (codes "items") siblings)) v c
   outcome Dependencies plain c = dependencies_fit last v c
   outcome Minimum plain c = minimum_fit last (is_true (get (codes "exclusiveMinimum") siblings)) v
   outcome Maximum plain c = maximum_fit last (is_true (get (codes "exclusiveMaximum") siblings)) v

@@ -17,8 +17,8 @@ use Rattle.js_upgrade.specs.Moved.{just}
 use Rattle.js_upgrade.specs.Schema.{one, put_all}
 use Rattle.js_upgrade.specs.Upgrade.{items_upgraded, members_upgraded, upgraded}
 use Rattle.js_upgrade.specs.declared.dialect.Dialect.{Dialect}
-use Rattle.js_upgrade.specs.declared.holding.Holding.{Holding}
-use Rattle.js_upgrade.specs.declared.holding.Holding.TheVariants.{One}
+use Rattle.js_upgrade.specs.declared.holding.SchemaHolding.{SchemaHolding}
+use Rattle.js_upgrade.specs.declared.holding.SchemaHolding.TheVariants.{One}
 use Rattle.js_upgrade.proofs.Gathered.{put_all-append}
 
 -- ---- in an object
@@ -57,7 +57,7 @@ get_last n w ms = ap (get n) (put_all-append ms (one n w) []) ∙ get-put n w (p
 
 -- ---- names of members and items
 
-get_upgraded_by : (k name : Text) (held : Text → Holding) (d : Dialect) (v : Value) (new old : Option Value)
+get_upgraded_by : (k name : Text) (held : Text → SchemaHolding) (d : Dialect) (v : Value) (new old : Option Value)
     (o : Ordering) → name_cmp k name ≡ o → new ≡ option_map (upgraded (held k) d) old
     → match_ordering o new (Some (upgraded (held name) d v)) new
     ≡ option_map (upgraded (held k) d) (match_ordering o old (Some v) old)
@@ -67,7 +67,7 @@ get_upgraded_by k name held d v new old Equal is same =
 get_upgraded_by k name held d v new old Greater is same = same
 
 -- a member is upgraded as it is held
-pub get_upgraded : (held : Text → Holding) (d : Dialect) (k : Text) (ms : Members)
+pub get_upgraded : (held : Text → SchemaHolding) (d : Dialect) (k : Text) (ms : Members)
     → get k (members_upgraded held d ms) ≡ option_map (upgraded (held k) d) (get k (member_list ms))
 get_upgraded held d k no_members = refl
 get_upgraded held d k (member name v ms) =

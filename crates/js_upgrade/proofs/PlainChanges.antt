@@ -2,8 +2,8 @@
 use Rattle.std.proofs.Common.{◌≡◌, List, [], ◌∷◌, Bool, true, false, Option, Some, None, cond, refl, bytes_eq}
 use Rattle.js_doc.specs.Value.{Value, Text, Named}
 use Rattle.js_upgrade.specs.Dialect.{found, first_of}
-use Rattle.js_upgrade.specs.Keyword.{applicator_change, applicators, assertion_change, assertions}
-use Rattle.js_upgrade.specs.Keyword.{change_in, core, core_change, or_stays}
+use Rattle.js_upgrade.specs.Keyword.{applicator_change, applicator_rows, assertion_change, assertion_rows}
+use Rattle.js_upgrade.specs.Keyword.{change_in, core_rows, core_change, or_stays}
 use Rattle.js_upgrade.specs.Schema.{one, upgraded_by}
 use Rattle.js_upgrade.specs.declared.dialect.Dialect.TheVariants.{Draft2020}
 use Rattle.js_upgrade.specs.declared.keyword.Change.{Change}
@@ -58,8 +58,8 @@ or_plain (Some change) e = e
 
 pub change_plain : (name : Text) → is_plain (change_in Draft2020 name) ≡ true
 unfolding core_change applicator_change assertion_change
-change_plain name = or_plain _ (first_plain _ _ (found_plain (assertions Draft2020) name refl)
-    (first_plain _ _ (found_plain (applicators Draft2020) name refl) (found_plain (core Draft2020) name refl)))
+change_plain name = or_plain _ (first_plain _ _ (found_plain (assertion_rows Draft2020) name refl)
+    (first_plain _ _ (found_plain (applicator_rows Draft2020) name refl) (found_plain (core_rows Draft2020) name refl)))
 
 stays_by : (siblings : Named) (name : Text) (v : Value) (change : Change) → is_plain change ≡ true
     → upgraded_by siblings name v change ≡ one name v

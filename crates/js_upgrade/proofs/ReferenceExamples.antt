@@ -17,10 +17,10 @@ nested = obj ((
 ) ∷ (codes "properties", obj ((codes "p", is_null) ∷ [])) ∷ [])
 
 abbrev of_07 : Resource
-of_07 = record { uri = codes "https://o.example/s"; dialect = Draft07; root = nested }
+of_07 = record { uri = codes "https://o.example/s"; dialect = Draft07; root = nested; copies = [] }
 
 abbrev of_2020 : Resource
-of_2020 = record { uri = codes "https://o.example/t"; dialect = Draft2020; root = nested }
+of_2020 = record { uri = codes "https://o.example/t"; dialect = Draft2020; root = nested; copies = [] }
 
 abbrev item_1 : Tokens
 item_1 = codes "definitions" ∷ codes "a b" ∷ codes "items" ∷ codes "1" ∷ []

@@ -13,8 +13,8 @@ use Rattle.js_upgrade.specs.Reference.{argument_rewritten, as_it_is, items_reloc
 use Rattle.js_upgrade.specs.Reference.{relocated, rewritten}
 use Rattle.js_upgrade.specs.Resource.{Resource, own_base, resource_named}
 use Rattle.js_upgrade.specs.Schema.{beside_reference, change_of, hides}
-use Rattle.js_upgrade.specs.Upgrade.{holding_in, holding_of, own_dialect}
-use Rattle.js_upgrade.specs.Url.{printed}
+use Rattle.js_upgrade.specs.Upgrade.{holding_in, holding_by_change, own_dialect}
+use Rattle.js_upgrade.specs.Url.{uri_printed}
 use Rattle.js_upgrade.specs.declared.dialect.Dialect.{Dialect}
 use Rattle.js_upgrade.specs.declared.dialect.Dialect.TheVariants.{Draft03, Draft04, Draft06}
 use Rattle.js_upgrade.specs.declared.dialect.Dialect.TheVariants.{Draft07, Draft2019, Draft2020}
@@ -25,8 +25,9 @@ use Rattle.js_upgrade.specs.declared.keyword.Change.TheVariants.{Goes, Identifie
 use Rattle.js_upgrade.specs.declared.keyword.Change.TheVariants.{Dependencies, Minimum, Maximum, Divisor, Types}
 use Rattle.js_upgrade.specs.declared.keyword.Change.TheVariants.{Disallowed, Extended, Properties}
 use Rattle.js_upgrade.specs.declared.keyword.Change.TheVariants.{Contains, RecursiveReference, RecursiveAnchor}
-use Rattle.js_upgrade.specs.declared.holding.Holding.{Holding}
-use Rattle.js_upgrade.specs.declared.holding.Holding.TheVariants.{One, Listed, Named as ByName, OneOrListed, Nothing}
+use Rattle.js_upgrade.specs.declared.holding.SchemaHolding.{SchemaHolding}
+use Rattle.js_upgrade.specs.declared.holding.SchemaHolding.TheVariants.{One, Listed, Named as ByName, OneOrListed}
+use Rattle.js_upgrade.specs.declared.holding.SchemaHolding.TheVariants.{Nothing}
 
 -- ---- names ascend
 
@@ -47,7 +48,7 @@ module _ (all : List Resource) where
       → NamesAscend (argument_rewritten all change base v w)
   argument_ascends Refers base v w s t = rewritten_ascends base v s
   argument_ascends RecursiveReference base v w s t =
-      either_ascends (recurses_at (resource_named all (printed base))) (codes "#recursiveAnchor") v s
+      either_ascends (recurses_at (resource_named all (uri_printed base))) (codes "#recursiveAnchor") v s
   argument_ascends Stays base v w s t = t
   argument_ascends Asserts base v w s t = t
   argument_ascends HoldsOne base v w s t = t
@@ -69,14 +70,14 @@ module _ (all : List Resource) where
   argument_ascends Contains base v w s t = t
   argument_ascends RecursiveAnchor base v w s t = t
 
-  below_relocated : (held : Text → Holding) (argument : Text → Value → Value → Value) (d : Dialect) (base : Parts)
+  below_relocated : (held : Text → SchemaHolding) (argument : Text → Value → Value → Value) (d : Dialect) (base : Parts)
       (k : Text) (ms : Members) → IsBelowFirst k ms
       → IsBelowFirst k (members (members_relocated all held argument d base ms))
   below_relocated held argument d base k no_members s = tt
   below_relocated held argument d base k (member name v ms) s = s
 
   mutual
-    pub relocated_ascends : (h : Holding) (d : Dialect) (base : Parts) (v : Value) → NamesAscend v
+    pub relocated_ascends : (h : SchemaHolding) (d : Dialect) (base : Parts) (v : Value) → NamesAscend v
         → NamesAscend (relocated all h d base v)
     relocated_ascends One d base (object ms) s =
         let own = own_dialect d (member_list ms) in
@@ -126,7 +127,7 @@ module _ (all : List Resource) where
     items_relocated_ascend d base (item v vs) s =
         (relocated_ascends One d base v s.0, items_relocated_ascend d base vs s.1)
 
-    members_relocated_ascend : (held : Text → Holding) (argument : Text → Value → Value → Value) (d : Dialect)
+    members_relocated_ascend : (held : Text → SchemaHolding) (argument : Text → Value → Value → Value) (d : Dialect)
         (base : Parts) (ms : Members)
         → ((k : Text) (v w : Value) → NamesAscend v → NamesAscend w → NamesAscend (argument k v w))
         → NamesAscendInMembers ms → NamesAscendInMembers (members (members_relocated all held argument d base ms))
@@ -149,7 +150,7 @@ module _ (all : List Resource) where
 
   abbrev ArgumentStays : Dialect → Parts → Value → Change → Type 0
   ArgumentStays d base v change =
-      argument_rewritten all change base v (relocated all (holding_of change) d base v) ≡ v
+      argument_rewritten all change base v (relocated all (holding_by_change change) d base v) ≡ v
 
   schema_stays : (d : Dialect) (hidden : Bool) (base : Parts) (v : Value) → ArgumentStays d base v
       (cond hidden (beside_reference (change_in d (codes "$schema"))) (change_in d (codes "$schema")))
@@ -174,7 +175,7 @@ module _ (all : List Resource) where
   got_by k name f v new old Equal is stays same = ap (λ n. Some (f n v)) (sym (name_equal k name is)) ∙ ap Some stays
   got_by k name f v new old Greater is stays same = same
 
-  got : (held : Text → Holding) (argument : Text → Value → Value → Value) (d : Dialect) (base : Parts) (k : Text)
+  got : (held : Text → SchemaHolding) (argument : Text → Value → Value → Value) (d : Dialect) (base : Parts) (k : Text)
       → ((v : Value) → argument k v (relocated all (held k) d base v) ≡ v) → (ms : Members)
       → get k (members_relocated all held argument d base ms) ≡ get k (member_list ms)
   got held argument d base k stays no_members = refl

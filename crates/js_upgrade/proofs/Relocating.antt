@@ -9,13 +9,13 @@ use Rattle.js_doc.specs.Value.{Value, Text, Named, Values, object, members}
 use Rattle.js_doc.specs.declared.doc.Doc.{Doc}
 use Rattle.js_doc.proofs.PartLists.{member_list-members}
 use Rattle.js_upgrade.specs.Reference.{argument_rewritten, members_relocated, relocated}
-use Rattle.js_upgrade.specs.Resource.{Resource, begun, identity, member_resources, own_base, resource, resources}
+use Rattle.js_upgrade.specs.Resource.{Resource, begun, identity, member_resources, own_base, resource_under, resources}
 use Rattle.js_upgrade.specs.Resource.{schema_resources}
-use Rattle.js_upgrade.specs.Schema.{change_of, gathered, one, put_all}
+use Rattle.js_upgrade.specs.Schema.{change_of, gathered_members, one, put_all}
 use Rattle.js_upgrade.specs.Upgrade.{holding_in, own_dialect}
 use Rattle.js_upgrade.specs.declared.dialect.Dialect.{Dialect}
-use Rattle.js_upgrade.specs.declared.holding.Holding.{Holding}
-use Rattle.js_upgrade.specs.declared.holding.Holding.TheVariants.{One}
+use Rattle.js_upgrade.specs.declared.holding.SchemaHolding.{SchemaHolding}
+use Rattle.js_upgrade.specs.declared.holding.SchemaHolding.TheVariants.{One}
 use Rattle.js_upgrade.proofs.InOrder.{gathered_one}
 use Rattle.js_upgrade.proofs.Loops.{Pairs}
 
@@ -23,20 +23,22 @@ use Rattle.js_upgrade.proofs.Loops.{Pairs}
 
 pub named_next : (g : Named → Named) (w : Value) (old left : Pairs) (m : List ℕ × Doc) (out new whole : Named)
     → g (pair_of m ∷ map pair_of left) ≡ (m.0, w) ∷ g (map pair_of left) → old ≡ m ∷ left
-    → new ≡ put_all (one m.0 w) out → gathered one (g (map pair_of old)) out ≡ whole
-    → gathered one (g (map pair_of left)) new ≡ whole
+    → new ≡ put_all (one m.0 w) out → gathered_members one (g (map pair_of old)) out ≡ whole
+    → gathered_members one (g (map pair_of left)) new ≡ whole
 named_next g w old left m out new whole unfolds step put before =
-    ap (gathered one (g (map pair_of left))) put
-    ∙ sym (ap (λ es. gathered one (g (map pair_of es)) out) step ∙ ap (λ ns. gathered one ns out) unfolds) ∙ before
+    ap (gathered_members one (g (map pair_of left))) put
+    ∙ sym (ap (λ es. gathered_members one (g (map pair_of es)) out) step
+    ∙ ap (λ ns. gathered_members one ns out) unfolds) ∙ before
 
 pub named_end : (g : Named → Named) (old : Pairs) (out whole : Named) → g [] ≡ [] → old ≡ []
-    → gathered one (g (map pair_of old)) out ≡ whole → out ≡ whole
+    → gathered_members one (g (map pair_of old)) out ≡ whole → out ≡ whole
 named_end g old out whole unfolds none before =
-    sym (ap (λ es. gathered one (g (map pair_of es)) out) none ∙ ap (λ ns. gathered one ns out) unfolds) ∙ before
+    sym (ap (λ es. gathered_members one (g (map pair_of es)) out) none
+    ∙ ap (λ ns. gathered_members one ns out) unfolds) ∙ before
 
 -- ---- what members become has their names
 
-module _ (all : List Resource) (held : Text → Holding) (argument : Text → Value → Value → Value) (d : Dialect)
+module _ (all : List Resource) (held : Text → SchemaHolding) (argument : Text → Value → Value → Value) (d : Dialect)
     (base : Parts) where
   below_names : (k : Text) (ms : Named) → IsBelowHead k ms
       → IsBelowHead k (members_relocated all held argument d base (members ms))
@@ -50,12 +52,12 @@ module _ (all : List Resource) (held : Text → Holding) (argument : Text → Va
 
   pub all_relocated : (old entries : Pairs) (schemas out : Named) → old ≡ [] → map pair_of entries ≡ schemas
       → IsAscending schemas
-      → gathered one (members_relocated all held argument d base (members (map pair_of old))) out
-      ≡ gathered one (members_relocated all held argument d base (members (map pair_of entries))) []
+      → gathered_members one (members_relocated all held argument d base (members (map pair_of old))) out
+      ≡ gathered_members one (members_relocated all held argument d base (members (map pair_of entries))) []
       → out ≡ members_relocated all held argument d base (members schemas)
   all_relocated old entries schemas out none seen s before =
       named_end (λ ms. members_relocated all held argument d base (members ms)) old out _ refl none before
-      ∙ ap (λ ms. gathered one (members_relocated all held argument d base (members ms)) []) seen
+      ∙ ap (λ ms. gathered_members one (members_relocated all held argument d base (members ms)) []) seen
       ∙ gathered_one (members_relocated all held argument d base (members schemas)) (names_ascend schemas s)
 
 -- ---- a schema
@@ -119,14 +121,14 @@ schema_resources_is d base siblings =
 
 pub schema_begun : (d own : Dialect) (base below : Parts) (siblings : Named) (root : Value)
     (first middle out : List Resource) → own ≡ own_dialect d siblings → Some below ≡ identity own base siblings
-    → middle ≡ first ++ resource d root below ∷ []
+    → middle ≡ first ++ resource_under d root below ∷ []
     → out ≡ middle ++ member_resources (holding_in own siblings) own below (members siblings)
     → out ≡ first ++ schema_resources d base siblings root
 schema_begun d own base below siblings root first middle out same found begins is =
     let parts = λ (e : Dialect) (u : Option Parts). begun d root u
     ++ member_resources (holding_in e siblings) e (unwrap_or u base) (members siblings) in
     is ∙ ap (λ rs. rs ++ member_resources (holding_in own siblings) own below (members siblings)) begins
-    ∙ append_assoc first (resource d root below ∷ [])
+    ∙ append_assoc first (resource_under d root below ∷ [])
     (member_resources (holding_in own siblings) own below (members siblings))
     ∙ ap (λ u. first ++ parts own u) found
     ∙ ap (λ e. first ++ parts e (identity e base siblings)) same

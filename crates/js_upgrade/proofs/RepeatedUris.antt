@@ -7,8 +7,8 @@ use Rattle.js_doc.specs.Value.{Text, text}
 use Rattle.js_upgrade.specs.Fault.{of_document, repeated_fault}
 use Rattle.js_upgrade.specs.Schema.{is_new}
 use Rattle.js_upgrade.specs.Seen.{source_of}
-use Rattle.js_upgrade.specs.Url.{printed}
-use Rattle.js_upgrade.specs.declared.documents.Source as rust
+use Rattle.js_upgrade.specs.Url.{uri_printed}
+use Rattle.js_upgrade.specs.declared.documents.SourceDocument as rust
 use Rattle.js_upgrade.specs.declared.fault.UpgradeFault.{UpgradeFault}
 use Rattle.js_upgrade.specs.declared.fault.UpgradeFaultKind.TheVariants.{DuplicateUri}
 
@@ -20,14 +20,15 @@ present : (a b : Bool) → b ≡ not a → b ≡ false → a ≡ true
 present true b is old = refl
 present false b is old = absurd (cc)
 
-module _ (uris : List Text) (ss : List rust.Source) (i : ℕ) (x : rust.Source) (b : Bool) (whole : Option UpgradeFault)
-    (low : i < length ss) (at : x ≡ get_or ss i x) (added : b ≡ is_new uris (text (printed x.uri)))
+module _ (uris : List Text) (ss : List rust.SourceDocument) (i : ℕ) (x : rust.SourceDocument) (b : Bool)
+    (whole : Option UpgradeFault)
+    (low : i < length ss) (at : x ≡ get_or ss i x) (added : b ≡ is_new uris (text (uri_printed x.uri)))
     (before : repeated_fault uris i (map source_of (drop i ss)) ≡ whole) where
   abbrev is_old : Bool
-  is_old = list_any (bytes_eq (printed x.uri)) uris
+  is_old = list_any (bytes_eq (uri_printed x.uri)) uris
 
   abbrev later : Option UpgradeFault
-  later = repeated_fault (printed x.uri ∷ uris) (i + 1) (map source_of (drop (i + 1) ss))
+  later = repeated_fault (uri_printed x.uri ∷ uris) (i + 1) (map source_of (drop (i + 1) ss))
 
   this_one : repeated_fault uris i (map source_of (drop i ss)) ≡ cond is_old (Some (of_document i DuplicateUri)) later
   this_one =

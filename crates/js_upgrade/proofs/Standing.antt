@@ -12,13 +12,14 @@ use Rattle.js_doc.proofs.FiniteMaps.{get-put, get-put_other}
 use Rattle.js_doc.proofs.PartLists.{item_list-items, items-item_list, member_list-members, members-member_list}
 use Rattle.js_doc.proofs.TokenLookup.{member_is}
 use Rattle.js_upgrade.specs.Moved.{alternative_under, both, dependencies_under, dependent_under, just, listed_under}
-use Rattle.js_upgrade.specs.Moved.{moved, negated}
-use Rattle.js_upgrade.specs.Moved.{types_under, under}
+use Rattle.js_upgrade.specs.Moved.{moved_tokens, negated}
+use Rattle.js_upgrade.specs.Moved.{types_under, tokens_under}
 use Rattle.js_upgrade.specs.Schema.{alternative, alternatives_upgraded, dependencies_upgraded, dependent_names}
-use Rattle.js_upgrade.specs.Schema.{dependent_schema, extends_upgraded, gathered, is_any, is_list, is_true}
+use Rattle.js_upgrade.specs.Schema.{dependent_schema, extends_upgraded, gathered_members, is_any, is_some_list, is_true}
 use Rattle.js_upgrade.specs.Schema.{list_or_schema_upgraded, members_found, one, put_all, required_names, some_items}
-use Rattle.js_upgrade.specs.Schema.{counted, holder, negation, some_members, some_value, types_upgraded, upgraded_by}
-use Rattle.js_upgrade.specs.Upgrade.{holding_of, items_upgraded, members_upgraded, upgraded}
+use Rattle.js_upgrade.specs.Schema.{contains_with_limits, holder, negation, some_members, some_value, types_upgraded}
+use Rattle.js_upgrade.specs.Schema.{upgraded_by}
+use Rattle.js_upgrade.specs.Upgrade.{holding_by_change, items_upgraded, members_upgraded, upgraded}
 use Rattle.js_upgrade.specs.declared.dialect.Dialect.{Dialect}
 use Rattle.js_upgrade.specs.declared.keyword.Change.{Change}
 use Rattle.js_upgrade.specs.declared.keyword.Change.TheVariants.{Stays, Asserts, Refers}
@@ -27,7 +28,7 @@ use Rattle.js_upgrade.specs.declared.keyword.Change.TheVariants.{Goes, Identifie
 use Rattle.js_upgrade.specs.declared.keyword.Change.TheVariants.{Dependencies, Minimum, Maximum, Divisor, Types}
 use Rattle.js_upgrade.specs.declared.keyword.Change.TheVariants.{Disallowed, Extended, Properties}
 use Rattle.js_upgrade.specs.declared.keyword.Change.TheVariants.{Contains, RecursiveReference, RecursiveAnchor}
-use Rattle.js_upgrade.specs.declared.holding.Holding.TheVariants.{One, Listed, Named as ByName, OneOrListed}
+use Rattle.js_upgrade.specs.declared.holding.SchemaHolding.TheVariants.{One, Listed, Named as ByName, OneOrListed}
 use Rattle.js_upgrade.proofs.Each.{Each}
 use Rattle.js_upgrade.proofs.EachOrigin.{from_first, from_second}
 use Rattle.js_upgrade.proofs.InOrder.{names_ascend}
@@ -105,8 +106,8 @@ dependency_at : (d : Dialect) (ms : Members) (name : Text) (rest ts inner : Toke
 dependency_at d ms name rest ts inner ks x p s found e more is below has =
     let us = members_upgraded (λ _. One) d ms in
     let all = member_list (members us) in
-    let names = some_members (codes "dependentRequired") (gathered dependent_names all []) in
-    let schemas = gathered dependent_schema all [] in
+    let names = some_members (codes "dependentRequired") (gathered_members dependent_names all []) in
+    let schemas = gathered_members dependent_schema all [] in
     let q = upgraded One d p in
     let got : get name all ≡ Some q = ap (get name) (member_list-members us) ∙ get_upgraded (λ _. One) d name ms
     ∙ ap (option_map (upgraded One d)) found in
@@ -182,7 +183,7 @@ alternative_at d vs index ts inner more ks x ps none found e is below has =
 listed_type_at : (d : Dialect) (vs : ItemList) (index : Text) (rest ts inner : Tokens) (ks : Named) (x : Value)
     (any : Bool) (found : Option Value) → list_any is_any (item_list vs) ≡ any → item_named index 0 vs ≡ found
     → cond any None (alternative_under found) ≡ Some ts
-    → option_and_then (λ p. two index (moved One d p rest)) found ≡ Some inner
+    → option_and_then (λ p. two index (moved_tokens One d p rest)) found ≡ Some inner
     → at inner (list (items (items_upgraded d vs))) ≡ Some x
     → ((w : Value)
     → get (codes "anyOf") (put_all (types_upgraded (list (items (items_upgraded d vs)))) []) ≡ Some w
@@ -196,11 +197,11 @@ listed_type_at d vs index rest ts inner ks x false (Some (whole z)) none is e mv
 listed_type_at d vs index rest ts inner ks x false (Some (text t)) none is e mv below has = absurd (cc)
 listed_type_at d vs index rest ts inner ks x false (Some (list ws)) none is e mv below has = absurd (cc)
 listed_type_at d vs index rest ts inner ks x false (Some (object ps)) none is e mv below has =
-    let t = two_is index (moved One d (object ps) rest) inner mv in
+    let t = two_is index (moved_tokens One d (object ps) rest) inner mv in
     alternative_at d vs index ts inner t.0 ks x ps none is e t.2 below has
 
 types_at : (d : Dialect) (part : Value) (rest ts inner : Tokens) (ks : Named) (x : Value)
-    → types_under part rest ≡ Some ts → moved OneOrListed d part rest ≡ Some inner
+    → types_under part rest ≡ Some ts → moved_tokens OneOrListed d part rest ≡ Some inner
     → at inner (upgraded OneOrListed d part) ≡ Some x
     → ((w : Value) → get (codes "anyOf") (put_all (types_upgraded (upgraded OneOrListed d part)) []) ≡ Some w
     → get (codes "anyOf") ks ≡ Some w)
@@ -234,10 +235,10 @@ listed_at n d v vs ts inner ks x e found below =
 items_at : (d : Dialect) (part : Value) (ts inner : Tokens) (ks : Named) (x : Value)
     → listed_under (codes "prefixItems") (codes "items" ∷ []) part ≡ Some ts
     → at inner (upgraded OneOrListed d part) ≡ Some x
-    → ((w : Value) → is_list (Some part) ≡ true
+    → ((w : Value) → is_some_list (Some part) ≡ true
     → get (codes "prefixItems") (put_all (list_or_schema_upgraded (upgraded OneOrListed d part)) []) ≡ Some w
     → get (codes "prefixItems") ks ≡ Some w)
-    → ((w : Value) → is_list (Some part) ≡ false
+    → ((w : Value) → is_some_list (Some part) ≡ false
     → get (codes "items") (put_all (list_or_schema_upgraded (upgraded OneOrListed d part)) []) ≡ Some w
     → get (codes "items") ks ≡ Some w)
     → at (ts ++ inner) (object (members ks)) ≡ Some x
@@ -302,7 +303,7 @@ properties_got u (v ∷ vs) =
 
 dependencies_by : (d : Dialect) (ms : Members) (name : Text) (rest ts inner : Tokens) (ks : Named) (x : Value)
     (found : Option Value) → get name (member_list ms) ≡ found → IsAscending (member_list ms)
-    → dependent_under found ≡ Some ts → option_and_then (λ p. two name (moved One d p rest)) found ≡ Some inner
+    → dependent_under found ≡ Some ts → option_and_then (λ p. two name (moved_tokens One d p rest)) found ≡ Some inner
     → at inner (object (members (members_upgraded (λ _. One) d ms))) ≡ Some x
     → ((w : Value) → get (codes "dependentSchemas")
     (put_all (dependencies_upgraded (object (members (members_upgraded (λ _. One) d ms)))) []) ≡ Some w
@@ -310,11 +311,11 @@ dependencies_by : (d : Dialect) (ms : Members) (name : Text) (rest ts inner : To
     → at (ts ++ inner) (object (members ks)) ≡ Some x
 dependencies_by d ms name rest ts inner ks x None found s e mv below has = absurd (cc)
 dependencies_by d ms name rest ts inner ks x (Some p) found s e mv below has =
-    let t = two_is name (moved One d p rest) inner mv in
+    let t = two_is name (moved_tokens One d p rest) inner mv in
     dependency_at d ms name rest ts inner ks x p s found e t.0 t.2 below has
 
 dependencies_at : (d : Dialect) (part : Value) (rest ts inner : Tokens) (ks : Named) (x : Value) → NamesAscend part
-    → dependencies_under part rest ≡ Some ts → moved ByName d part rest ≡ Some inner
+    → dependencies_under part rest ≡ Some ts → moved_tokens ByName d part rest ≡ Some inner
     → at inner (upgraded ByName d part) ≡ Some x
     → ((w : Value) → get (codes "dependentSchemas") (put_all (dependencies_upgraded (upgraded ByName d part)) [])
     ≡ Some w → get (codes "dependentSchemas") ks ≡ Some w)
@@ -322,7 +323,7 @@ dependencies_at : (d : Dialect) (part : Value) (rest ts inner : Tokens) (ks : Na
 dependencies_at d (object ms) [] ts inner ks x s e mv below has = absurd (cc)
 dependencies_at d (object ms) (name ∷ rest) ts inner ks x s e mv below has =
     dependencies_by d ms name rest ts inner ks x (get name (member_list ms)) refl (ascending ms s) e
-    (sym (ap (option_and_then (λ p. two name (moved One d p rest))) (member_at name ms)) ∙ mv) below has
+    (sym (ap (option_and_then (λ p. two name (moved_tokens One d p rest))) (member_at name ms)) ∙ mv) below has
 dependencies_at d null rest ts inner ks x s e mv below has = absurd (cc)
 dependencies_at d (truth b) rest ts inner ks x s e mv below has = absurd (cc)
 dependencies_at d (whole z) rest ts inner ks x s e mv below has = absurd (cc)
@@ -339,7 +340,7 @@ counted_by v (Some a) None = refl
 counted_by v (Some a) (Some b) = refl
 
 counted_at : (siblings : Named) (v : Value) (inner : Tokens) (x : Value) → at inner v ≡ Some x
-    → at (codes "contains" ∷ inner) (counted siblings v) ≡ Some x
+    → at (codes "contains" ∷ inner) (contains_with_limits siblings v) ≡ Some x
 counted_at siblings v inner x below =
     let most = get (codes "maxContains") siblings in
     let least = get (codes "minContains") siblings in
@@ -365,7 +366,7 @@ either_own true f k n m e g = e
 either_own false f k n m e g = g
 
 negated_at : (d : Dialect) (part : Value) (rest ts inner : Tokens) (ks : Named) (x : Value) (found : Option Tokens)
-    → types_under part rest ≡ found → negated found ≡ Some ts → moved OneOrListed d part rest ≡ Some inner
+    → types_under part rest ≡ found → negated found ≡ Some ts → moved_tokens OneOrListed d part rest ≡ Some inner
     → at inner (upgraded OneOrListed d part) ≡ Some x
     → get (codes "not") ks ≡ Some (object (members (put_all (types_upgraded (upgraded OneOrListed d part)) [])))
     → at (ts ++ inner) (object (members ks)) ≡ Some x
@@ -379,24 +380,25 @@ negated_at d part rest ts inner ks x (Some us) is e mv below has =
 module _ (src : Text → Text) (siblings : Named) (token : Text) (d : Dialect) (part : Value) (rest ts inner : Tokens)
     (ks : Named) (x : Value) (s : NamesAscend part) where
   pub stands_in : (change : Change)
-      → all_from src token (outputs (is_list (get (codes "items") siblings)) change) ≡ true
+      → all_from src token (outputs (is_some_list (get (codes "items") siblings)) change) ≡ true
       → (is_plain change ≡ true → src token ≡ token)
-      → (change ≡ Items → is_list (get (codes "items") siblings) ≡ is_list (Some part))
+      → (change ≡ Items → is_some_list (get (codes "items") siblings) ≡ is_some_list (Some part))
       → (change ≡ Contains → src (holder siblings) ≡ token)
-      → under siblings token part rest change ≡ Some ts → moved (holding_of change) d part rest ≡ Some inner
-      → at inner (upgraded (holding_of change) d part) ≡ Some x
+      → tokens_under siblings token part rest change ≡ Some ts
+      → moved_tokens (holding_by_change change) d part rest ≡ Some inner
+      → at inner (upgraded (holding_by_change change) d part) ≡ Some x
       → ((n : Text) (w : Value) → src n ≡ token
-      → get n (put_all (upgraded_by siblings token (upgraded (holding_of change) d part) change) []) ≡ Some w
+      → get n (put_all (upgraded_by siblings token (upgraded (holding_by_change change) d part) change) []) ≡ Some w
       → get n ks ≡ Some w)
       → at (ts ++ inner) (object (members ks)) ≡ Some x
   stands_in Stays from plain same held e mv below has =
-      let u = upgraded (holding_of Stays) d part in
+      let u = upgraded (holding_by_change Stays) d part in
       single token u ts inner ks x e (has token u (plain refl) (get-put token u [])) below
   stands_in Asserts from plain same held e mv below has =
-      let u = upgraded (holding_of Asserts) d part in
+      let u = upgraded (holding_by_change Asserts) d part in
       single token u ts inner ks x e (has token u (plain refl) (get-put token u [])) below
   stands_in Refers from plain same held e mv below has =
-      let u = upgraded (holding_of Refers) d part in
+      let u = upgraded (holding_by_change Refers) d part in
       single token u ts inner ks x e (has token u (plain refl) (get-put token u [])) below
   stands_in HoldsOne from plain same held e mv below has =
       let u = upgraded One d part in
@@ -415,14 +417,15 @@ module _ (src : Text → Text) (siblings : Named) (token : Text) (d : Dialect) (
       (has (codes "$defs") u (from_first src token (codes "$defs") [] from) (get-put (codes "$defs") u [])) below
   stands_in Items from plain same held e mv below has =
       let own = from_first src token
-      (cond (is_list (get (codes "items") siblings)) (codes "prefixItems") (codes "items")) [] from in
+      (cond (is_some_list (get (codes "items") siblings)) (codes "prefixItems") (codes "items")) [] from in
       items_at d part ts inner ks x e below
       (λ w is h. has (codes "prefixItems") w
       (sym (ap (λ b. src (cond b (codes "prefixItems") (codes "items"))) (same refl ∙ is)) ∙ own) h)
       (λ w is h. has (codes "items") w
       (sym (ap (λ b. src (cond b (codes "prefixItems") (codes "items"))) (same refl ∙ is)) ∙ own) h)
   stands_in AdditionalItems from plain same held e mv below has =
-      behind_at (is_list (get (codes "items") siblings)) src token (upgraded One d part) ts inner ks x e from below has
+      behind_at (is_some_list (get (codes "items") siblings)) src token
+      (upgraded One d part) ts inner ks x e from below has
   stands_in Dependencies from plain same held e mv below has =
       dependencies_at d part rest ts inner ks x s e mv below
       (λ w h. has (codes "dependentSchemas") w
@@ -430,7 +433,7 @@ module _ (src : Text → Text) (siblings : Named) (token : Text) (d : Dialect) (
   stands_in Minimum from plain same held e mv below has =
       let exclusive = is_true (get (codes "exclusiveMinimum") siblings) in
       let n = cond exclusive (codes "exclusiveMinimum") (codes "minimum") in
-      let u = upgraded (holding_of Minimum) d part in
+      let u = upgraded (holding_by_change Minimum) d part in
       single n u ts inner ks x e
       (has n u (either_own exclusive src token (codes "exclusiveMinimum") (codes "minimum")
       (from_first src token (codes "exclusiveMinimum") (codes "minimum" ∷ []) from)
@@ -438,13 +441,13 @@ module _ (src : Text → Text) (siblings : Named) (token : Text) (d : Dialect) (
   stands_in Maximum from plain same held e mv below has =
       let exclusive = is_true (get (codes "exclusiveMaximum") siblings) in
       let n = cond exclusive (codes "exclusiveMaximum") (codes "maximum") in
-      let u = upgraded (holding_of Maximum) d part in
+      let u = upgraded (holding_by_change Maximum) d part in
       single n u ts inner ks x e
       (has n u (either_own exclusive src token (codes "exclusiveMaximum") (codes "maximum")
       (from_first src token (codes "exclusiveMaximum") (codes "maximum" ∷ []) from)
       (from_second src token (codes "exclusiveMaximum") (codes "maximum") [] from)) (get-put n u [])) below
   stands_in Divisor from plain same held e mv below has =
-      let u = upgraded (holding_of Divisor) d part in
+      let u = upgraded (holding_by_change Divisor) d part in
       single (codes "multipleOf") u ts inner ks x e
       (has (codes "multipleOf") u (from_first src token (codes "multipleOf") [] from)
       (get-put (codes "multipleOf") u [])) below
@@ -465,7 +468,7 @@ module _ (src : Text → Text) (siblings : Named) (token : Text) (d : Dialect) (
       (properties_got u (required_names (members_found (get (codes "properties") siblings))))) below
   stands_in Contains from plain same held e mv below has =
       let u = upgraded One d part in
-      let c = counted siblings u in
+      let c = contains_with_limits siblings u in
       let w = negation (negation c) in
       let inside = codes "not" ∷ codes "not" ∷ codes "contains" ∷ inner in
       subst (λ t. at (t ++ inner) (object (members ks)) ≡ Some x) (ap tokens_or_none e)
@@ -476,7 +479,7 @@ module _ (src : Text → Text) (siblings : Named) (token : Text) (d : Dialect) (
       refl (found_at (codes "not") c (codes "contains" ∷ inner) (one (codes "not") c) x refl
       (counted_at siblings u inner x below))))
   stands_in RecursiveReference from plain same held e mv below has =
-      let u = upgraded (holding_of RecursiveReference) d part in
+      let u = upgraded (holding_by_change RecursiveReference) d part in
       single (codes "$dynamicRef") u ts inner ks x e
       (has (codes "$dynamicRef") u (from_first src token (codes "$dynamicRef") [] from)
       (get-put (codes "$dynamicRef") u [])) below

@@ -8,12 +8,13 @@ use Rattle.js_doc.specs.Parts.{item_list, member_list}
 use Rattle.js_doc.proofs.PartLists.{items-item_list, members-member_list}
 use Rattle.js_upgrade.specs.Current.{AreCurrent, IsCurrent, ItemsAreCurrent}
 use Rattle.js_upgrade.specs.Laws.{CurrentStays}
-use Rattle.js_upgrade.specs.Schema.{gathered, one, put_all}
+use Rattle.js_upgrade.specs.Schema.{gathered_members, one, put_all}
 use Rattle.js_upgrade.specs.Upgrade.{becomes, holding_in, items_upgraded, keywords_upgraded, members_upgraded}
 use Rattle.js_upgrade.specs.Upgrade.{own_dialect, root_upgraded, upgraded}
 use Rattle.js_upgrade.specs.declared.dialect.Dialect.TheVariants.{Draft2020}
-use Rattle.js_upgrade.specs.declared.holding.Holding.{Holding}
-use Rattle.js_upgrade.specs.declared.holding.Holding.TheVariants.{One, Listed, Named as ByName, OneOrListed, Nothing}
+use Rattle.js_upgrade.specs.declared.holding.SchemaHolding.{SchemaHolding}
+use Rattle.js_upgrade.specs.declared.holding.SchemaHolding.TheVariants.{One, Listed, Named as ByName, OneOrListed}
+use Rattle.js_upgrade.specs.declared.holding.SchemaHolding.TheVariants.{Nothing}
 use Rattle.js_upgrade.proofs.InOrder.{gathered_one}
 use Rattle.js_upgrade.proofs.PlainChanges.{keyword_stays}
 
@@ -26,11 +27,11 @@ ascending no_members s = tt
 ascending (member name v ms) s = (below_head name ms s.0, ascending ms s.2)
 
 gathered_same : (f g : Text → Value → Named) → ((k : Text) (v : Value) → f k v ≡ g k v) → (ms among : Named)
-    → gathered f ms among ≡ gathered g ms among
+    → gathered_members f ms among ≡ gathered_members g ms among
 gathered_same f g same [] among = refl
 gathered_same f g same (m ∷ ms) among =
     gathered_same f g same ms (put_all (f m.0 m.1) among)
-    ∙ ap (λ ks. gathered g ms (put_all ks among)) (same m.0 m.1)
+    ∙ ap (λ ks. gathered_members g ms (put_all ks among)) (same m.0 m.1)
 
 pub keywords_stay : (siblings ms : Named) → IsAscending ms → keywords_upgraded Draft2020 siblings ms ≡ ms
 keywords_stay siblings ms s = gathered_same (becomes Draft2020 siblings) one (keyword_stays siblings) ms []
@@ -47,7 +48,7 @@ schema_stays ms s own same =
     ∙ ap object (members-member_list ms)
 
 mutual
-  pub stays : (h : Holding) (v : Value) → NamesAscend v → IsCurrent h v → upgraded h Draft2020 v ≡ v
+  pub stays : (h : SchemaHolding) (v : Value) → NamesAscend v → IsCurrent h v → upgraded h Draft2020 v ≡ v
   stays One (object ms) s c = schema_stays ms s c.0 (members_stay (holding_in Draft2020 (member_list ms)) ms s c.1)
   stays OneOrListed (object ms) s c =
       schema_stays ms s c.0 (members_stay (holding_in Draft2020 (member_list ms)) ms s c.1)
@@ -86,7 +87,7 @@ mutual
   items_stay no_items s c = refl
   items_stay (item v vs) s c = ap₂ (λ w ws. w ∷ ws) (stays One v s.0 c.0) (items_stay vs s.1 c.1)
 
-  members_stay : (held : Text → Holding) (ms : Members) → NamesAscendInMembers ms → AreCurrent held ms
+  members_stay : (held : Text → SchemaHolding) (ms : Members) → NamesAscendInMembers ms → AreCurrent held ms
       → members_upgraded held Draft2020 ms ≡ member_list ms
   members_stay held no_members s c = refl
   members_stay held (member name v ms) s c =

@@ -11,21 +11,22 @@ use Rattle.js_doc.specs.Value.{Value, null, truth, whole, text, list, object, It
 use Rattle.js_doc.specs.Value.{Members, no_members, member, members, Text, Named}
 use Rattle.js_doc.proofs.PartLists.{items-item_list, members-member_list}
 use Rattle.js_doc.proofs.TokenLookup.{is_text-refl, is_text-sound}
+use Rattle.js_upgrade.specs.CopyName.{redirected}
 use Rattle.js_upgrade.specs.Current.{AreCurrent, IsCurrent, ItemsAreCurrent}
-use Rattle.js_upgrade.specs.Documents.{Source, all_resources, is_known, resources_by}
+use Rattle.js_upgrade.specs.Documents.{SourceDocument, all_resources, is_known, resources_by}
 use Rattle.js_upgrade.specs.Documents.{anchored, source_resources, upgraded_among, upgraded_by_dialect}
 use Rattle.js_upgrade.specs.Keyword.{change_in}
 use Rattle.js_upgrade.specs.Laws.{AllCurrentStay, IsCurrentSource}
-use Rattle.js_upgrade.specs.Moved.{both, just, moved, step, under}
+use Rattle.js_upgrade.specs.Moved.{both, just, moved_tokens, step, tokens_under}
 use Rattle.js_upgrade.specs.Reference.{argument_rewritten, as_it_is, followed, in_resource, items_relocated}
 use Rattle.js_upgrade.specs.Reference.{members_relocated, moved_in, recurses_at, recursion_rewritten, relocated}
-use Rattle.js_upgrade.specs.Reference.{rewritten, same_tokens, with_pointer, with_target}
+use Rattle.js_upgrade.specs.Reference.{rewritten, are_same_tokens, with_pointer, with_target}
 use Rattle.js_upgrade.specs.Resource.{Resource, begun, identity, item_resources, member_resources, own_base}
 use Rattle.js_upgrade.specs.Resource.{recurses}
-use Rattle.js_upgrade.specs.Resource.{has_recursion, is_recursive, resource_named, resources}
+use Rattle.js_upgrade.specs.Resource.{has_recursion, is_recursive, resource_named, resources, root_resources}
 use Rattle.js_upgrade.specs.Schema.{change_of}
 use Rattle.js_upgrade.specs.Upgrade.{holding_in, own_dialect, root_upgraded, upgraded}
-use Rattle.js_upgrade.specs.Url.{fragment_pointer, joined, printed, without_fragment}
+use Rattle.js_upgrade.specs.Url.{fragment_pointer, uri_joined, uri_printed, uri_without_fragment}
 use Rattle.js_upgrade.specs.declared.dialect.Dialect.{Dialect}
 use Rattle.js_upgrade.specs.declared.dialect.Dialect.TheVariants.{Draft2020}
 use Rattle.js_upgrade.specs.declared.keyword.Change.{Change}
@@ -35,17 +36,19 @@ use Rattle.js_upgrade.specs.declared.keyword.Change.TheVariants.{Goes, Identifie
 use Rattle.js_upgrade.specs.declared.keyword.Change.TheVariants.{Dependencies, Minimum, Maximum, Divisor, Types}
 use Rattle.js_upgrade.specs.declared.keyword.Change.TheVariants.{Disallowed, Extended, Properties}
 use Rattle.js_upgrade.specs.declared.keyword.Change.TheVariants.{Contains, RecursiveReference, RecursiveAnchor}
-use Rattle.js_upgrade.specs.declared.holding.Holding.{Holding}
-use Rattle.js_upgrade.specs.declared.holding.Holding.TheVariants.{One, Listed, Named as ByName, OneOrListed, Nothing}
+use Rattle.js_upgrade.specs.declared.holding.SchemaHolding.{SchemaHolding}
+use Rattle.js_upgrade.specs.declared.holding.SchemaHolding.TheVariants.{One, Listed, Named as ByName, OneOrListed}
+use Rattle.js_upgrade.specs.declared.holding.SchemaHolding.TheVariants.{Nothing}
 use Rattle.js_upgrade.proofs.MovedParts.{both_are, tokens_of}
 use Rattle.js_upgrade.proofs.Outcome.{nothing_current}
 use Rattle.js_upgrade.proofs.PlainChanges.{change_plain, is_plain}
 use Rattle.js_upgrade.proofs.Staying.{stays}
+use Rattle.js_upgrade.proofs.WithoutCopies.{all_take_none, redirected_none, upgraded_without}
 
 -- ---- a token of 2020-12 stays
 
 under_plain : (siblings : Named) (name : Text) (v : Value) (rest : Tokens) (change : Change) → is_plain change ≡ true
-    → under siblings name v rest change ≡ just name
+    → tokens_under siblings name v rest change ≡ just name
 under_plain siblings name v rest Stays e = refl
 under_plain siblings name v rest Asserts e = refl
 under_plain siblings name v rest Refers e = refl
@@ -91,7 +94,7 @@ item_current token n (item v vs) part c is =
     current_by (IsCurrent One) (is_text token (decimal n)) v part (item_named token (n + 1) vs) (λ _. c.0)
     (item_current token (n + 1) vs part c.1) is
 
-member_current : (held : Text → Holding) (token : Text) (ms : Members) (part : Value) → AreCurrent held ms
+member_current : (held : Text → SchemaHolding) (token : Text) (ms : Members) (part : Value) → AreCurrent held ms
     → member_named token ms ≡ Some part → IsCurrent (held token) part
 member_current held token no_members part c is = absurd (cc)
 member_current held token (member k v ms) part c is =
@@ -101,7 +104,7 @@ member_current held token (member k v ms) part c is =
 
 -- ---- a step in it
 
-abbrev StepStays : Holding → Value → Text → Value → Tokens → Type 0
+abbrev StepStays : SchemaHolding → Value → Text → Value → Tokens → Type 0
 StepStays h v token part rest =
     ((step h Draft2020 v token part rest).into ≡ just token)
     × ((step h Draft2020 v token part rest).dialect ≡ Draft2020)
@@ -112,14 +115,14 @@ schema_step_stays : (ms : Members) (token : Text) (part : Value) (rest : Tokens)
     → member_named token ms ≡ Some part → StepStays One (object ms) token part rest
 schema_step_stays ms token part rest own c is =
     let siblings = member_list ms in (
-      ap (λ e. under siblings token part rest (change_of e siblings token)) own
+      ap (λ e. tokens_under siblings token part rest (change_of e siblings token)) own
           ∙ under_plain siblings token part rest (change_in Draft2020 token) (change_plain token),
       own,
       subst (λ e. IsCurrent (holding_in e siblings token) part) (sym own)
           (member_current (holding_in Draft2020 siblings) token ms part c is),
     )
 
-step_stays : (h : Holding) (v : Value) (token : Text) (part : Value) (rest : Tokens) → IsCurrent h v
+step_stays : (h : SchemaHolding) (v : Value) (token : Text) (part : Value) (rest : Tokens) → IsCurrent h v
     → part_named token v ≡ Some part → StepStays h v token part rest
 step_stays One (object ms) token part rest c is = schema_step_stays ms token part rest c.0 c.1 is
 step_stays OneOrListed (object ms) token part rest c is = schema_step_stays ms token part rest c.0 c.1 is
@@ -138,46 +141,47 @@ step_stays h (text t) token part rest c is = absurd (cc)
 
 -- ---- all tokens
 
-back_by : (token : Text) (rest : Tokens) (h : Holding) (v : Value) (new : Tokens) → IsCurrent h v
-    → ((k : Holding) (w : Value) (inner : Tokens) → IsCurrent k w → moved k Draft2020 w rest ≡ Some inner
+back_by : (token : Text) (rest : Tokens) (h : SchemaHolding) (v : Value) (new : Tokens) → IsCurrent h v
+    → ((k : SchemaHolding) (w : Value) (inner : Tokens) → IsCurrent k w → moved_tokens k Draft2020 w rest ≡ Some inner
     → rest ≡ inner)
     → (found : Option Value) → part_named token v ≡ found
     → option_and_then
     (λ part. both (step h Draft2020 v token part rest).into
-    (moved (step h Draft2020 v token part rest).holding (step h Draft2020 v token part rest).dialect part rest)) found
+    (moved_tokens (step h Draft2020 v token part rest).holding
+    (step h Draft2020 v token part rest).dialect part rest)) found
     ≡ Some new
     → token ∷ rest ≡ new
 back_by token rest h v new c more None is mv = absurd (cc)
 back_by token rest h v new c more (Some part) is mv =
     let st = step h Draft2020 v token part rest in
     let stay = step_stays h v token part rest c is in
-    let b = both_are st.into (moved st.holding st.dialect part rest) new mv in
+    let b = both_are st.into (moved_tokens st.holding st.dialect part rest) new mv in
     let same : rest ≡ b.1 = more st.holding part b.1 stay.2
-    (sym (ap (λ e. moved st.holding e part rest) stay.1) ∙ b.3) in
+    (sym (ap (λ e. moved_tokens st.holding e part rest) stay.1) ∙ b.3) in
     ap (λ ts. token ∷ ts) same ∙ ap (λ ts. ts ++ b.1) (ap tokens_of (sym stay.0 ∙ b.2)) ∙ b.4
 
-moved_back : (tokens : Tokens) (h : Holding) (v : Value) (new : Tokens) → IsCurrent h v
-    → moved h Draft2020 v tokens ≡ Some new → tokens ≡ new
+moved_back : (tokens : Tokens) (h : SchemaHolding) (v : Value) (new : Tokens) → IsCurrent h v
+    → moved_tokens h Draft2020 v tokens ≡ Some new → tokens ≡ new
 moved_back [] h v new c mv = ap tokens_of mv
 moved_back (token ∷ rest) h v new c mv =
     back_by token rest h v new c (λ k w inner d m. moved_back rest k w inner d m) (part_named token v) refl mv
 
 -- ---- a reference
 
-same_tokens-refl : (tokens : Tokens) → same_tokens tokens tokens ≡ true
+same_tokens-refl : (tokens : Tokens) → are_same_tokens tokens tokens ≡ true
 same_tokens-refl [] = refl
-same_tokens-refl (t ∷ ts) = ap (λ b. b && same_tokens ts ts) (is_text-refl t) ∙ same_tokens-refl ts
+same_tokens-refl (t ∷ ts) = ap (λ b. b && are_same_tokens ts ts) (is_text-refl t) ∙ same_tokens-refl ts
 
 target_stays : (t : Text) (old : Tokens) (new : Option Tokens) → ((p : Tokens) → new ≡ Some p → old ≡ p)
     → with_target t old new ≡ t
 target_stays t old None same = refl
 target_stays t old (Some new) same =
     ap (λ b. cond b t (with_pointer t new))
-    (ap (λ ts. same_tokens old ts) (sym (same new refl)) ∙ same_tokens-refl old)
+    (ap (λ ts. are_same_tokens old ts) (sym (same new refl)) ∙ same_tokens-refl old)
 
 -- a resource of 2020-12
 abbrev pub IsCurrentResource : Resource → Type 0
-IsCurrentResource r = (r.dialect ≡ Draft2020) × IsCurrent One r.root
+IsCurrentResource r = (r.dialect ≡ Draft2020) × IsCurrent One r.root × (r.copies ≡ [])
 
 -- no root of 2020-12 recurses
 unrecursive : (root : Value) → IsCurrent One root → has_recursion Draft2020 root ≡ false
@@ -195,7 +199,10 @@ IsStill r =
 
 still_current : (r : Resource) → IsCurrentResource r → IsStill r
 still_current r c = (
-  λ tokens new is. moved_back tokens One r.root new c.1 (sym (ap (λ e. moved One e r.root tokens) c.0) ∙ is),
+  λ tokens new is. moved_back tokens One r.root new c.1
+      (sym (ap (λ e. moved_tokens One e r.root (redirected e r.copies tokens)) c.0
+      ∙ ap (λ copies. moved_tokens One Draft2020 r.root (redirected Draft2020 copies tokens)) c.2
+      ∙ ap (moved_tokens One Draft2020 r.root) (redirected_none Draft2020 tokens)) ∙ is),
   ap (λ d. has_recursion d r.root) c.0 ∙ unrecursive r.root c.1,
 )
 
@@ -228,11 +235,11 @@ module _ (all : List Resource) (c : AllByRecursion IsStill all) where
   followed_stays : (t : Text) (uri : Option Parts) → followed all t uri ≡ t
   followed_stays t None = refl
   followed_stays t (Some uri) =
-      reference_stays t (fragment_pointer uri) (resource_named all (printed (without_fragment uri)))
-      (λ r is. found_current (λ s. bytes_eq (printed (without_fragment uri)) s.uri) all r c is)
+      reference_stays t (fragment_pointer uri) (resource_named all (uri_printed (uri_without_fragment uri)))
+      (λ r is. found_current (λ s. bytes_eq (uri_printed (uri_without_fragment uri)) s.uri) all r c is)
 
   rewritten_stays : (base : Parts) (v : Value) → rewritten all base v ≡ v
-  rewritten_stays base (text t) = ap text (followed_stays t (joined base t))
+  rewritten_stays base (text t) = ap text (followed_stays t (uri_joined base t))
   rewritten_stays base null = refl
   rewritten_stays base (truth b) = refl
   rewritten_stays base (whole z) = refl
@@ -242,8 +249,8 @@ module _ (all : List Resource) (c : AllByRecursion IsStill all) where
   recursion_stays : (base : Parts) (v : Value) → recursion_rewritten all base v ≡ v
   recursion_stays base v =
       ap (λ b. cond b (text (codes "#recursiveAnchor")) v)
-      (no_recursion (resource_named all (printed base))
-      (λ r is. found_current (λ s. bytes_eq (printed base) s.uri) all r c is))
+      (no_recursion (resource_named all (uri_printed base))
+      (λ r is. found_current (λ s. bytes_eq (uri_printed base) s.uri) all r c is))
 
   argument_stays : (change : Change) (base : Parts) (v w : Value) → w ≡ v
       → argument_rewritten all change base v w ≡ v
@@ -293,7 +300,8 @@ module _ (all : List Resource) (c : AllByRecursion IsStill all) where
   argument_kept base siblings k v w same = argument_stays (change_of Draft2020 siblings k) base v w same
 
   mutual
-    relocated_stays : (h : Holding) (base : Parts) (v : Value) → IsCurrent h v → relocated all h Draft2020 base v ≡ v
+    relocated_stays : (h : SchemaHolding) (base : Parts) (v : Value) → IsCurrent h v
+        → relocated all h Draft2020 base v ≡ v
     relocated_stays One base (object ms) c =
         schema_relocated_stays base ms c.0
         (members_relocated_stay (holding_in Draft2020 (member_list ms))
@@ -345,7 +353,7 @@ module _ (all : List Resource) (c : AllByRecursion IsStill all) where
     items_relocated_stay base (item v vs) c =
         ap₂ (λ w ws. w ∷ ws) (relocated_stays One base v c.0) (items_relocated_stay base vs c.1)
 
-    members_relocated_stay : (held : Text → Holding) (argument : Text → Value → Value → Value) (base : Parts)
+    members_relocated_stay : (held : Text → SchemaHolding) (argument : Text → Value → Value → Value) (base : Parts)
         (ms : Members) → ((k : Text) (v w : Value) → w ≡ v → argument k v w ≡ v) → AreCurrent held ms
         → members_relocated all held argument Draft2020 base ms ≡ member_list ms
     members_relocated_stay held argument base no_members kept c = refl
@@ -354,7 +362,7 @@ module _ (all : List Resource) (c : AllByRecursion IsStill all) where
         (kept k v (relocated all (held k) Draft2020 base v) (relocated_stays (held k) base v c.0))
         (members_relocated_stay held argument base ms kept c.1)
 
-  pub source_stays : (s : Source) → IsCurrentSource s → upgraded_among all s ≡ s.root
+  pub source_stays : (s : SourceDocument) → IsCurrentSource s → upgraded_among all s ≡ s.root
   source_stays s current =
       ap (upgraded_by_dialect all s) current.1
       ∙ ap (λ b. anchored b (root_upgraded Draft2020 (relocated all One Draft2020 s.uri s.root)))
@@ -362,7 +370,7 @@ module _ (all : List Resource) (c : AllByRecursion IsStill all) where
       ∙ ap (upgraded One Draft2020) (relocated_stays One s.uri s.root current.2)
       ∙ stays One s.root current.0.0 current.2
 
-  sources_stay : (sources : List Source) → AllByRecursion IsCurrentSource sources
+  sources_stay : (sources : List SourceDocument) → AllByRecursion IsCurrentSource sources
       → map (upgraded_among all) sources ≡ map (λ s. s.root) sources
   sources_stay [] current = refl
   sources_stay (s ∷ sources) current =
@@ -378,7 +386,7 @@ all_append (x ∷ xs) ys c d = (c.0, all_append xs ys c.1 d)
 begun_current : (root : Value) (found : Option Parts) → IsCurrent One root
     → AllByRecursion IsCurrentResource (begun Draft2020 root found)
 begun_current root None c = tt
-begun_current root (Some u) c = ((refl, c), tt)
+begun_current root (Some u) c = ((refl, c, refl), tt)
 
 abbrev SchemaResources : Parts → Members → Dialect → Type 0
 SchemaResources base ms e =
@@ -399,7 +407,7 @@ schema_resources_current base ms c more =
     (begun_current (object ms) (identity Draft2020 base siblings) c) more)
 
 mutual
-  resources_current : (h : Holding) (base : Parts) (v : Value) → IsCurrent h v
+  resources_current : (h : SchemaHolding) (base : Parts) (v : Value) → IsCurrent h v
       → AllByRecursion IsCurrentResource (resources h Draft2020 base v)
   resources_current One base (object ms) c =
       schema_resources_current base ms c
@@ -445,31 +453,48 @@ mutual
       all_append (resources One Draft2020 base v) (item_resources Draft2020 base vs)
       (resources_current One base v c.0) (item_resources_current base vs c.1)
 
-  member_resources_current : (held : Text → Holding) (base : Parts) (ms : Members) → AreCurrent held ms
+  member_resources_current : (held : Text → SchemaHolding) (base : Parts) (ms : Members) → AreCurrent held ms
       → AllByRecursion IsCurrentResource (member_resources held Draft2020 base ms)
   member_resources_current held base no_members c = tt
   member_resources_current held base (member k v ms) c =
       all_append (resources (held k) Draft2020 base v) (member_resources held Draft2020 base ms)
       (resources_current (held k) base v c.0) (member_resources_current held base ms c.1)
 
-pub source_current : (s : Source) → IsCurrentSource s → AllByRecursion IsCurrentResource (source_resources s)
-source_current s c =
-    subst (λ d. AllByRecursion IsCurrentResource (resources_by s d)) (sym c.1)
-    ((refl, c.2), resources_current One s.uri s.root c.2)
+-- those of a document without copies
+root_resources_are : (d : Dialect) (base : Parts) (v : Value) → root_resources [] d base v ≡ resources One d base v
+root_resources_are d base (object ms) =
+    let siblings = member_list ms in
+    let own = own_dialect d siblings in
+    ap (λ ns. begun d (object ms) (identity own base siblings)
+    ++ member_resources (holding_in own siblings) own (own_base own base siblings) ns) (members-member_list ms)
+root_resources_are d base null = refl
+root_resources_are d base (truth b) = refl
+root_resources_are d base (whole z) = refl
+root_resources_are d base (text t) = refl
+root_resources_are d base (list vs) = refl
 
-all_current : (sources : List Source) → AllByRecursion IsCurrentSource sources
-    → AllByRecursion IsCurrentResource (all_resources sources)
+pub source_current : (s : SourceDocument) → IsCurrentSource s → AllByRecursion IsCurrentResource (source_resources [] s)
+source_current s c =
+    subst (λ d. AllByRecursion IsCurrentResource (resources_by [] s d)) (sym c.1) (
+      (refl, c.2, refl),
+      subst (AllByRecursion IsCurrentResource) (sym (root_resources_are Draft2020 s.uri s.root))
+          (resources_current One s.uri s.root c.2),
+    )
+
+all_current : (sources : List SourceDocument) → AllByRecursion IsCurrentSource sources
+    → AllByRecursion IsCurrentResource (all_resources [] sources)
 all_current [] c = tt
 all_current (s ∷ sources) c =
-    all_append (source_resources s) (all_resources sources) (source_current s c.0) (all_current sources c.1)
+    all_append (source_resources [] s) (all_resources [] sources) (source_current s c.0) (all_current sources c.1)
 
-all_known : (sources : List Source) → AllByRecursion IsCurrentSource sources → list_all is_known sources ≡ true
+all_known : (sources : List SourceDocument) → AllByRecursion IsCurrentSource sources → list_all is_known sources ≡ true
 all_known [] c = refl
 all_known (s ∷ sources) c =
     ap (λ d. is_some d && list_all is_known sources) c.0.1 ∙ all_known sources c.1
 
 pub all_current_stay : AllCurrentStay
 all_current_stay sources current =
-    let all = all_resources sources in
-    ap (λ b. cond b (Some (map (upgraded_among all) sources)) None) (all_known sources current)
+    let all = all_resources [] sources in
+    upgraded_without sources (all_take_none sources current)
+    ∙ ap (λ b. cond b (Some (map (upgraded_among all) sources)) None) (all_known sources current)
     ∙ ap Some (sources_stay all (stills all (all_current sources current)) sources current)

@@ -4,11 +4,11 @@ use Rattle.js_doc.specs.Value.{Value, Text, list, object, Items, no_items, item,
 use Rattle.js_doc.specs.Parts.{member_list}
 use Rattle.js_upgrade.specs.Upgrade.{holding_in, own_dialect}
 use Rattle.js_upgrade.specs.declared.dialect.Dialect.TheVariants.{Draft2020}
-use Rattle.js_upgrade.specs.declared.holding.Holding.{Holding}
-use Rattle.js_upgrade.specs.declared.holding.Holding.TheVariants.{One, Listed, Named as ByName, OneOrListed}
+use Rattle.js_upgrade.specs.declared.holding.SchemaHolding.{SchemaHolding}
+use Rattle.js_upgrade.specs.declared.holding.SchemaHolding.TheVariants.{One, Listed, Named as ByName, OneOrListed}
 
 abbrev mutual
-  pub IsCurrent : Holding → Value → Type 0
+  pub IsCurrent : SchemaHolding → Value → Type 0
   IsCurrent One (object ms) =
       (own_dialect Draft2020 (member_list ms) ≡ Draft2020) × AreCurrent (holding_in Draft2020 (member_list ms)) ms
   IsCurrent OneOrListed (object ms) =
@@ -23,6 +23,6 @@ abbrev mutual
   ItemsAreCurrent (item v vs) = IsCurrent One v × ItemsAreCurrent vs
 
   -- each as its name holds it
-  pub AreCurrent : (Text → Holding) → Members → Type 0
+  pub AreCurrent : (Text → SchemaHolding) → Members → Type 0
   AreCurrent held no_members = Unit {0}
   AreCurrent held (member name v ms) = IsCurrent (held name) v × AreCurrent held ms

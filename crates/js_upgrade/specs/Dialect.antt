@@ -10,16 +10,16 @@ use Rattle.js_upgrade.specs.declared.dialect.Dialect.TheVariants.{Draft07, Draft
 
 -- ---- the order of the drafts
 
-abbrev pub rank : Dialect → ℕ
-rank Draft03 = 0
-rank Draft04 = 1
-rank Draft06 = 2
-rank Draft07 = 3
-rank Draft2019 = 4
-rank Draft2020 = 5
+abbrev pub draft_number : Dialect → ℕ
+draft_number Draft03 = 0
+draft_number Draft04 = 1
+draft_number Draft06 = 2
+draft_number Draft07 = 3
+draft_number Draft2019 = 4
+draft_number Draft2020 = 5
 
 abbrev pub is_before : Dialect → Dialect → Bool
-is_before d e = nat_lt (rank d) (rank e)
+is_before d e = nat_lt (draft_number d) (draft_number e)
 
 -- ---- their URIs
 
@@ -29,10 +29,10 @@ found [] name = None
 found (row ∷ rows) name = if bytes_eq name row.0 then Some row.1 else found rows name
 
 -- what stands behind the prefix
-abbrev pub after : Text → Text → Option Text
-after [] text = Some text
-after (p ∷ ps) [] = None
-after (p ∷ ps) (b ∷ bs) = if b == p then after ps bs else None
+abbrev pub after_prefix : Text → Text → Option Text
+after_prefix [] text = Some text
+after_prefix (p ∷ ps) [] = None
+after_prefix (p ∷ ps) (b ∷ bs) = if b == p then after_prefix ps bs else None
 
 -- behind `https://json-schema.org/draft`
 abbrev pub versions : List (Text × Dialect)
@@ -58,4 +58,5 @@ first_of (Some a) second = Some a
 
 abbrev pub dialect_named : Text → Option Dialect
 dialect_named uri = option_and_then version_named
-    (first_of (after (codes "https://json-schema.org/draft") uri) (after (codes "http://json-schema.org/draft") uri))
+    (first_of (after_prefix (codes "https://json-schema.org/draft") uri) (after_prefix
+    (codes "http://json-schema.org/draft") uri))

@@ -8,16 +8,17 @@ use Rattle.js_doc.specs.Pointer.{Tokens}
 use Rattle.js_doc.specs.Value.{Value, object, Members, Text, Values}
 use Rattle.js_doc.specs.Lawful.{IsLawful}
 use Rattle.js_upgrade.specs.Current.{IsCurrent}
-use Rattle.js_upgrade.specs.Documents.{Source, all_upgraded, source_dialect}
-use Rattle.js_upgrade.specs.Moved.{Reached, moved, reached}
+use Rattle.js_upgrade.specs.Documents.{SourceDocument, all_upgraded, source_dialect}
+use Rattle.js_upgrade.specs.Moved.{Reached, moved_tokens, reached}
 use Rattle.js_upgrade.specs.Origin.{origin}
 use Rattle.js_upgrade.specs.Schema.{put_all}
+use Rattle.js_upgrade.specs.Source.{source_with_root}
 use Rattle.js_upgrade.specs.Upgrade.{becomes, document_dialect, document_upgraded, holding_in, keywords_upgraded}
 use Rattle.js_upgrade.specs.Upgrade.{members_upgraded, upgraded}
 use Rattle.js_upgrade.specs.declared.dialect.Dialect.{Dialect}
 use Rattle.js_upgrade.specs.declared.dialect.Dialect.TheVariants.{Draft2020}
-use Rattle.js_upgrade.specs.declared.holding.Holding.{Holding}
-use Rattle.js_upgrade.specs.declared.holding.Holding.TheVariants.{One}
+use Rattle.js_upgrade.specs.declared.holding.SchemaHolding.{SchemaHolding}
+use Rattle.js_upgrade.specs.declared.holding.SchemaHolding.TheVariants.{One}
 
 -- a document of 2020-12 stays as it is, unless a schema in it declares an older draft
 abbrev pub CurrentStays : Type 0
@@ -34,8 +35,8 @@ TwiceIsOnce =
 -- what stands at tokens stands, upgraded, where they are moved to
 abbrev pub StandsWhereMoved : Type 0
 StandsWhereMoved =
-    (h : Holding) (d : Dialect) (v : Value) (tokens new : Tokens) (r : Reached) → NamesAscend v
-    → reached h d v tokens ≡ Some r → moved h d v tokens ≡ Some new
+    (h : SchemaHolding) (d : Dialect) (v : Value) (tokens new : Tokens) (r : Reached) → NamesAscend v
+    → reached h d v tokens ≡ Some r → moved_tokens h d v tokens ≡ Some new
     → at new (upgraded h d v) ≡ Some (upgraded r.holding r.dialect r.value)
 
 -- a keyword of an upgraded schema is of what the keyword that it comes from becomes
@@ -50,26 +51,22 @@ KeywordsHaveOrigins =
 
 -- ---- documents that are upgraded together
 
-abbrev pub IsCurrentSource : Source → Type 0
+abbrev pub IsCurrentSource : SourceDocument → Type 0
 IsCurrentSource s = IsLawful s.root × (source_dialect s ≡ Some Draft2020) × IsCurrent One s.root
 
 -- documents of 2020-12 stay as they are, unless a schema in one of them declares an older draft
 abbrev pub AllCurrentStay : Type 0
-AllCurrentStay = (sources : List Source) → AllByRecursion IsCurrentSource sources
+AllCurrentStay = (sources : List SourceDocument) → AllByRecursion IsCurrentSource sources
     → all_upgraded sources ≡ Some (map (λ s. s.root) sources)
 
--- the document with another root
-abbrev pub with_root : Source → Value → Source
-with_root s v = record { uri = s.uri; assumed = s.assumed; root = v }
-
-abbrev pub with_roots : List Source → Values → List Source
-with_roots [] vs = []
-with_roots (s ∷ sources) [] = []
-with_roots (s ∷ sources) (v ∷ vs) = with_root s v ∷ with_roots sources vs
+abbrev pub sources_with_roots : List SourceDocument → Values → List SourceDocument
+sources_with_roots [] vs = []
+sources_with_roots (s ∷ sources) [] = []
+sources_with_roots (s ∷ sources) (v ∷ vs) = source_with_root s v ∷ sources_with_roots sources vs
 
 -- documents that were upgraded together stay as they are, where the same dialects are assumed
 abbrev pub AllTwiceIsOnce : Type 0
 AllTwiceIsOnce =
-    (sources : List Source) (once : Values) → AllByRecursion (λ s. IsLawful s.root) sources
+    (sources : List SourceDocument) (once : Values) → AllByRecursion (λ s. IsLawful s.root) sources
     → AllByRecursion IsLawful once → all_upgraded sources ≡ Some once
-    → all_upgraded (with_roots sources once) ≡ Some once
+    → all_upgraded (sources_with_roots sources once) ≡ Some once

@@ -1,3 +1,6 @@
+pub mod Apart
+pub mod Copies
+pub mod CopyName
 pub mod Current
 pub mod Dialect
 pub mod Documents
@@ -11,6 +14,7 @@ pub mod Reference
 pub mod Resource
 pub mod Schema
 pub mod Seen
+pub mod Source
 pub mod Upgrade
 pub mod Url
 pub mod code

@@ -7,8 +7,8 @@ use Rattle.js_doc.specs.Members.{get}
 use Rattle.js_doc.specs.Parts.{item_list, member_list}
 use Rattle.js_doc.specs.Pointer.{Tokens}
 use Rattle.js_doc.specs.Value.{Value, text, list, object, Items, no_items, item, Text, Named}
-use Rattle.js_upgrade.specs.Schema.{change_of, holder, is_any, is_list, is_true}
-use Rattle.js_upgrade.specs.Upgrade.{holding_of, own_dialect}
+use Rattle.js_upgrade.specs.Schema.{change_of, holder, is_any, is_some_list, is_true}
+use Rattle.js_upgrade.specs.Upgrade.{holding_by_change, own_dialect}
 use Rattle.js_upgrade.specs.declared.dialect.Dialect.{Dialect}
 use Rattle.js_upgrade.specs.declared.keyword.Change.{Change}
 use Rattle.js_upgrade.specs.declared.keyword.Change.TheVariants.{Goes, Identifier, Definitions, Items as ItemsChange}
@@ -16,8 +16,9 @@ use Rattle.js_upgrade.specs.declared.keyword.Change.TheVariants.{AdditionalItems
 use Rattle.js_upgrade.specs.declared.keyword.Change.TheVariants.{Maximum, Divisor, Types, Disallowed, Extended}
 use Rattle.js_upgrade.specs.declared.keyword.Change.TheVariants.{Properties, Contains, RecursiveReference}
 use Rattle.js_upgrade.specs.declared.keyword.Change.TheVariants.{RecursiveAnchor}
-use Rattle.js_upgrade.specs.declared.holding.Holding.{Holding}
-use Rattle.js_upgrade.specs.declared.holding.Holding.TheVariants.{One, Listed, Named as ByName, OneOrListed, Nothing}
+use Rattle.js_upgrade.specs.declared.holding.SchemaHolding.{SchemaHolding}
+use Rattle.js_upgrade.specs.declared.holding.SchemaHolding.TheVariants.{One, Listed, Named as ByName, OneOrListed}
+use Rattle.js_upgrade.specs.declared.holding.SchemaHolding.TheVariants.{Nothing}
 
 -- ---- what stands in place of a keyword's name: tokens before those in its argument
 
@@ -65,47 +66,47 @@ negated found = option_map (λ tokens. codes "not" ∷ tokens) found
 
 -- of a keyword with this argument, on the way to what stands at the rest; none where it goes
 module _ (siblings : Named) (name : Text) (v : Value) (rest : Tokens) where
-  abbrev pub under : Change → Option Tokens
-  under Goes = None
-  under Identifier = None
-  under Definitions = just (codes "$defs")
-  under ItemsChange = listed_under (codes "prefixItems") (codes "items" ∷ []) v
-  under AdditionalItems = if is_list (get (codes "items") siblings) then just (codes "items") else None
-  under Dependencies = dependencies_under v rest
-  under Minimum =
+  abbrev pub tokens_under : Change → Option Tokens
+  tokens_under Goes = None
+  tokens_under Identifier = None
+  tokens_under Definitions = just (codes "$defs")
+  tokens_under ItemsChange = listed_under (codes "prefixItems") (codes "items" ∷ []) v
+  tokens_under AdditionalItems = if is_some_list (get (codes "items") siblings) then just (codes "items") else None
+  tokens_under Dependencies = dependencies_under v rest
+  tokens_under Minimum =
       just (if is_true (get (codes "exclusiveMinimum") siblings) then codes "exclusiveMinimum" else codes "minimum")
-  under Maximum =
+  tokens_under Maximum =
       just (if is_true (get (codes "exclusiveMaximum") siblings) then codes "exclusiveMaximum" else codes "maximum")
-  under Divisor = just (codes "multipleOf")
-  under Types = types_under v rest
-  under Disallowed = negated (types_under v rest)
-  under Extended = listed_under (codes "allOf") (codes "allOf" ∷ first_item) v
-  under Properties = just (codes "properties")
-  under Contains = Some (contains_under siblings)
-  under RecursiveReference = just (codes "$dynamicRef")
-  under RecursiveAnchor = None
-  under _ = just name
+  tokens_under Divisor = just (codes "multipleOf")
+  tokens_under Types = types_under v rest
+  tokens_under Disallowed = negated (types_under v rest)
+  tokens_under Extended = listed_under (codes "allOf") (codes "allOf" ∷ first_item) v
+  tokens_under Properties = just (codes "properties")
+  tokens_under Contains = Some (contains_under siblings)
+  tokens_under RecursiveReference = just (codes "$dynamicRef")
+  tokens_under RecursiveAnchor = None
+  tokens_under _ = just name
 
 -- ---- one token on
 
 -- how the part is held, the dialect there, and what stands in place of the token
-pub record Step : Type 0 where
-  pub holding : Holding
+pub record TokenStep : Type 0 where
+  pub holding : SchemaHolding
   pub dialect : Dialect
   pub into : Option Tokens
 
-abbrev pub step_to : Holding → Dialect → Text → Step
+abbrev pub step_to : SchemaHolding → Dialect → Text → TokenStep
 step_to h d token = record { holding = h; dialect = d; into = just token }
 
-abbrev pub keyword_step : Dialect → Named → Text → Value → Tokens → Step
+abbrev pub keyword_step : Dialect → Named → Text → Value → Tokens → TokenStep
 keyword_step d siblings token part rest =
     record {
-      holding = holding_of (change_of d siblings token);
+      holding = holding_by_change (change_of d siblings token);
       dialect = d;
-      into = under siblings token part rest (change_of d siblings token);
+      into = tokens_under siblings token part rest (change_of d siblings token);
     }
 
-abbrev pub step : Holding → Dialect → Value → Text → Value → Tokens → Step
+abbrev pub step : SchemaHolding → Dialect → Value → Text → Value → Tokens → TokenStep
 step One d (object ms) token part rest =
     keyword_step (own_dialect d (member_list ms)) (member_list ms) token part rest
 step OneOrListed d (object ms) token part rest =
@@ -121,21 +122,21 @@ abbrev pub both : Option Tokens → Option Tokens → Option Tokens
 both into found = option_and_then (λ tokens. option_map (λ more. tokens ++ more) found) into
 
 -- none where nothing stands at the tokens, or where it goes
-abbrev pub moved : Holding → Dialect → Value → Tokens → Option Tokens
-moved h d v [] = Some []
-moved h d v (token ∷ rest) =
+abbrev pub moved_tokens : SchemaHolding → Dialect → Value → Tokens → Option Tokens
+moved_tokens h d v [] = Some []
+moved_tokens h d v (token ∷ rest) =
     option_and_then
     (λ part. both (step h d v token part rest).into
-    (moved (step h d v token part rest).holding (step h d v token part rest).dialect part rest))
+    (moved_tokens (step h d v token part rest).holding (step h d v token part rest).dialect part rest))
     (part_named token v)
 
 -- what stands at the tokens, how it is held, and in which dialect
 pub record Reached : Type 0 where
-  pub holding : Holding
+  pub holding : SchemaHolding
   pub dialect : Dialect
   pub value : Value
 
-abbrev pub reached : Holding → Dialect → Value → Tokens → Option Reached
+abbrev pub reached : SchemaHolding → Dialect → Value → Tokens → Option Reached
 reached h d v [] = Some (record { holding = h; dialect = d; value = v })
 reached h d v (token ∷ rest) =
     option_and_then

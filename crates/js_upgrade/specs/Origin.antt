@@ -4,7 +4,7 @@ use Rattle.std.specs.Prelude.{Bool, true, false, ◌&&◌, List, [], ◌∷◌, 
 use Rattle.js_doc.specs.Members.{get}
 use Rattle.js_doc.specs.Value.{Text, Named}
 use Rattle.js_upgrade.specs.Dialect.{found, is_before}
-use Rattle.js_upgrade.specs.Schema.{holder, is_list}
+use Rattle.js_upgrade.specs.Schema.{holder, is_some_list}
 use Rattle.js_upgrade.specs.declared.dialect.Dialect.{Dialect}
 use Rattle.js_upgrade.specs.declared.dialect.Dialect.TheVariants.{Draft04, Draft06, Draft2019, Draft2020}
 
@@ -13,8 +13,8 @@ module _ (d : Dialect) (listed : Bool) where
   abbrev pub until_own : Dialect → Text → Text → Text
   until_own draft new old = if is_before d draft then old else new
 
-  abbrev pub origins : List (Text × Text)
-  origins =
+  abbrev pub origin_rows : List (Text × Text)
+  origin_rows =
       (codes "$id", until_own Draft06 (codes "$id") (codes "id"))
       ∷ (codes "$anchor", until_own Draft06 (until_own Draft2019 (codes "$anchor") (codes "$id")) (codes "id"))
       ∷ (codes "$dynamicRef", until_own Draft2020 (codes "$dynamicRef") (codes "$recursiveRef"))
@@ -34,7 +34,7 @@ module _ (d : Dialect) (listed : Bool) where
       ∷ []
 
   abbrev pub origin_by : Text → Text
-  origin_by name = unwrap_or (found origins name) name
+  origin_by name = unwrap_or (found origin_rows name) name
 
 -- `contains` of 2019-09 goes into another keyword
 abbrev pub moves_contains : Dialect → Bool
@@ -48,4 +48,4 @@ or_contains moves held other name = if moves && bytes_eq name held then codes "c
 -- of the keyword with this name
 abbrev pub origin : Dialect → Named → Text → Text
 origin d siblings name =
-    or_contains (moves_contains d) (holder siblings) (origin_by d (is_list (get (codes "items") siblings))) name
+    or_contains (moves_contains d) (holder siblings) (origin_by d (is_some_list (get (codes "items") siblings))) name

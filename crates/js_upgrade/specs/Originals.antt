@@ -6,12 +6,16 @@ use Rattle.js_doc.specs.Members.{get}
 use Rattle.js_doc.specs.Parts.{member_list}
 use Rattle.js_doc.specs.Pointer.{Tokens}
 use Rattle.js_doc.specs.Value.{Value, text, list, object, Text, Named}
+use Rattle.js_upgrade.specs.Apart.{copy_of}
+use Rattle.js_upgrade.specs.CopyName.{place_named}
+use Rattle.js_upgrade.specs.Dialect.{first_of}
 use Rattle.js_upgrade.specs.Origin.{origin}
 use Rattle.js_upgrade.specs.Schema.{change_of}
-use Rattle.js_upgrade.specs.Upgrade.{document_dialect, holding_of, own_dialect}
+use Rattle.js_upgrade.specs.Upgrade.{document_dialect, holding_by_change, own_dialect}
 use Rattle.js_upgrade.specs.declared.dialect.Dialect.{Dialect}
-use Rattle.js_upgrade.specs.declared.holding.Holding.{Holding}
-use Rattle.js_upgrade.specs.declared.holding.Holding.TheVariants.{One, Listed, Named as ByName, OneOrListed, Nothing}
+use Rattle.js_upgrade.specs.declared.holding.SchemaHolding.{SchemaHolding}
+use Rattle.js_upgrade.specs.declared.holding.SchemaHolding.TheVariants.{One, Listed, Named as ByName, OneOrListed}
+use Rattle.js_upgrade.specs.declared.holding.SchemaHolding.TheVariants.{Nothing}
 use Rattle.js_upgrade.specs.declared.keyword.Change.{Change}
 use Rattle.js_upgrade.specs.declared.keyword.Change.TheVariants.{Contains, Dependencies, Disallowed, Extended}
 use Rattle.js_upgrade.specs.declared.keyword.Change.TheVariants.{Properties, Types}
@@ -43,7 +47,7 @@ way_of name Extended = Alternatives
 way_of name Disallowed = Negated
 way_of name Dependencies = if bytes_eq name (codes "dependentRequired") then Names else Held ByName
 way_of name Properties = if bytes_eq name (codes "required") then Within else Held ByName
-way_of name change = Held (holding_of change)
+way_of name change = Held (holding_by_change change)
 
 -- the argument of the keyword with this name, of which the one with the other name was made
 abbrev pub argument_back : Dialect → Value → Text → Text → Option Value → Change → Option Back
@@ -58,7 +62,7 @@ abbrev pub keyword_back : Dialect → Named → Value → Text → Option Back
 keyword_back d siblings v new = keyword_from d siblings v new (origin d siblings new)
 
 -- in the value, as it is held; in a type's name stands what was made of it
-abbrev pub held_back : Holding → Dialect → Value → Text → Option Back
+abbrev pub held_back : SchemaHolding → Dialect → Value → Text → Option Back
 held_back One d (object ms) token =
     keyword_back (own_dialect d (member_list ms)) (member_list ms) (object ms) token
 held_back OneOrListed d (object ms) token =
@@ -94,16 +98,38 @@ abbrev pub at_end : Way → Tokens
 at_end Wrapped = codes "contains" ∷ []
 at_end w = []
 
-abbrev pub joined : Tokens → Option Tokens → Option Tokens
-joined before found = option_map (λ more. before ++ more) found
+abbrev pub joined_tokens : Tokens → Option Tokens → Option Tokens
+joined_tokens before found = option_map (λ more. before ++ more) found
 
 -- none where nothing stands at the tokens
 abbrev pub original : Way → Dialect → Value → Tokens → Option Tokens
 original w d v [] = Some (at_end w)
 original w d v (token ∷ rest) =
-    option_and_then (λ b. joined b.into (original b.way b.dialect b.value rest)) (step_back w d v token)
+    option_and_then (λ b. joined_tokens b.into (original b.way b.dialect b.value rest)) (step_back w d v token)
 
--- in a document; none where its dialect isn't known
+-- ---- in a document, which may have copies of what its references lead to
+
+abbrev pub if_named : Text → Text × Value → Option Value
+if_named name m = if bytes_eq name m.0 then Some m.1 else None
+
+-- what stands there, if it is copied under the name
+abbrev pub copied_part : Dialect → Value → Text → Tokens → Option Value
+copied_part d root name place = option_and_then (if_named name) (copy_of d root place)
+
+abbrev pub copy_original : Dialect → Value → Text → Tokens → Tokens → Option Tokens
+copy_original d root name rest place =
+    option_and_then (λ v. joined_tokens place (original (Held One) d v rest)) (copied_part d root name place)
+
+-- at the copy itself, or further down
+abbrev pub copied_original : Dialect → Value → Tokens → Option Tokens
+copied_original d root (keyword ∷ name ∷ rest) =
+    if bytes_eq keyword (codes "$defs")
+    then option_and_then (copy_original d root name rest) (place_named name) else None
+copied_original d root _ = None
+
+abbrev pub original_from : Dialect → Value → Tokens → Option Tokens
+original_from d root tokens = first_of (copied_original d root tokens) (original (Held One) d root tokens)
+
+-- none where the dialect isn't known
 abbrev pub original_in : Dialect → Value → Tokens → Option Tokens
-original_in assumed root tokens =
-    option_and_then (λ d. original (Held One) d root tokens) (document_dialect assumed root)
+original_in assumed root tokens = option_and_then (λ d. original_from d root tokens) (document_dialect assumed root)

@@ -11,21 +11,22 @@ use Rattle.js_doc.specs.Parts.{member_list}
 use Rattle.js_doc.specs.Pointer.{Tokens}
 use Rattle.js_doc.specs.Value.{Value, text, list, object, Items, no_items, item, Members, no_members, member}
 use Rattle.js_doc.specs.Value.{Text, Values, Named, items, members}
-use Rattle.js_upgrade.specs.Moved.{moved}
+use Rattle.js_upgrade.specs.CopyName.{redirected}
+use Rattle.js_upgrade.specs.Moved.{moved_tokens}
 use Rattle.js_upgrade.specs.Resource.{Resource, own_base, recurses, resource_named}
 use Rattle.js_upgrade.specs.Schema.{change_of, is_mark}
 use Rattle.js_upgrade.specs.Upgrade.{holding_in, own_dialect}
-use Rattle.js_upgrade.specs.Url.{fragment_pointer, joined, printed, without_fragment}
+use Rattle.js_upgrade.specs.Url.{fragment_pointer, uri_joined, uri_printed, uri_without_fragment}
 use Rattle.js_upgrade.specs.declared.dialect.Dialect.{Dialect}
 use Rattle.js_upgrade.specs.declared.keyword.Change.{Change}
 use Rattle.js_upgrade.specs.declared.keyword.Change.TheVariants.{Refers, RecursiveReference}
-use Rattle.js_upgrade.specs.declared.holding.Holding.{Holding}
-use Rattle.js_upgrade.specs.declared.holding.Holding.TheVariants.{One, Listed, Named as ByName, OneOrListed}
+use Rattle.js_upgrade.specs.declared.holding.SchemaHolding.{SchemaHolding}
+use Rattle.js_upgrade.specs.declared.holding.SchemaHolding.TheVariants.{One, Listed, Named as ByName, OneOrListed}
 
 -- ---- the text of a reference
 
-abbrev pub same_tokens : Tokens → Tokens → Bool
-same_tokens = pointwise bytes_eq
+abbrev pub are_same_tokens : Tokens → Tokens → Bool
+are_same_tokens = pointwise bytes_eq
 
 -- with this pointer as its fragment
 abbrev pub with_pointer : Text → Tokens → Text
@@ -34,10 +35,11 @@ with_pointer t tokens = before_first is_mark t ++ (35 ∷ fragment_text tokens)
 -- where the target has gone; a reference whose target hasn't moved stays as it is written
 abbrev pub with_target : Text → Tokens → Option Tokens → Text
 with_target t old None = t
-with_target t old (Some new) = if same_tokens old new then t else with_pointer t new
+with_target t old (Some new) = if are_same_tokens old new then t else with_pointer t new
 
+-- what was copied has gone where its copy goes
 abbrev pub moved_in : Resource → Tokens → Option Tokens
-moved_in r tokens = moved One r.dialect r.root tokens
+moved_in r tokens = moved_tokens One r.dialect r.root (redirected r.dialect r.copies tokens)
 
 abbrev pub in_resource : Text → Option Tokens → Option Resource → Text
 in_resource t (Some tokens) (Some r) = with_target t tokens (moved_in r tokens)
@@ -60,16 +62,16 @@ module _ (all : List Resource) where
   abbrev pub followed : Text → Option Parts → Text
   followed t None = t
   followed t (Some uri) =
-      in_resource t (fragment_pointer uri) (resource_named all (printed (without_fragment uri)))
+      in_resource t (fragment_pointer uri) (resource_named all (uri_printed (uri_without_fragment uri)))
 
   abbrev pub rewritten : Parts → Value → Value
-  rewritten base (text t) = text (followed t (joined base t))
+  rewritten base (text t) = text (followed t (uri_joined base t))
   rewritten base v = v
 
   -- `#`: the root of its resource, or a dynamic anchor where the root has one
   abbrev pub recursion_rewritten : Parts → Value → Value
   recursion_rewritten base v =
-      if recurses_at (resource_named all (printed base)) then text (codes "#recursiveAnchor") else v
+      if recurses_at (resource_named all (uri_printed base)) then text (codes "#recursiveAnchor") else v
 
   -- the argument of a keyword, whose schemas have their references rewritten
   abbrev pub argument_rewritten : Change → Parts → Value → Value → Value
@@ -80,7 +82,7 @@ module _ (all : List Resource) where
   -- ---- in a value that holds schemas
 
   abbrev mutual
-    pub relocated : Holding → Dialect → Parts → Value → Value
+    pub relocated : SchemaHolding → Dialect → Parts → Value → Value
     relocated One d base (object ms) =
         let own = own_dialect d (member_list ms) in
         let below = own_base own base (member_list ms) in
@@ -101,7 +103,7 @@ module _ (all : List Resource) where
     items_relocated d base (item v vs) = relocated One d base v ∷ items_relocated d base vs
 
     -- each under its name, as its keyword has it
-    pub members_relocated : (Text → Holding) → (Text → Value → Value → Value) → Dialect → Parts → Members → Named
+    pub members_relocated : (Text → SchemaHolding) → (Text → Value → Value → Value) → Dialect → Parts → Members → Named
     members_relocated held argument d base no_members = []
     members_relocated held argument d base (member name v ms) =
         (name, argument name v (relocated (held name) d base v)) ∷ members_relocated held argument d base ms

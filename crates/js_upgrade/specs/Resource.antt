@@ -11,16 +11,16 @@ use Rattle.js_doc.specs.Value.{Value, text, list, object, Items, no_items, item,
 use Rattle.js_doc.specs.Value.{Text, Named, members}
 use Rattle.js_upgrade.specs.Schema.{is_true}
 use Rattle.js_upgrade.specs.Upgrade.{holding_in, identifier, identifies, own_dialect}
-use Rattle.js_upgrade.specs.Url.{joined, printed, without_fragment}
+use Rattle.js_upgrade.specs.Url.{uri_joined, uri_printed, uri_without_fragment}
 use Rattle.js_upgrade.specs.declared.dialect.Dialect.{Dialect}
 use Rattle.js_upgrade.specs.declared.dialect.Dialect.TheVariants.{Draft2019}
-use Rattle.js_upgrade.specs.declared.holding.Holding.{Holding}
-use Rattle.js_upgrade.specs.declared.holding.Holding.TheVariants.{One, Listed, Named as ByName, OneOrListed}
+use Rattle.js_upgrade.specs.declared.holding.SchemaHolding.{SchemaHolding}
+use Rattle.js_upgrade.specs.declared.holding.SchemaHolding.TheVariants.{One, Listed, Named as ByName, OneOrListed}
 
 -- ---- bases
 
 abbrev pub joined_text : Parts → Option Value → Option Parts
-joined_text base (Some (text t)) = option_map without_fragment (joined base t)
+joined_text base (Some (text t)) = option_map uri_without_fragment (uri_joined base t)
 joined_text base _ = None
 
 -- what the identifier of a schema of this dialect gives, if it has one
@@ -34,22 +34,29 @@ own_base own base siblings = unwrap_or (identity own base siblings) base
 
 -- ---- resources
 
--- its URI as printed, the dialect of what stands around it, and its root
+-- its URI as printed, the dialect of what stands around it, its root, and the copies among the root's definitions
 pub record Resource : Type 0 where
   pub uri : Text
   pub dialect : Dialect
   pub root : Value
+  pub copies : Named
 
-abbrev pub resource : Dialect → Value → Parts → Resource
-resource d root uri = record { uri = printed uri; dialect = d; root = root }
+abbrev pub resource_with : Named → Dialect → Value → Parts → Resource
+resource_with copies d root uri = record { uri = uri_printed uri; dialect = d; root = root; copies = copies }
+
+abbrev pub resource_under : Dialect → Value → Parts → Resource
+resource_under d root uri = resource_with [] d root uri
 
 -- the one that a schema begins, if its identifier gives a base
+abbrev pub begun_with : Named → Dialect → Value → Option Parts → List Resource
+begun_with copies d root found = option_to_list (option_map (resource_with copies d root) found)
+
 abbrev pub begun : Dialect → Value → Option Parts → List Resource
-begun d root found = option_to_list (option_map (resource d root) found)
+begun d root found = begun_with [] d root found
 
 abbrev mutual
   -- those in a value that holds schemas, in order
-  pub resources : Holding → Dialect → Parts → Value → List Resource
+  pub resources : SchemaHolding → Dialect → Parts → Value → List Resource
   resources One d base (object ms) =
       let own = own_dialect d (member_list ms) in
       begun d (object ms) (identity own base (member_list ms))
@@ -67,7 +74,7 @@ abbrev mutual
   item_resources d base no_items = []
   item_resources d base (item v vs) = resources One d base v ++ item_resources d base vs
 
-  pub member_resources : (Text → Holding) → Dialect → Parts → Members → List Resource
+  pub member_resources : (Text → SchemaHolding) → Dialect → Parts → Members → List Resource
   member_resources held d base no_members = []
   member_resources held d base (member name v ms) =
       resources (held name) d base v ++ member_resources held d base ms
@@ -78,6 +85,20 @@ schema_resources d base siblings root =
     let own = own_dialect d siblings in
     begun d root (identity own base siblings)
     ++ member_resources (holding_in own siblings) own (own_base own base siblings) (members siblings)
+
+-- those of a document, whose root has copies
+abbrev pub own_resources : Named → Dialect → Parts → Named → Value → List Resource
+own_resources copies d base siblings root =
+    let own = own_dialect d siblings in
+    begun_with copies d root (identity own base siblings)
+    ++ member_resources (holding_in own siblings) own (own_base own base siblings) (members siblings)
+
+abbrev pub root_resources : Named → Dialect → Parts → Value → List Resource
+root_resources copies d base (object ms) = own_resources copies d base (member_list ms) (object ms)
+root_resources copies d base v = []
+
+abbrev pub document_resources : Named → Dialect → Parts → Value → List Resource
+document_resources copies d uri root = resource_with copies d root uri ∷ root_resources copies d uri root
 
 -- the first with the URI
 abbrev pub resource_named : List Resource → Text → Option Resource

@@ -49,9 +49,9 @@ put_all [] among = among
 put_all (m ∷ ms) among = put_all ms (put m.0 m.1 among)
 
 -- what becomes of each member, among those
-abbrev pub gathered : (Text → Value → Named) → Named → Named → Named
-gathered becomes [] among = among
-gathered becomes (m ∷ ms) among = gathered becomes ms (put_all (becomes m.0 m.1) among)
+abbrev pub gathered_members : (Text → Value → Named) → Named → Named → Named
+gathered_members becomes [] among = among
+gathered_members becomes (m ∷ ms) among = gathered_members becomes ms (put_all (becomes m.0 m.1) among)
 
 -- the members under the name, if there are some
 abbrev pub some_members : Text → Named → Named
@@ -67,9 +67,9 @@ abbrev pub is_true : Option Value → Bool
 is_true (Some (truth b)) = b
 is_true _ = false
 
-abbrev pub is_list : Option Value → Bool
-is_list (Some (list vs)) = true
-is_list _ = false
+abbrev pub is_some_list : Option Value → Bool
+is_some_list (Some (list vs)) = true
+is_some_list _ = false
 
 -- more than a fragment
 abbrev pub is_uri : Text → Bool
@@ -108,16 +108,16 @@ abbrev pub is_name_part : ℕ → Bool
 is_name_part b = is_ascii_alphanumeric b || (b == 45 || (b == 46 || b == 95))
 
 -- what `$anchor` may be: `[A-Za-z_][-A-Za-z0-9._]*`
-abbrev pub is_name : Text → Bool
-is_name [] = false
-is_name (b ∷ bs) = is_name_start b && list_all is_name_part bs
+abbrev pub is_plain_name : Text → Bool
+is_plain_name [] = false
+is_plain_name (b ∷ bs) = is_name_start b && list_all is_name_part bs
 
 abbrev pub some_uri : Text → Named
 some_uri [] = []
 some_uri (b ∷ bs) = one (codes "$id") (text (b ∷ bs))
 
 abbrev pub some_name : Text → Named
-some_name name = if is_name name then one (codes "$anchor") (text name) else []
+some_name name = if is_plain_name name then one (codes "$anchor") (text name) else []
 
 abbrev pub identifier_upgraded : Value → Named
 identifier_upgraded (text t) = some_uri (before_first is_mark t) ++ some_name (after_first is_mark t)
@@ -145,8 +145,8 @@ dependent_schema name v = one name v
 
 abbrev pub dependencies_upgraded : Value → Named
 dependencies_upgraded (object ms) =
-    some_members (codes "dependentRequired") (gathered dependent_names (member_list ms) [])
-    ++ some_members (codes "dependentSchemas") (gathered dependent_schema (member_list ms) [])
+    some_members (codes "dependentRequired") (gathered_members dependent_names (member_list ms) [])
+    ++ some_members (codes "dependentSchemas") (gathered_members dependent_schema (member_list ms) [])
 dependencies_upgraded _ = []
 
 -- ---- type and disallow of draft-03 (5.1, 5.25)
@@ -206,8 +206,8 @@ some_value name None = []
 some_value name (Some v) = one name v
 
 -- with the limits beside it
-abbrev pub counted : Named → Value → Value
-counted siblings v =
+abbrev pub contains_with_limits : Named → Value → Value
+contains_with_limits siblings v =
     object (members (put_all (one (codes "contains") v
     ++ (some_value (codes "maxContains") (get (codes "maxContains") siblings)
     ++ some_value (codes "minContains") (get (codes "minContains") siblings))) []))
@@ -224,7 +224,8 @@ holder siblings =
     else codes "allOf"
 
 abbrev pub contains_upgraded : Named → Value → Named
-contains_upgraded siblings v = one (holder siblings) (list (item (negation (negation (counted siblings v))) no_items))
+contains_upgraded siblings v = one (holder siblings) (list (item (negation (negation
+    (contains_with_limits siblings v))) no_items))
 
 -- ---- $recursiveAnchor of 2019-09 (Core, 8.2.4.2.2), at the root of a resource
 
@@ -244,7 +245,7 @@ module _ (siblings : Named) (name : Text) (v : Value) where
   upgraded_by Identifier = identifier_upgraded v
   upgraded_by Definitions = one (codes "$defs") v
   upgraded_by ItemsChange = list_or_schema_upgraded v
-  upgraded_by AdditionalItems = if is_list (get (codes "items") siblings) then one (codes "items") v else []
+  upgraded_by AdditionalItems = if is_some_list (get (codes "items") siblings) then one (codes "items") v else []
   upgraded_by Dependencies = dependencies_upgraded v
   upgraded_by Minimum =
       one (if is_true (get (codes "exclusiveMinimum") siblings) then codes "exclusiveMinimum" else codes "minimum") v

@@ -7,32 +7,33 @@ use Rattle.js_doc.specs.Value.{Text, Values, Named, items, members}
 use Rattle.js_doc.specs.Members.{get, put}
 use Rattle.js_doc.specs.Parts.{member_list}
 use Rattle.js_upgrade.specs.Dialect.{dialect_named, is_before}
-use Rattle.js_upgrade.specs.Schema.{change_of, gathered, hides, is_identifier, upgraded_by}
+use Rattle.js_upgrade.specs.Schema.{change_of, gathered_members, hides, is_identifier, upgraded_by}
 use Rattle.js_upgrade.specs.declared.dialect.Dialect.{Dialect}
 use Rattle.js_upgrade.specs.declared.dialect.Dialect.TheVariants.{Draft06, Draft2020}
 use Rattle.js_upgrade.specs.declared.keyword.Change.{Change}
 use Rattle.js_upgrade.specs.declared.keyword.Change.TheVariants.{HoldsOne, HoldsList, HoldsNamed, Definitions}
 use Rattle.js_upgrade.specs.declared.keyword.Change.TheVariants.{Items as ItemsChange, AdditionalItems, Dependencies}
 use Rattle.js_upgrade.specs.declared.keyword.Change.TheVariants.{Types, Disallowed, Extended, Properties, Contains}
-use Rattle.js_upgrade.specs.declared.holding.Holding.{Holding}
-use Rattle.js_upgrade.specs.declared.holding.Holding.TheVariants.{One, Listed, Named as ByName, OneOrListed, Nothing}
+use Rattle.js_upgrade.specs.declared.holding.SchemaHolding.{SchemaHolding}
+use Rattle.js_upgrade.specs.declared.holding.SchemaHolding.TheVariants.{One, Listed, Named as ByName, OneOrListed}
+use Rattle.js_upgrade.specs.declared.holding.SchemaHolding.TheVariants.{Nothing}
 
 -- ---- how the argument of a keyword holds schemas
 
-abbrev pub holding_of : Change → Holding
-holding_of HoldsOne = One
-holding_of AdditionalItems = One
-holding_of Contains = One
-holding_of HoldsList = Listed
-holding_of HoldsNamed = ByName
-holding_of Definitions = ByName
-holding_of Dependencies = ByName
-holding_of Properties = ByName
-holding_of ItemsChange = OneOrListed
-holding_of Types = OneOrListed
-holding_of Disallowed = OneOrListed
-holding_of Extended = OneOrListed
-holding_of _ = Nothing
+abbrev pub holding_by_change : Change → SchemaHolding
+holding_by_change HoldsOne = One
+holding_by_change AdditionalItems = One
+holding_by_change Contains = One
+holding_by_change HoldsList = Listed
+holding_by_change HoldsNamed = ByName
+holding_by_change Definitions = ByName
+holding_by_change Dependencies = ByName
+holding_by_change Properties = ByName
+holding_by_change ItemsChange = OneOrListed
+holding_by_change Types = OneOrListed
+holding_by_change Disallowed = OneOrListed
+holding_by_change Extended = OneOrListed
+holding_by_change _ = Nothing
 
 -- ---- the dialect of a schema
 
@@ -66,13 +67,13 @@ becomes d siblings name v = upgraded_by siblings name v (change_of d siblings na
 
 -- the keywords of a schema, when its schemas have been upgraded
 abbrev pub keywords_upgraded : Dialect → Named → Named → Named
-keywords_upgraded d siblings parts = gathered (becomes d siblings) parts []
+keywords_upgraded d siblings parts = gathered_members (becomes d siblings) parts []
 
-abbrev pub holding_in : Dialect → Named → Text → Holding
-holding_in d siblings name = holding_of (change_of d siblings name)
+abbrev pub holding_in : Dialect → Named → Text → SchemaHolding
+holding_in d siblings name = holding_by_change (change_of d siblings name)
 
 abbrev mutual
-  pub upgraded : Holding → Dialect → Value → Value
+  pub upgraded : SchemaHolding → Dialect → Value → Value
   upgraded One d (object ms) =
       let own = own_dialect d (member_list ms) in
       object (members (keywords_upgraded own (member_list ms)
@@ -91,7 +92,7 @@ abbrev mutual
   items_upgraded d (item v vs) = upgraded One d v ∷ items_upgraded d vs
 
   -- each under its name
-  pub members_upgraded : (Text → Holding) → Dialect → Members → Named
+  pub members_upgraded : (Text → SchemaHolding) → Dialect → Members → Named
   members_upgraded held d no_members = []
   members_upgraded held d (member name v ms) =
       (name, upgraded (held name) d v) ∷ members_upgraded held d ms

@@ -11,29 +11,29 @@ use Rattle.js_doc.specs.PointerReading.{pointer_of}
 use Rattle.js_doc.specs.Value.{Text}
 
 -- no URI, identifier or reference may have more bytes
-abbrev pub longest_uri : ℕ
-longest_uri = 65536
+abbrev pub uri_limit : ℕ
+uri_limit = 65536
 
-abbrev pub parsed : Parsed Parts → Option Parts
-parsed (Ok uri) = Some uri
-parsed (Err fault) = None
+abbrev pub uri_parsed : Parsed Parts → Option Parts
+uri_parsed (Ok uri) = Some uri
+uri_parsed (Err fault) = None
 
 -- a text joined with a base; none if it is too long, or can't be joined
-abbrev pub joined : Parts → Text → Option Parts
-joined base t = if nat_lt longest_uri (length t) then None else parsed (parse_url (Some base) t)
+abbrev pub uri_joined : Parts → Text → Option Parts
+uri_joined base t = if nat_lt uri_limit (length t) then None else uri_parsed (parse_url (Some base) t)
 
 -- the URI without its fragment
-unfoldable pub without_fragment : Parts → Parts
-without_fragment uri = set_fragment uri None
+unfoldable pub uri_without_fragment : Parts → Parts
+uri_without_fragment uri = set_fragment uri None
 
 -- its text
-unfoldable pub printed : Parts → Text
-printed uri = serialize uri
+unfoldable pub uri_printed : Parts → Text
+uri_printed uri = serialize uri
 
 -- its fragment, percent-decoded (RFC 3986, section 2.1)
-abbrev pub decoded_fragment : Parts → Text
-decoded_fragment uri = percent_decode (unwrap_or uri.fragment [])
+abbrev pub uri_fragment_decoded : Parts → Text
+uri_fragment_decoded uri = percent_decode (unwrap_or uri.fragment [])
 
 -- the pointer that a fragment is (RFC 6901, section 6); none where it is a name, or no text
 abbrev pub fragment_pointer : Parts → Option Tokens
-fragment_pointer uri = if is_utf8 (decoded_fragment uri) then pointer_of (decoded_fragment uri) else None
+fragment_pointer uri = if is_utf8 (uri_fragment_decoded uri) then pointer_of (uri_fragment_decoded uri) else None

@@ -1,4 +1,9 @@
 -- What only private functions speak of: no public clause cites it.
 pub mod Back
+pub mod Copied
+pub mod First
 pub mod HasSeen
+pub mod Lengths
+pub mod Local
 pub mod Pushed
+pub mod Table

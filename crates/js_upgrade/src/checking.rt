@@ -4,21 +4,23 @@ ghost use Rattle.js_doc.specs.Seen.{value_of};
 ghost use Rattle.js_upgrade.specs.Fault.{contained_fault, documents_fault, fault_among, in_document, names_fault};
 ghost use Rattle.js_upgrade.specs.Fault.{number_fault, references_fault, repeated_fault, root_fault, source_fault};
 ghost use Rattle.js_upgrade.specs.Fault.{uris_fault};
-ghost use Rattle.js_upgrade.specs.Seen.{found_of, resource_of, source_of};
+ghost use Rattle.js_upgrade.specs.Seen.{found_of, source_of};
+ghost use Rattle.js_upgrade.specs.code.Table.{all_of};
 
-use crate::documents::{Source, source_dialect};
+use crate::documents::{SourceDocument, source_dialect};
 use crate::fault::{Pass, UpgradeFault, UpgradeFaultKind, of_document};
-use crate::finding::{Found, at_keyword, fault_in};
-use crate::holding::Holding;
+use crate::finding::{FoundFault, at_keyword, fault_in};
+use crate::holding::SchemaHolding;
 use crate::kinds::dialect_kind;
-use crate::resources::Resource;
-use crate::uri::printed;
+use crate::resource_table::ResourceTable;
+use crate::scope::{Scope, number_here};
+use crate::uri::uri_printed;
 use js_doc::{Doc, Memory, Pointer};
 use std::alloc::Global;
 use std::collections::BTreeSet;
 
 /// No more documents are upgraded together.
-const MOST_DOCUMENTS: usize = 1_000;
+const DOCUMENT_LIMIT: usize = 1_000;
 
 /// The first fault.
 ///
@@ -26,10 +28,10 @@ const MOST_DOCUMENTS: usize = 1_000;
 /// `Memory`.
 pub(crate) fn fault_among(
     alloc: Global,
-    resources: &[Resource],
-    sources: &[Source],
+    resources: &ResourceTable<'_>,
+    sources: &[SourceDocument],
 ) -> Result<Option<UpgradeFault>, Memory>
-    ensures { IfOk result (λ f. f ≡ fault_among (map resource_of resources.now) (map source_of sources.now)) }
+    ensures { IfOk result (λ f. f ≡ fault_among (all_of resources.now) (map source_of sources.now)) }
 {
     match number_fault(alloc, sources.len()) {
         Some(fault) => Ok(Some(fault)),
@@ -39,10 +41,10 @@ pub(crate) fn fault_among(
 
 fn names_fault(
     alloc: Global,
-    resources: &[Resource],
-    sources: &[Source],
+    resources: &ResourceTable<'_>,
+    sources: &[SourceDocument],
 ) -> Result<Option<UpgradeFault>, Memory>
-    ensures { IfOk result (λ f. f ≡ names_fault (map resource_of resources.now) (map source_of sources.now)) }
+    ensures { IfOk result (λ f. f ≡ names_fault (all_of resources.now) (map source_of sources.now)) }
 {
     match documents_fault(alloc, Pass::Names, resources, sources)? {
         Some(fault) => Ok(Some(fault)),
@@ -52,10 +54,10 @@ fn names_fault(
 
 fn uris_fault(
     alloc: Global,
-    resources: &[Resource],
-    sources: &[Source],
+    resources: &ResourceTable<'_>,
+    sources: &[SourceDocument],
 ) -> Result<Option<UpgradeFault>, Memory>
-    ensures { IfOk result (λ f. f ≡ uris_fault (map resource_of resources.now) (map source_of sources.now)) }
+    ensures { IfOk result (λ f. f ≡ uris_fault (all_of resources.now) (map source_of sources.now)) }
 {
     match repeated_fault(alloc, sources)? {
         Some(fault) => Ok(Some(fault)),
@@ -65,10 +67,10 @@ fn uris_fault(
 
 fn references_fault(
     alloc: Global,
-    resources: &[Resource],
-    sources: &[Source],
+    resources: &ResourceTable<'_>,
+    sources: &[SourceDocument],
 ) -> Result<Option<UpgradeFault>, Memory>
-    ensures { IfOk result (λ f. f ≡ references_fault (map resource_of resources.now) (map source_of sources.now)) }
+    ensures { IfOk result (λ f. f ≡ references_fault (all_of resources.now) (map source_of sources.now)) }
 {
     match documents_fault(alloc, Pass::References, resources, sources)? {
         Some(fault) => Ok(Some(fault)),
@@ -79,10 +81,10 @@ fn references_fault(
 // Of each `contains` that would evaluate, where a schema has `unevaluatedItems`.
 fn contained_fault(
     alloc: Global,
-    resources: &[Resource],
-    sources: &[Source],
+    resources: &ResourceTable<'_>,
+    sources: &[SourceDocument],
 ) -> Result<Option<UpgradeFault>, Memory>
-    ensures { IfOk result (λ f. f ≡ contained_fault (map resource_of resources.now) (map source_of sources.now)) }
+    ensures { IfOk result (λ f. f ≡ contained_fault (all_of resources.now) (map source_of sources.now)) }
 {
     match documents_fault(alloc, Pass::Unevaluated, resources, sources)? {
         Some(_) => documents_fault(alloc, Pass::Contained, resources, sources),
@@ -93,19 +95,19 @@ fn contained_fault(
 fn number_fault(alloc: Global, documents: usize) -> Option<UpgradeFault>
     ensures { result ≡ number_fault documents }
 {
-    if MOST_DOCUMENTS < documents {
-        Some(of_document(alloc, MOST_DOCUMENTS, UpgradeFaultKind::TooManyDocuments))
+    if DOCUMENT_LIMIT < documents {
+        Some(of_document(alloc, DOCUMENT_LIMIT, UpgradeFaultKind::TooManyDocuments))
     } else {
         None
     }
 }
 
-fn repeated_fault(alloc: Global, sources: &[Source]) -> Result<Option<UpgradeFault>, Memory>
+fn repeated_fault(alloc: Global, sources: &[SourceDocument]) -> Result<Option<UpgradeFault>, Memory>
     ensures { IfOk result (λ f. f ≡ repeated_fault [] 0 (map source_of sources.now)) }
 {
     let mut seen: BTreeSet<&str> = BTreeSet::new(alloc);
     for i in 0..sources.len() {
-        if !seen.insert(printed(&sources[i].uri))? {
+        if !seen.insert(uri_printed(&sources[i].uri))? {
             return Ok(Some(of_document(alloc, i, UpgradeFaultKind::DuplicateUri)));
         }
     }
@@ -115,11 +117,11 @@ fn repeated_fault(alloc: Global, sources: &[Source]) -> Result<Option<UpgradeFau
 fn documents_fault(
     alloc: Global,
     pass: Pass,
-    resources: &[Resource],
-    sources: &[Source],
+    resources: &ResourceTable<'_>,
+    sources: &[SourceDocument],
 ) -> Result<Option<UpgradeFault>, Memory>
     ensures { IfOk result
-        (λ f. f ≡ documents_fault pass (map resource_of resources.now) 0 (map source_of sources.now)) }
+        (λ f. f ≡ documents_fault pass (all_of resources.now) 0 (map source_of sources.now)) }
 {
     for i in 0..sources.len() {
         if let Some(found) = source_fault(alloc, pass, resources, &sources[i])? {
@@ -132,29 +134,35 @@ fn documents_fault(
 fn source_fault(
     alloc: Global,
     pass: Pass,
-    resources: &[Resource],
-    source: &Source,
-) -> Result<Option<Found>, Memory>
+    resources: &ResourceTable<'_>,
+    source: &SourceDocument,
+) -> Result<Option<FoundFault>, Memory>
     ensures { IfOk result (λ f. option_map found_of f
-        ≡ source_fault pass (map resource_of resources.now) (source_of source.now)) }
+        ≡ source_fault pass (all_of resources.now) (source_of source.now)) }
 {
     match source_dialect(source) {
-        Some(dialect) => fault_in(
-            alloc,
-            pass,
-            resources,
-            Holding::One,
-            dialect,
-            &source.uri,
-            &source.root,
-        ),
+        Some(dialect) => {
+            let scope = Scope {
+                resources,
+                base: &source.uri,
+                here: number_here(resources, &source.uri)?,
+            };
+            fault_in(
+                alloc,
+                pass,
+                scope,
+                SchemaHolding::One,
+                dialect,
+                &source.root,
+            )
+        }
         None => root_fault(alloc, &source.root),
     }
 }
 
 // Of a document whose dialect isn't known.
 #[tactic(auto, using(crate::proofs::Gathered::gathering_rules))]
-fn root_fault(alloc: Global, root: &Doc) -> Result<Option<Found>, Memory>
+fn root_fault(alloc: Global, root: &Doc) -> Result<Option<FoundFault>, Memory>
     ensures { IfOk result (λ f. option_map found_of f ≡ root_fault (value_of root.now)) }
 {
     match root {
@@ -164,7 +172,7 @@ fn root_fault(alloc: Global, root: &Doc) -> Result<Option<Found>, Memory>
 }
 
 // The way back, from its end on.
-fn in_document(alloc: Global, document: usize, found: &Found) -> Result<UpgradeFault, Memory>
+fn in_document(alloc: Global, document: usize, found: &FoundFault) -> Result<UpgradeFault, Memory>
     ensures { IfOk result (λ f. f ≡ in_document document (found_of found.now)) }
 {
     let tokens = found.back.tokens();

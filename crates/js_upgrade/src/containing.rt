@@ -2,7 +2,8 @@
 ghost use Rattle.std.specs.Prelude.{◌≡◌, OnOk, IfOk, option_map};
 ghost use Rattle.js_doc.specs.Members.{has_name};
 ghost use Rattle.js_doc.specs.Seen.{value_of};
-ghost use Rattle.js_upgrade.specs.Schema.{contains_upgraded, counted, holder, negation, put_all, some_value};
+ghost use Rattle.js_upgrade.specs.Schema.{contains_upgraded, contains_with_limits, holder, negation, put_all};
+ghost use Rattle.js_upgrade.specs.Schema.{some_value};
 
 use crate::gathering::put_one;
 use js_doc::{Doc, Items, Members, Memory};
@@ -20,8 +21,8 @@ pub(crate) fn put_contains(
 ) -> Result<(), Memory>
     ensures { OnOk result (among.new ≡ put_all (contains_upgraded siblings.now (value_of value)) among.old) }
 {
-    let counted = counted(alloc, siblings, value)?;
-    let negated = negation(alloc, counted)?;
+    let contains_with_limits = contains_with_limits(alloc, siblings, value)?;
+    let negated = negation(alloc, contains_with_limits)?;
     let mut schemas = Vec::new(alloc);
     schemas.push(negation(alloc, negated)?)?;
     put_one(
@@ -65,8 +66,8 @@ fn negation(alloc: Global, schema: Doc) -> Result<Doc, Memory>
 
 // With the limits beside it.
 #[tactic(auto, using(crate::proofs::Gathered::gathering_rules))]
-fn counted(alloc: Global, siblings: &Members, value: Doc) -> Result<Doc, Memory>
-    ensures { IfOk result (λ d. value_of d ≡ counted siblings.now (value_of value)) }
+fn contains_with_limits(alloc: Global, siblings: &Members, value: Doc) -> Result<Doc, Memory>
+    ensures { IfOk result (λ d. value_of d ≡ contains_with_limits siblings.now (value_of value)) }
 {
     let mut keywords = Members::new(alloc);
     put_one(alloc, &mut keywords, "contains", value)?;

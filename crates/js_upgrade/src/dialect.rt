@@ -1,6 +1,6 @@
 //! The dialects, and the URIs that name them.
 ghost use Rattle.std.specs.Prelude.{◌≡◌, option_map};
-ghost use Rattle.js_upgrade.specs.Dialect.{after, dialect_named, is_before, rank, version_named};
+ghost use Rattle.js_upgrade.specs.Dialect.{after_prefix, dialect_named, is_before, draft_number, version_named};
 
 /// A draft of JSON Schema.
 #[derive(Clone, Copy, Debug, PartialEq, Eq)]
@@ -21,12 +21,12 @@ pub enum Dialect {
 
 impl Dialect {
     /// The dialect that a URI names, as `$schema` names it, or None where it names none of the six.
-    pub fn named(uri: &str) -> Option<Dialect>
+    pub fn of_uri(uri: &str) -> Option<Dialect>
         ensures { result ≡ dialect_named uri.now }
     {
-        match after("https://json-schema.org/draft", uri) {
+        match after_prefix("https://json-schema.org/draft", uri) {
             Some(version) => version_named(version),
-            None => version_named(after("http://json-schema.org/draft", uri)?),
+            None => version_named(after_prefix("http://json-schema.org/draft", uri)?),
         }
     }
 
@@ -34,11 +34,11 @@ impl Dialect {
     pub fn is_before(self, other: Dialect) -> bool
         ensures { result ≡ is_before self other }
     {
-        self.rank() < other.rank()
+        self.draft_number() < other.draft_number()
     }
 
-    fn rank(self) -> u8
-        ensures { result ≡ rank self }
+    fn draft_number(self) -> u8
+        ensures { result ≡ draft_number self }
     {
         match self {
             Dialect::Draft03 => 0,
@@ -52,8 +52,8 @@ impl Dialect {
 }
 
 // What stands behind the prefix.
-fn after<'t>(prefix: &str, text: &'t str) -> Option<&'t str>
-    ensures { option_map (λ t. t.now) result ≡ after prefix.now text.now }
+pub(crate) fn after_prefix<'t>(prefix: &str, text: &'t str) -> Option<&'t str>
+    ensures { option_map (λ t. t.now) result ≡ after_prefix prefix.now text.now }
 {
     text.strip_prefix(prefix)
 }

@@ -1,14 +1,14 @@
 //! A document, whose root names its dialect.
 ghost use Rattle.std.specs.Prelude.{◌≡◌, [], ◌∷◌, IfErr, IfOk, Some, codes, option_map};
 ghost use Rattle.js_doc.specs.Seen.{value_of};
-ghost use Rattle.js_upgrade.specs.Fault.{dialect_kind, document_fault, root_kind, IsFaultOf, IsStoppedBy};
+ghost use Rattle.js_upgrade.specs.Fault.{dialect_kind, document_fault, root_kind, IsUpgradeFault, IsStoppedBy};
 ghost use Rattle.js_upgrade.specs.Upgrade.{dialect_found, document_dialect, document_upgraded, root_upgraded};
 ghost use Rattle.js_upgrade.specs.Upgrade.{schema_uri, with_schema_uri};
 
 use crate::dialect::Dialect;
 use crate::fault::{Stop, UpgradeFault, UpgradeFaultKind, fault_of};
 use crate::gathering::put_one;
-use crate::holding::Holding;
+use crate::holding::SchemaHolding;
 use crate::kinds::no_dialect;
 use crate::schema::dialect_in;
 use crate::walking::upgraded;
@@ -22,7 +22,7 @@ use std::alloc::Global;
 /// `UnknownDialect` or `BadKeyword`, at the root's `$schema`; else `Memory`. The fault's document is 0.
 pub fn upgrade(alloc: Global, assumed: Dialect, document: &Doc) -> Result<Doc, UpgradeFault>
     ensures ok { IfOk result (λ d. document_upgraded assumed (value_of document.now) ≡ Some (value_of d)) }
-    ensures err { IfErr result (IsFaultOf (document_fault (value_of document.now))) }
+    ensures err { IfErr result (IsUpgradeFault (document_fault (value_of document.now))) }
 {
     match document_upgraded(alloc, assumed, document) {
         Ok(upgraded) => Ok(upgraded),
@@ -101,7 +101,7 @@ fn dialect_found(assumed: Dialect, found: Option<&Doc>) -> Option<Dialect>
 pub(crate) fn root_upgraded(alloc: Global, dialect: Dialect, root: &Doc) -> Result<Doc, Memory>
     ensures { IfOk result (λ d. value_of d ≡ root_upgraded dialect (value_of root.now)) }
 {
-    let value = upgraded(alloc, Holding::One, dialect, root)?;
+    let value = upgraded(alloc, SchemaHolding::One, dialect, root)?;
     if dialect.is_before(Dialect::Draft2020) {
         with_schema_uri(alloc, value)
     } else {

@@ -1,26 +1,32 @@
 //! Documents that are upgraded together: a reference of one may lead into another.
 ghost use Rattle.std.specs.Prelude.{◌≡◌, IfErr, IfOk, OnOk, None, Some, ◌++◌, map};
 ghost use Rattle.js_doc.specs.Seen.{value_of};
+ghost use Rattle.js_upgrade.specs.Copies.{sources_with};
 ghost use Rattle.js_upgrade.specs.Documents.{all_resources, all_upgraded, source_dialect};
-ghost use Rattle.js_upgrade.specs.Documents.{source_resources, upgraded_among};
-ghost use Rattle.js_upgrade.specs.Fault.{first_fault, IsFaultOf, IsStoppedBy};
-ghost use Rattle.js_upgrade.specs.Seen.{resource_of, source_of};
+ghost use Rattle.js_upgrade.specs.Documents.{source_resources, upgraded_among, upgraded_with};
+ghost use Rattle.js_upgrade.specs.Fault.{fault_with, first_fault, IsUpgradeFault, IsStoppedBy};
+ghost use Rattle.js_upgrade.specs.Seen.{copies_seen, resource_seen, source_of};
+ghost use Rattle.js_upgrade.specs.code.Table.{all_of};
 
 use crate::checking::fault_among;
+use crate::copies::{copies_at, copies_of, has_some, sources_with};
 use crate::dialect::Dialect;
 use crate::document::{document_dialect, root_upgraded};
 use crate::fault::{Stop, UpgradeFault, fault_of};
-use crate::holding::Holding;
+use crate::holding::SchemaHolding;
 use crate::recursion::{anchored, has_recursion};
 use crate::reference::relocated;
-use crate::resources::{Resource, push_resource, push_resources};
-use js_doc::{Doc, Memory};
+use crate::resource_table::{ResourceTable, table_of};
+use crate::resources::{Resource, push_document_resources};
+use crate::scope::{Scope, number_here};
+use crate::uncopied::in_original;
+use js_doc::{Doc, Members, Memory};
 use std::alloc::Global;
 use url::Url;
 
 /// A document, its URI without a fragment, and the dialect that is assumed where it names none.
 #[derive(Drop)]
-pub struct Source {
+pub struct SourceDocument {
     pub uri: Url,
     pub assumed: Dialect,
     pub root: Doc,
@@ -35,10 +41,10 @@ pub struct Source {
 /// (`$recursiveRef`), and `BadKeyword` (`contains`, `$dynamicAnchor`). A schema comes before those that it holds, and
 /// those by name or index ascending. `Memory` may come at any point; its document is 0, and its place the empty
 /// pointer.
-pub fn upgrade_all(alloc: Global, sources: &[Source]) -> Result<Vec<Doc>, UpgradeFault>
+pub fn upgrade_all(alloc: Global, sources: &[SourceDocument]) -> Result<Vec<Doc>, UpgradeFault>
     ensures ok { IfOk result (λ v. all_upgraded (map source_of sources.now) ≡ Some (map value_of v.items)) }
     ensures clear { OnOk result (first_fault (map source_of sources.now) ≡ None) }
-    ensures err { IfErr result (IsFaultOf (first_fault (map source_of sources.now))) }
+    ensures err { IfErr result (IsUpgradeFault (first_fault (map source_of sources.now))) }
 {
     match all_upgraded(alloc, sources) {
         Ok(documents) => Ok(documents),
@@ -46,32 +52,76 @@ pub fn upgrade_all(alloc: Global, sources: &[Source]) -> Result<Vec<Doc>, Upgrad
     }
 }
 
-fn all_upgraded(alloc: Global, sources: &[Source]) -> Result<Vec<Doc>, Stop>
+fn all_upgraded(alloc: Global, sources: &[SourceDocument]) -> Result<Vec<Doc>, Stop>
     ensures ok { IfOk result (λ v. all_upgraded (map source_of sources.now) ≡ Some (map value_of v.items)) }
     ensures clear { OnOk result (first_fault (map source_of sources.now) ≡ None) }
     ensures err { IfErr result (IsStoppedBy (first_fault (map source_of sources.now))) }
 {
-    let resources = all_resources(alloc, sources)?;
-    match fault_among(alloc, resources.as_slice(), sources)? {
-        Some(fault) => Err(Stop::Fault(fault)),
-        None => Ok(upgraded_clear(alloc, resources.as_slice(), sources)?),
+    let found = copies_of(alloc, sources)?;
+    let copies = found.as_slice();
+    match upgraded_copied(alloc, copies, sources) {
+        Ok(documents) => Ok(documents),
+        Err(Stop::Fault(fault)) => Err(Stop::Fault(in_original(alloc, copies, sources, fault)?)),
+        Err(Stop::Memory) => Err(Stop::Memory),
     }
 }
 
-// Of documents that have no fault.
+// With their copies.
+fn upgraded_copied(
+    alloc: Global,
+    copies: &[Members],
+    sources: &[SourceDocument],
+) -> Result<Vec<Doc>, Stop>
+    ensures ok { IfOk result (λ v. upgraded_with copies.now (sources_with copies.now (map source_of sources.now))
+        ≡ Some (map value_of v.items)) }
+    ensures clear { OnOk result
+        (fault_with copies.now (sources_with copies.now (map source_of sources.now)) ≡ None) }
+    ensures err { IfErr result
+        (IsStoppedBy (fault_with copies.now (sources_with copies.now (map source_of sources.now)))) }
+{
+    if has_some(copies) {
+        let copied = sources_with(alloc, copies, sources)?;
+        upgraded_with(alloc, copies, copied.as_slice())
+    } else {
+        upgraded_with(alloc, copies, sources)
+    }
+}
+
+// Of documents that have these copies.
+fn upgraded_with(
+    alloc: Global,
+    copies: &[Members],
+    sources: &[SourceDocument],
+) -> Result<Vec<Doc>, Stop>
+    ensures ok { IfOk result (λ v. upgraded_with copies.now (map source_of sources.now)
+        ≡ Some (map value_of v.items)) }
+    ensures clear { OnOk result (fault_with copies.now (map source_of sources.now) ≡ None) }
+    ensures err { IfErr result (IsStoppedBy (fault_with copies.now (map source_of sources.now))) }
+{
+    let resources = all_resources(alloc, copies, sources)?;
+    let table = table_of(alloc, resources)?;
+    match fault_among(alloc, &table, sources)? {
+        Some(fault) => Err(Stop::Fault(fault)),
+        None => Ok(upgraded_clear(alloc, copies, &table, sources)?),
+    }
+}
+
+// Where they have no fault.
 fn upgraded_clear(
     alloc: Global,
-    resources: &[Resource],
-    sources: &[Source],
+    copies: &[Members],
+    resources: &ResourceTable<'_>,
+    sources: &[SourceDocument],
 ) -> Result<Vec<Doc>, Memory>
-    requires resources { map resource_of resources.now ≡ all_resources (map source_of sources.now) }
-    requires clear { first_fault (map source_of sources.now) ≡ None }
-    ensures { IfOk result (λ v. all_upgraded (map source_of sources.now) ≡ Some (map value_of v.items)) }
+    requires resources { all_of resources.now ≡ all_resources copies.now (map source_of sources.now) }
+    requires clear { fault_with copies.now (map source_of sources.now) ≡ None }
+    ensures { IfOk result (λ v. upgraded_with copies.now (map source_of sources.now)
+        ≡ Some (map value_of v.items)) }
 {
     each_upgraded(alloc, resources, sources)
 }
 
-pub(crate) fn source_dialect(source: &Source) -> Option<Dialect>
+pub(crate) fn source_dialect(source: &SourceDocument) -> Option<Dialect>
     ensures { result ≡ source_dialect (source_of source.now) }
 {
     document_dialect(source.assumed, &source.root)
@@ -79,11 +129,11 @@ pub(crate) fn source_dialect(source: &Source) -> Option<Dialect>
 
 fn each_upgraded(
     alloc: Global,
-    resources: &[Resource],
-    sources: &[Source],
+    resources: &ResourceTable<'_>,
+    sources: &[SourceDocument],
 ) -> Result<Vec<Doc>, Memory>
     ensures { IfOk result (λ v. map value_of v.items
-        ≡ map (upgraded_among (map resource_of resources.now)) (map source_of sources.now)) }
+        ≡ map (upgraded_among (all_of resources.now)) (map source_of sources.now)) }
 {
     let mut upgraded = Vec::with_capacity(alloc, sources.len())?;
     for source in sources {
@@ -92,19 +142,21 @@ fn each_upgraded(
     Ok(upgraded)
 }
 
-fn upgraded_among(alloc: Global, resources: &[Resource], source: &Source) -> Result<Doc, Memory>
-    ensures { IfOk result (λ d. value_of d ≡ upgraded_among (map resource_of resources.now) (source_of source.now)) }
+fn upgraded_among(
+    alloc: Global,
+    resources: &ResourceTable<'_>,
+    source: &SourceDocument,
+) -> Result<Doc, Memory>
+    ensures { IfOk result (λ d. value_of d ≡ upgraded_among (all_of resources.now) (source_of source.now)) }
 {
     match source_dialect(source) {
         Some(dialect) => {
-            let root = relocated(
-                alloc,
+            let scope = Scope {
                 resources,
-                Holding::One,
-                dialect,
-                &source.uri,
-                &source.root,
-            )?;
+                base: &source.uri,
+                here: number_here(resources, &source.uri)?,
+            };
+            let root = relocated(alloc, scope, SchemaHolding::One, dialect, &source.root)?;
             let upgraded = root_upgraded(alloc, dialect, &root)?;
             anchored(alloc, has_recursion(dialect, &source.root), upgraded)
         }
@@ -112,29 +164,32 @@ fn upgraded_among(alloc: Global, resources: &[Resource], source: &Source) -> Res
     }
 }
 
-fn all_resources(alloc: Global, sources: &[Source]) -> Result<Vec<Resource>, Memory>
-    ensures { IfOk result (λ v. map resource_of v.items ≡ all_resources (map source_of sources.now)) }
+fn all_resources<'d>(
+    alloc: Global,
+    copies: &'d [Members],
+    sources: &'d [SourceDocument],
+) -> Result<Vec<Resource<'d>>, Memory>
+    ensures { IfOk result (λ v. map resource_seen v.items ≡ all_resources copies.now (map source_of sources.now)) }
 {
     let mut found = Vec::new(alloc);
-    for source in sources {
-        push_source_resources(alloc, &mut found, source)?;
+    for i in 0..sources.len() {
+        push_source_resources(alloc, &mut found, copies_at(copies, i), &sources[i])?;
     }
     Ok(found)
 }
 
-fn push_source_resources(
+fn push_source_resources<'d>(
     alloc: Global,
-    out: &mut Vec<Resource>,
-    source: &Source,
+    out: &mut Vec<Resource<'d>>,
+    copies: Option<&'d Members>,
+    source: &'d SourceDocument,
 ) -> Result<(), Memory>
-    ensures { OnOk result (map resource_of out.new.items ≡ map resource_of out.old.items
-        ++ source_resources (source_of source.now)) }
+    ensures { OnOk result (map resource_seen out.new.items ≡ map resource_seen out.old.items
+        ++ source_resources (copies_seen copies.entry) (source_of source.now)) }
 {
     match source_dialect(source) {
         Some(dialect) => {
-            let root = source.root.copy(alloc)?;
-            push_resource(alloc, out, dialect, &source.uri, root)?;
-            push_resources(alloc, out, Holding::One, dialect, &source.uri, &source.root)
+            push_document_resources(alloc, out, copies, dialect, &source.uri, &source.root)
         }
         None => Ok(()),
     }

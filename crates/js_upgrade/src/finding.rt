@@ -5,26 +5,29 @@ ghost use Rattle.js_doc.specs.Value.{items, members, object};
 ghost use Rattle.js_upgrade.specs.Fault.{at_keyword, deeper, fault_in, item_fault, member_fault, other_fault};
 ghost use Rattle.js_upgrade.specs.Fault.{schema_fault};
 ghost use Rattle.js_upgrade.specs.Resource.{own_base};
-ghost use Rattle.js_upgrade.specs.Seen.{found_of, resource_of};
+ghost use Rattle.js_upgrade.specs.Seen.{found_of};
 ghost use Rattle.js_upgrade.specs.Upgrade.{holding_in, own_dialect};
-ghost use Rattle.js_upgrade.specs.declared.holding.Holding.TheVariants.{One};
+ghost use Rattle.js_upgrade.specs.code.Table.{all_of};
+ghost use Rattle.js_upgrade.specs.declared.holding.SchemaHolding.TheVariants.{One};
 
 use crate::dialect::Dialect;
 use crate::fault::{Pass, UpgradeFaultKind};
-use crate::holding::{Holding, holding_of};
+use crate::holding::{SchemaHolding, holding_by_change};
 use crate::kinds::{
     anchor_kind, contained_kind, contains_kind, declared_kind, own_kind, recursive_kind,
     reference_kind, unevaluated_kind,
 };
-use crate::resources::{Resource, identity};
-use crate::schema::{change_of, identifier, own_dialect};
+use crate::resource_table::ResourceTable;
+use crate::resources::identity;
+use crate::schema::{change_beside, hides, identifier, own_dialect};
+use crate::scope::{Scope, number_here};
 use js_doc::{Doc, Items, Members, Memory, Pointer};
 use std::alloc::Global;
 use url::Url;
 
 /// A fault in a document: the tokens on the way back from it, and its kind.
 #[derive(Drop)]
-pub(crate) struct Found {
+pub(crate) struct FoundFault {
     pub back: Pointer,
     pub kind: UpgradeFaultKind,
 }
@@ -37,21 +40,21 @@ pub(crate) fn at_keyword(
     alloc: Global,
     keyword: &str,
     kind: Option<UpgradeFaultKind>,
-) -> Result<Option<Found>, Memory>
+) -> Result<Option<FoundFault>, Memory>
     ensures { IfOk result (λ f. option_map found_of f ≡ at_keyword keyword.now kind) }
 {
     match kind {
         Some(kind) => {
             let mut back = Pointer::new(alloc);
             back.push(keyword)?;
-            Ok(Some(Found { back, kind }))
+            Ok(Some(FoundFault { back, kind }))
         }
         None => Ok(None),
     }
 }
 
 // The fault, behind one more token.
-fn deeper(found: Found, token: &str) -> Result<Found, Memory>
+fn deeper(found: FoundFault, token: &str) -> Result<FoundFault, Memory>
     ensures { IfOk result (λ f. found_of f ≡ deeper token.now (found_of found)) }
 {
     let mut found = found;
@@ -60,7 +63,7 @@ fn deeper(found: Found, token: &str) -> Result<Found, Memory>
 }
 
 // The fault, if there is one, behind one more token.
-fn deeper_by(found: Option<Found>, token: &str) -> Result<Option<Found>, Memory>
+fn deeper_by(found: Option<FoundFault>, token: &str) -> Result<Option<FoundFault>, Memory>
     ensures { IfOk result (λ f. option_map found_of f ≡ option_map (deeper token.now) (option_map found_of found)) }
 {
     match found {
@@ -70,7 +73,11 @@ fn deeper_by(found: Option<Found>, token: &str) -> Result<Option<Found>, Memory>
 }
 
 // The fault, if there is one, behind the index of an item.
-fn deeper_at(alloc: Global, found: Option<Found>, index: usize) -> Result<Option<Found>, Memory>
+fn deeper_at(
+    alloc: Global,
+    found: Option<FoundFault>,
+    index: usize,
+) -> Result<Option<FoundFault>, Memory>
     ensures { IfOk result (λ f. option_map found_of f
         ≡ option_map (deeper (decimal index)) (option_map found_of found)) }
 {
@@ -78,17 +85,18 @@ fn deeper_at(alloc: Global, found: Option<Found>, index: usize) -> Result<Option
     deeper_by(found, token.as_str())
 }
 
-// Of the schema itself.
+// Of the schema itself, whose own base is that of the scope.
 fn schema_fault(
     alloc: Global,
     pass: Pass,
-    resources: &[Resource],
+    scope: Scope<'_>,
     dialect: Dialect,
     base: &Url,
     siblings: &Members,
-) -> Result<Option<Found>, Memory>
+) -> Result<Option<FoundFault>, Memory>
+    requires { scope.base.now ≡ own_base (own_dialect dialect siblings.now) base.now siblings.now }
     ensures { IfOk result (λ f. option_map found_of f
-        ≡ schema_fault pass (map resource_of resources.now) dialect base.now siblings.now) }
+        ≡ schema_fault pass (all_of scope.entry.resources.now) dialect base.now siblings.now) }
 {
     let own = own_dialect(dialect, siblings);
     match pass {
@@ -100,15 +108,12 @@ fn schema_fault(
             at_keyword(alloc, identifier(own), own_kind(own, base, siblings)?)
         }
         Pass::References => {
-            let kind = match identity(own, base, siblings)? {
-                Some(below) => reference_kind(alloc, resources, &below, siblings.get("$ref"))?,
-                None => reference_kind(alloc, resources, base, siblings.get("$ref"))?,
-            };
+            let kind = reference_kind(alloc, scope, siblings.get("$ref"))?;
             let found = at_keyword(alloc, "$ref", kind)?;
             if found.is_some() {
                 return Ok(found);
             }
-            other_fault(alloc, resources, own, siblings)
+            other_fault(alloc, scope.resources, own, siblings)
         }
         Pass::Unevaluated => {
             at_keyword(alloc, "unevaluatedItems", unevaluated_kind(own, siblings))
@@ -120,12 +125,11 @@ fn schema_fault(
 // Of what isn't `$ref`, in a schema of this dialect.
 fn other_fault(
     alloc: Global,
-    resources: &[Resource],
+    resources: &ResourceTable<'_>,
     own: Dialect,
     siblings: &Members,
-) -> Result<Option<Found>, Memory>
-    ensures { IfOk result (λ f. option_map found_of f
-        ≡ other_fault (map resource_of resources.now) own siblings.now) }
+) -> Result<Option<FoundFault>, Memory>
+    ensures { IfOk result (λ f. option_map found_of f ≡ other_fault (all_of resources.now) own siblings.now) }
 {
     let recursive = at_keyword(alloc, "$recursiveRef", recursive_kind(own, siblings))?;
     if recursive.is_some() {
@@ -150,29 +154,28 @@ fn other_fault(
 pub(crate) fn fault_in(
     alloc: Global,
     pass: Pass,
-    resources: &[Resource],
-    holding: Holding,
+    scope: Scope<'_>,
+    holding: SchemaHolding,
     dialect: Dialect,
-    base: &Url,
     value: &Doc,
-) -> Result<Option<Found>, Memory>
+) -> Result<Option<FoundFault>, Memory>
     ensures { IfOk result (λ f. option_map found_of f
-        ≡ fault_in pass (map resource_of resources.now) holding dialect base.now (value_of value.now)) }
+        ≡ fault_in pass (all_of scope.entry.resources.now) holding dialect scope.entry.base.now (value_of value.now)) }
 {
     match value {
         Doc::Members(members) => match holding {
-            Holding::One => fault_in_schema(alloc, pass, resources, dialect, base, members),
-            Holding::OneOrListed => fault_in_schema(alloc, pass, resources, dialect, base, members),
-            Holding::Named => fault_in_members(alloc, pass, resources, dialect, base, members),
-            Holding::Listed => Ok(None),
-            Holding::Nothing => Ok(None),
+            SchemaHolding::One => fault_in_schema(alloc, pass, scope, dialect, members),
+            SchemaHolding::OneOrListed => fault_in_schema(alloc, pass, scope, dialect, members),
+            SchemaHolding::Named => fault_in_members(alloc, pass, scope, dialect, members),
+            SchemaHolding::Listed => Ok(None),
+            SchemaHolding::Nothing => Ok(None),
         },
         Doc::List(items) => match holding {
-            Holding::Listed => fault_in_items(alloc, pass, resources, dialect, base, items),
-            Holding::OneOrListed => fault_in_items(alloc, pass, resources, dialect, base, items),
-            Holding::One => Ok(None),
-            Holding::Named => Ok(None),
-            Holding::Nothing => Ok(None),
+            SchemaHolding::Listed => fault_in_items(alloc, pass, scope, dialect, items),
+            SchemaHolding::OneOrListed => fault_in_items(alloc, pass, scope, dialect, items),
+            SchemaHolding::One => Ok(None),
+            SchemaHolding::Named => Ok(None),
+            SchemaHolding::Nothing => Ok(None),
         },
         _ => Ok(None),
     }
@@ -182,42 +185,66 @@ pub(crate) fn fault_in(
 fn fault_in_schema(
     alloc: Global,
     pass: Pass,
-    resources: &[Resource],
+    scope: Scope<'_>,
+    dialect: Dialect,
+    siblings: &Members,
+) -> Result<Option<FoundFault>, Memory>
+    ensures { IfOk result (λ f. option_map found_of f
+        ≡ fault_in pass (all_of scope.entry.resources.now) One dialect scope.entry.base.now
+        (object (members siblings.now))) }
+{
+    let own = own_dialect(dialect, siblings);
+    let found = identity(own, scope.base, siblings)?;
+    match found {
+        Some(below) => {
+            let inner = Scope {
+                resources: scope.resources,
+                base: &below,
+                here: number_here(scope.resources, &below)?,
+            };
+            fault_below(alloc, pass, inner, dialect, scope.base, siblings)
+        }
+        None => fault_below(alloc, pass, scope, dialect, scope.base, siblings),
+    }
+}
+
+// In a schema whose own base is that of the scope.
+#[cycle(faults)]
+fn fault_below(
+    alloc: Global,
+    pass: Pass,
+    scope: Scope<'_>,
     dialect: Dialect,
     base: &Url,
     siblings: &Members,
-) -> Result<Option<Found>, Memory>
+) -> Result<Option<FoundFault>, Memory>
+    requires { scope.base.now ≡ own_base (own_dialect dialect siblings.now) base.now siblings.now }
     ensures { IfOk result (λ f. option_map found_of f
-        ≡ fault_in pass (map resource_of resources.now) One dialect base.now (object (members siblings.now))) }
+        ≡ fault_in pass (all_of scope.entry.resources.now) One dialect base.now (object (members siblings.now))) }
 {
-    let here = schema_fault(alloc, pass, resources, dialect, base, siblings)?;
+    let here = schema_fault(alloc, pass, scope, dialect, base, siblings)?;
     if here.is_some() {
         return Ok(here);
     }
-    let own = own_dialect(dialect, siblings);
-    let found = identity(own, base, siblings)?;
-    match found {
-        Some(below) => fault_in_keywords(alloc, pass, resources, own, &below, siblings),
-        None => fault_in_keywords(alloc, pass, resources, own, base, siblings),
-    }
+    fault_in_keywords(alloc, pass, scope, own_dialect(dialect, siblings), siblings)
 }
 
 #[cycle(faults)]
 fn fault_in_keywords(
     alloc: Global,
     pass: Pass,
-    resources: &[Resource],
+    scope: Scope<'_>,
     dialect: Dialect,
-    base: &Url,
     siblings: &Members,
-) -> Result<Option<Found>, Memory>
-    ensures { IfOk result (λ f. option_map found_of f ≡ member_fault pass (map resource_of resources.now)
-        (holding_in dialect siblings.now) dialect base.now (members siblings.now)) }
+) -> Result<Option<FoundFault>, Memory>
+    ensures { IfOk result (λ f. option_map found_of f ≡ member_fault pass (all_of scope.entry.resources.now)
+        (holding_in dialect siblings.now) dialect scope.entry.base.now (members siblings.now)) }
 {
+    let hidden = hides(dialect, siblings);
     for (name, argument) in siblings.pairs() {
         let key = name.as_str();
-        let holding = holding_of(change_of(dialect, siblings, key));
-        let found = fault_in(alloc, pass, resources, holding, dialect, base, argument)?;
+        let holding = holding_by_change(change_beside(hidden, dialect, key));
+        let found = fault_in(alloc, pass, scope, holding, dialect, argument)?;
         if found.is_some() {
             return deeper_by(found, key);
         }
@@ -229,16 +256,16 @@ fn fault_in_keywords(
 fn fault_in_members(
     alloc: Global,
     pass: Pass,
-    resources: &[Resource],
+    scope: Scope<'_>,
     dialect: Dialect,
-    base: &Url,
     schemas: &Members,
-) -> Result<Option<Found>, Memory>
+) -> Result<Option<FoundFault>, Memory>
     ensures { IfOk result (λ f. option_map found_of f
-        ≡ member_fault pass (map resource_of resources.now) (λ name. One) dialect base.now (members schemas.now)) }
+        ≡ member_fault pass (all_of scope.entry.resources.now) (λ name. One) dialect scope.entry.base.now
+        (members schemas.now)) }
 {
     for (name, schema) in schemas.pairs() {
-        let found = fault_in(alloc, pass, resources, Holding::One, dialect, base, schema)?;
+        let found = fault_in(alloc, pass, scope, SchemaHolding::One, dialect, schema)?;
         if found.is_some() {
             return deeper_by(found, name.as_str());
         }
@@ -250,25 +277,16 @@ fn fault_in_members(
 fn fault_in_items(
     alloc: Global,
     pass: Pass,
-    resources: &[Resource],
+    scope: Scope<'_>,
     dialect: Dialect,
-    base: &Url,
     schemas: &Items,
-) -> Result<Option<Found>, Memory>
+) -> Result<Option<FoundFault>, Memory>
     ensures { IfOk result (λ f. option_map found_of f
-        ≡ item_fault pass (map resource_of resources.now) dialect base.now 0 (items schemas.now)) }
+        ≡ item_fault pass (all_of scope.entry.resources.now) dialect scope.entry.base.now 0 (items schemas.now)) }
 {
     let docs = schemas.as_slice();
     for i in 0..docs.len() {
-        let found = fault_in(
-            alloc,
-            pass,
-            resources,
-            Holding::One,
-            dialect,
-            base,
-            &docs[i],
-        )?;
+        let found = fault_in(alloc, pass, scope, SchemaHolding::One, dialect, &docs[i])?;
         if found.is_some() {
             return deeper_at(alloc, found, i);
         }

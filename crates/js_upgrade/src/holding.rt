@@ -1,12 +1,12 @@
 //! How the argument of a keyword holds schemas.
 ghost use Rattle.std.specs.Prelude.{◌≡◌};
-ghost use Rattle.js_upgrade.specs.Upgrade.{holding_of};
+ghost use Rattle.js_upgrade.specs.Upgrade.{holding_by_change};
 
 use crate::keyword::Change;
 
 /// How the argument of a keyword holds schemas.
 #[derive(Clone, Copy, Debug, PartialEq, Eq)]
-pub enum Holding {
+pub enum SchemaHolding {
     /// It is a schema.
     One,
     /// Its items are schemas.
@@ -20,17 +20,17 @@ pub enum Holding {
 }
 
 // How the argument of a keyword with this change holds schemas.
-pub(crate) fn holding_of(change: Change) -> Holding
-    ensures { result ≡ holding_of change }
+pub(crate) fn holding_by_change(change: Change) -> SchemaHolding
+    ensures { result ≡ holding_by_change change }
 {
     match change {
-        Change::HoldsOne | Change::AdditionalItems | Change::Contains => Holding::One,
-        Change::HoldsList => Holding::Listed,
+        Change::HoldsOne | Change::AdditionalItems | Change::Contains => SchemaHolding::One,
+        Change::HoldsList => SchemaHolding::Listed,
         Change::HoldsNamed | Change::Definitions | Change::Dependencies | Change::Properties =>
-            Holding::Named,
+            SchemaHolding::Named,
         Change::Items | Change::Types | Change::Disallowed | Change::Extended => {
-            Holding::OneOrListed
+            SchemaHolding::OneOrListed
         }
-        _ => Holding::Nothing,
+        _ => SchemaHolding::Nothing,
     }
 }

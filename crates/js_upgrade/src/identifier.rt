@@ -2,7 +2,8 @@
 ghost use Rattle.std.specs.Prelude.{◌≡◌, ◌++◌, IfOk, OnOk};
 ghost use Rattle.std.specs.List.{after_first, before_first, list_all};
 ghost use Rattle.js_doc.specs.Seen.{value_of};
-ghost use Rattle.js_upgrade.specs.Schema.{identifier_upgraded, is_mark, is_name, is_name_part, is_name_start, put_all};
+ghost use Rattle.js_upgrade.specs.Schema.{identifier_upgraded, is_mark, is_plain_name, is_name_part, is_name_start};
+ghost use Rattle.js_upgrade.specs.Schema.{put_all};
 ghost use Rattle.js_upgrade.specs.Schema.{some_name, some_uri};
 
 use crate::gathering::put_one;
@@ -65,7 +66,7 @@ fn put_uri(alloc: Global, among: &mut Members, uri: &str) -> Result<(), Memory>
 fn put_name(alloc: Global, among: &mut Members, name: &str) -> Result<(), Memory>
     ensures { OnOk result (among.new ≡ put_all (some_name name.now) among.old) }
 {
-    if !is_name(name.as_bytes()) {
+    if !is_plain_name(name.as_bytes()) {
         return Ok(());
     }
     let name = Text::from_str(alloc, name)?;
@@ -73,8 +74,8 @@ fn put_name(alloc: Global, among: &mut Members, name: &str) -> Result<(), Memory
 }
 
 // What `$anchor` may be.
-fn is_name(name: &[u8]) -> bool
-    ensures { result ≡ is_name name.now }
+fn is_plain_name(name: &[u8]) -> bool
+    ensures { result ≡ is_plain_name name.now }
 {
     match name.split_first() {
         Some((first, others)) => is_name_start(*first) && are_name_parts(others),

@@ -1,7 +1,7 @@
 //! What becomes of a keyword in 2020-12.
 ghost use Rattle.std.specs.Prelude.{◌≡◌};
-ghost use Rattle.js_upgrade.specs.Keyword.{applicator_change, assertion_change, change_in, core_change, in_2019};
-ghost use Rattle.js_upgrade.specs.Keyword.{since, until};
+ghost use Rattle.js_upgrade.specs.Keyword.{change_in, in_2019, since, before};
+ghost use Rattle.js_upgrade.specs.code.Lengths.{change_by_length, is_between, is_from, is_up_to};
 
 use crate::dialect::Dialect;
 
@@ -55,130 +55,165 @@ pub enum Change {
 }
 
 /// What becomes of the keyword with this name in the dialect.
+///
+/// The names are told apart by their lengths first: each keyword of each schema is looked up.
 pub fn change_in(dialect: Dialect, name: &str) -> Change
     ensures { result ≡ change_in dialect name.now }
 {
-    if let Some(change) = assertion_change(dialect, name) {
-        return change;
+    let len = name.len();
+    if len <= 4 {
+        return up_to_4(dialect, name).unwrap_or(Change::Stays);
     }
-    if let Some(change) = applicator_change(dialect, name) {
-        return change;
+    if len <= 7 {
+        return from_5_to_7(dialect, name).unwrap_or(Change::Stays);
     }
-    match core_change(dialect, name) {
-        Some(change) => change,
-        None => Change::Stays,
+    if len <= 10 {
+        return from_8_to_10(dialect, name).unwrap_or(Change::Stays);
     }
+    if len <= 13 {
+        return from_11_to_13(dialect, name).unwrap_or(Change::Stays);
+    }
+    from_14_on(dialect, name).unwrap_or(Change::Stays)
 }
 
-#[tactic(auto, unfolding(crate::specs::Keyword::core_change))]
-fn core_change(dialect: Dialect, name: &str) -> Option<Change>
-    ensures { result ≡ core_change dialect name.now }
+#[tactic(auto, unfolding(crate::specs::code::Lengths::change_by_length))]
+fn up_to_4(dialect: Dialect, name: &str) -> Option<Change>
+    ensures { result ≡ change_by_length (is_up_to 4) dialect name.now }
 {
     match name {
-        "$schema" | "$vocabulary" | "$dynamicAnchor" | "$dynamicRef" => {
-            Some(since(dialect, Dialect::Draft2020, Change::Asserts))
-        }
-        "$id" => Some(until(
+        "$id" => Some(before(
             dialect,
             Dialect::Draft06,
             Change::Goes,
-            until(
+            before(
                 dialect,
                 Dialect::Draft2019,
                 Change::Identifier,
                 Change::Asserts,
             ),
         )),
-        "id" => Some(until(dialect, Dialect::Draft06, Change::Identifier, Change::Stays)),
-        "$anchor" => Some(since(dialect, Dialect::Draft2019, Change::Asserts)),
+        "id" => Some(before(dialect, Dialect::Draft06, Change::Identifier, Change::Stays)),
         "$ref" => Some(Change::Refers),
-        "$recursiveRef" => { Some(in_2019(dialect, Change::Stays, Change::RecursiveReference)) }
-        "$recursiveAnchor" => Some(in_2019(dialect, Change::Stays, Change::RecursiveAnchor)),
-        "$defs" => Some(since(dialect, Dialect::Draft2019, Change::HoldsNamed)),
-        "definitions" => Some(until(
-            dialect,
-            Dialect::Draft2019,
-            Change::Definitions,
-            Change::HoldsNamed,
-        )),
+        "not" => Some(since(dialect, Dialect::Draft04, Change::HoldsOne)),
+        "if" | "then" | "else" => Some(since(dialect, Dialect::Draft07, Change::HoldsOne)),
+        "type" => Some(before(dialect, Dialect::Draft04, Change::Types, Change::Asserts)),
+        "enum" => Some(Change::Asserts),
         _ => None,
     }
 }
 
-#[tactic(auto, unfolding(crate::specs::Keyword::applicator_change))]
-fn applicator_change(dialect: Dialect, name: &str) -> Option<Change>
-    ensures { result ≡ applicator_change dialect name.now }
+#[tactic(auto, unfolding(crate::specs::code::Lengths::change_by_length))]
+fn from_5_to_7(dialect: Dialect, name: &str) -> Option<Change>
+    ensures { result ≡ change_by_length (is_between 5 7) dialect name.now }
 {
     match name {
+        "$schema" => Some(since(dialect, Dialect::Draft2020, Change::Asserts)),
+        "$anchor" => Some(since(dialect, Dialect::Draft2019, Change::Asserts)),
+        "$defs" => Some(since(dialect, Dialect::Draft2019, Change::HoldsNamed)),
         "allOf" | "anyOf" | "oneOf" => Some(since(dialect, Dialect::Draft04, Change::HoldsList)),
-        "not" => Some(since(dialect, Dialect::Draft04, Change::HoldsOne)),
-        "extends" => Some(until(dialect, Dialect::Draft04, Change::Extended, Change::Stays)),
-        "if" | "then" | "else" => Some(since(dialect, Dialect::Draft07, Change::HoldsOne)),
-        "dependencies" => Some(until(
-            dialect,
-            Dialect::Draft2019,
-            Change::Dependencies,
-            Change::Stays,
-        )),
-        "dependentSchemas" => Some(since(dialect, Dialect::Draft2019, Change::HoldsNamed)),
-        "items" => Some(until(dialect, Dialect::Draft2020, Change::Items, Change::HoldsOne)),
-        "additionalItems" => Some(until(
-            dialect,
-            Dialect::Draft2020,
-            Change::AdditionalItems,
-            Change::Stays,
-        )),
-        "prefixItems" => Some(since(dialect, Dialect::Draft2020, Change::HoldsList)),
+        "extends" => Some(before(dialect, Dialect::Draft04, Change::Extended, Change::Stays)),
+        "items" => Some(before(dialect, Dialect::Draft2020, Change::Items, Change::HoldsOne)),
+        "pattern" => Some(Change::Asserts),
+        "const" => Some(since(dialect, Dialect::Draft06, Change::Asserts)),
+        "maximum" => Some(before(dialect, Dialect::Draft06, Change::Maximum, Change::Asserts)),
+        "minimum" => Some(before(dialect, Dialect::Draft06, Change::Minimum, Change::Asserts)),
+        _ => None,
+    }
+}
+
+#[tactic(auto, unfolding(crate::specs::code::Lengths::change_by_length))]
+fn from_8_to_10(dialect: Dialect, name: &str) -> Option<Change>
+    ensures { result ≡ change_by_length (is_between 8 10) dialect name.now }
+{
+    match name {
         "contains" => Some(since(
             dialect,
             Dialect::Draft06,
             in_2019(dialect, Change::HoldsOne, Change::Contains),
         )),
-        "propertyNames" => Some(since(dialect, Dialect::Draft06, Change::HoldsOne)),
-        "properties" => Some(until(
+        "properties" => Some(before(
             dialect,
             Dialect::Draft04,
             Change::Properties,
             Change::HoldsNamed,
         )),
-        "patternProperties" => Some(Change::HoldsNamed),
-        "additionalProperties" => Some(Change::HoldsOne),
-        "unevaluatedItems" | "unevaluatedProperties" => {
-            Some(since(dialect, Dialect::Draft2019, Change::HoldsOne))
-        }
+        "disallow" => Some(before(dialect, Dialect::Draft04, Change::Disallowed, Change::Stays)),
+        "maxLength" | "minLength" | "maxItems" | "minItems" => Some(Change::Asserts),
+        "multipleOf" | "required" => Some(since(dialect, Dialect::Draft04, Change::Asserts)),
         _ => None,
     }
 }
 
-#[tactic(auto, unfolding(crate::specs::Keyword::assertion_change))]
-fn assertion_change(dialect: Dialect, name: &str) -> Option<Change>
-    ensures { result ≡ assertion_change dialect name.now }
+#[tactic(auto, unfolding(crate::specs::code::Lengths::change_by_length))]
+fn from_11_to_13(dialect: Dialect, name: &str) -> Option<Change>
+    ensures { result ≡ change_by_length (is_between 11 13) dialect name.now }
 {
     match name {
-        "type" => Some(until(dialect, Dialect::Draft04, Change::Types, Change::Asserts)),
-        "disallow" => Some(until(dialect, Dialect::Draft04, Change::Disallowed, Change::Stays)),
-        "enum" | "maxLength" | "minLength" | "pattern" | "maxItems" | "minItems" | "uniqueItems" =>
-            Some(Change::Asserts),
-        "const" | "exclusiveMaximum" | "exclusiveMinimum" => {
-            Some(since(dialect, Dialect::Draft06, Change::Asserts))
-        }
-        "multipleOf" | "maxProperties" | "minProperties" | "required" => {
-            Some(since(dialect, Dialect::Draft04, Change::Asserts))
-        }
-        "divisibleBy" => Some(until(dialect, Dialect::Draft04, Change::Divisor, Change::Stays)),
-        "maximum" => Some(until(dialect, Dialect::Draft06, Change::Maximum, Change::Asserts)),
-        "minimum" => Some(until(dialect, Dialect::Draft06, Change::Minimum, Change::Asserts)),
-        "maxContains" | "minContains" => {
-            Some(since(dialect, Dialect::Draft2020, Change::Asserts))
-        }
+        "$vocabulary" | "$dynamicRef" | "maxContains" | "minContains" => Some(since(
+            dialect,
+            Dialect::Draft2020,
+            Change::Asserts,
+        )),
+        "$recursiveRef" => Some(in_2019(dialect, Change::Stays, Change::RecursiveReference)),
+        "definitions" => Some(before(
+            dialect,
+            Dialect::Draft2019,
+            Change::Definitions,
+            Change::HoldsNamed,
+        )),
+        "dependencies" => Some(before(
+            dialect,
+            Dialect::Draft2019,
+            Change::Dependencies,
+            Change::Stays,
+        )),
+        "prefixItems" => Some(since(dialect, Dialect::Draft2020, Change::HoldsList)),
+        "propertyNames" => Some(since(dialect, Dialect::Draft06, Change::HoldsOne)),
+        "uniqueItems" => Some(Change::Asserts),
+        "maxProperties" | "minProperties" => Some(since(
+            dialect,
+            Dialect::Draft04,
+            Change::Asserts,
+        )),
+        "divisibleBy" => Some(before(dialect, Dialect::Draft04, Change::Divisor, Change::Stays)),
+        _ => None,
+    }
+}
+
+#[tactic(auto, unfolding(crate::specs::code::Lengths::change_by_length))]
+fn from_14_on(dialect: Dialect, name: &str) -> Option<Change>
+    ensures { result ≡ change_by_length (is_from 14) dialect name.now }
+{
+    match name {
+        "$dynamicAnchor" => Some(since(dialect, Dialect::Draft2020, Change::Asserts)),
+        "$recursiveAnchor" => Some(in_2019(dialect, Change::Stays, Change::RecursiveAnchor)),
+        "dependentSchemas" => Some(since(dialect, Dialect::Draft2019, Change::HoldsNamed)),
+        "additionalItems" => Some(before(
+            dialect,
+            Dialect::Draft2020,
+            Change::AdditionalItems,
+            Change::Stays,
+        )),
+        "patternProperties" => Some(Change::HoldsNamed),
+        "additionalProperties" => Some(Change::HoldsOne),
+        "unevaluatedItems" | "unevaluatedProperties" => Some(since(
+            dialect,
+            Dialect::Draft2019,
+            Change::HoldsOne,
+        )),
+        "exclusiveMaximum" | "exclusiveMinimum" => Some(since(
+            dialect,
+            Dialect::Draft06,
+            Change::Asserts,
+        )),
         "dependentRequired" => Some(since(dialect, Dialect::Draft2019, Change::Asserts)),
         _ => None,
     }
 }
 
 // One thing before a draft, and another from it on.
-fn until(dialect: Dialect, draft: Dialect, old: Change, new: Change) -> Change
-    ensures { result ≡ until dialect draft old new }
+fn before(dialect: Dialect, draft: Dialect, old: Change, new: Change) -> Change
+    ensures { result ≡ before dialect draft old new }
 {
     if dialect.is_before(draft) { old } else { new }
 }
@@ -187,17 +222,17 @@ fn until(dialect: Dialect, draft: Dialect, old: Change, new: Change) -> Change
 fn since(dialect: Dialect, draft: Dialect, new: Change) -> Change
     ensures { result ≡ since dialect draft new }
 {
-    until(dialect, draft, Change::Goes, new)
+    before(dialect, draft, Change::Goes, new)
 }
 
 // What 2019-09 alone has.
 fn in_2019(dialect: Dialect, other: Change, new: Change) -> Change
     ensures { result ≡ in_2019 dialect other new }
 {
-    until(
+    before(
         dialect,
         Dialect::Draft2019,
         other,
-        until(dialect, Dialect::Draft2020, new, other),
+        before(dialect, Dialect::Draft2020, new, other),
     )
 }

@@ -1,22 +1,27 @@
 //! What is wrong with a keyword of a schema.
-ghost use Rattle.std.specs.Prelude.{◌≡◌, IfOk, is_none, map, option_map, option_and_then};
+ghost use Rattle.std.specs.Prelude.{◌≡◌, IfOk, None, Some, is_none, option_map, option_and_then, if◌then◌else◌};
 ghost use Rattle.js_doc.specs.Seen.{value_of};
-ghost use Rattle.std.specs.List.{list_any};
 ghost use Rattle.js_upgrade.specs.Fault.{anchor_kind, contained_kind, contains_kind, contains_only, declared_kind};
 ghost use Rattle.js_upgrade.specs.Fault.{dialect_kind, has_recursive_name, unevaluated_kind};
 ghost use Rattle.js_upgrade.specs.Fault.{identifier_kind, joined_kind, no_dialect, own_kind, part_at, recursion_kind};
-ghost use Rattle.js_upgrade.specs.Fault.{recursive_kind, reference_kind, target, target_kind, unnamed};
-ghost use Rattle.js_upgrade.specs.Resource.{recurses};
-ghost use Rattle.js_upgrade.specs.Seen.{resource_of};
+ghost use Rattle.js_upgrade.specs.Fault.{recursive_kind, reference_kind, target_tokens, target_kind, unnamed};
+ghost use Rattle.js_upgrade.specs.Seen.{resource_seen};
+ghost use Rattle.js_upgrade.specs.Url.{uri_joined};
+ghost use Rattle.js_upgrade.specs.code.Table.{all_of};
+ghost use Rattle.js_upgrade.specs.declared.fault.UpgradeFaultKind.TheVariants.{Unresolved};
 
 use crate::containing::holder;
 use crate::dialect::Dialect;
 use crate::fault::UpgradeFaultKind;
-use crate::recursion::recurses;
-use crate::resources::{Resource, resource_named};
+use crate::resource_table::{ResourceTable, resource_named, resource_numbered};
+use crate::resources::Resource;
 use crate::schema::{dialect_in, hides, identifier, identifies, is_uri};
+use crate::scope::Scope;
 use crate::target::moved_in;
-use crate::uri::{LONGEST, fragment_pointer, joined, printed, without_fragment};
+use crate::uri::{
+    URI_LIMIT, fragment_pointer, local_fragment, pointer_in, uri_joined, uri_printed,
+    uri_without_fragment,
+};
 use js_doc::{Doc, Members, Memory, Pointer};
 use std::alloc::Global;
 use url::Url;
@@ -126,15 +131,15 @@ fn contains_only(own: Dialect) -> bool
 
 /// Of the schema's `$dynamicAnchor`, which may not have the name that `$recursiveAnchor` gets.
 pub(crate) fn anchor_kind(
-    resources: &[Resource],
+    resources: &ResourceTable<'_>,
     own: Dialect,
     siblings: &Members,
 ) -> Option<UpgradeFaultKind>
-    ensures { result ≡ anchor_kind (map resource_of resources.now) own siblings.now }
+    ensures { result ≡ anchor_kind (all_of resources.now) own siblings.now }
 {
     match own {
         Dialect::Draft2020 => {
-            if has_recursive_name(siblings.get("$dynamicAnchor")) && has_recursive(resources) {
+            if has_recursive_name(siblings.get("$dynamicAnchor")) && resources.recursive {
                 Some(UpgradeFaultKind::BadKeyword)
             } else {
                 None
@@ -151,18 +156,6 @@ fn has_recursive_name(found: Option<&Doc>) -> bool
         Some(Doc::Text(text)) => text.as_str() == "recursiveAnchor",
         _ => false,
     }
-}
-
-fn has_recursive(resources: &[Resource]) -> bool
-    ensures { result ≡ list_any recurses (map resource_of resources.now) }
-{
-    any_recurses(resources)
-}
-
-fn any_recurses(resources: &[Resource]) -> bool
-    ensures { result ≡ list_any (λ r. recurses (resource_of r)) resources.now }
-{
-    resources.iter().any(|resource| recurses(resource))
 }
 
 /// Of the schema's identifier, unless a reference hides it.
@@ -204,10 +197,10 @@ fn identifier_kind(base: &Url, found: Option<&Doc>) -> Result<Option<UpgradeFaul
 fn joined_kind(base: &Url, text: &str) -> Result<Option<UpgradeFaultKind>, Memory>
     ensures { IfOk result (λ k. k ≡ joined_kind base.now text.now) }
 {
-    if LONGEST < text.len() {
+    if URI_LIMIT < text.len() {
         return Ok(Some(UpgradeFaultKind::UriTooLong));
     }
-    match joined(base, text)? {
+    match uri_joined(base, text)? {
         Some(_) => Ok(None),
         None => Ok(Some(UpgradeFaultKind::BadId)),
     }
@@ -219,61 +212,85 @@ fn joined_kind(base: &Url, text: &str) -> Result<Option<UpgradeFaultKind>, Memor
 /// `Memory`.
 pub(crate) fn reference_kind(
     alloc: Global,
-    resources: &[Resource],
-    base: &Url,
+    scope: Scope<'_>,
     found: Option<&Doc>,
 ) -> Result<Option<UpgradeFaultKind>, Memory>
-    ensures { IfOk result (λ k. k ≡ reference_kind (map resource_of resources.now) base.now
+    ensures { IfOk result (λ k. k ≡ reference_kind (all_of scope.entry.resources.now) scope.entry.base.now
         (option_map (λ d. value_of d.now) found.entry)) }
 {
     match found {
         None => Ok(None),
         Some(Doc::Text(text)) => {
             let reference = text.as_str();
-            if LONGEST < reference.len() {
+            if URI_LIMIT < reference.len() {
                 return Ok(Some(UpgradeFaultKind::UriTooLong));
             }
-            let uri = joined(base, reference)?;
-            target_kind(alloc, resources, uri)
+            text_kind(alloc, scope, reference)
         }
         Some(_) => Ok(Some(UpgradeFaultKind::BadKeyword)),
     }
 }
 
-fn target_kind(
+fn text_kind(
     alloc: Global,
-    resources: &[Resource],
-    uri: Option<Url>,
+    scope: Scope<'_>,
+    reference: &str,
 ) -> Result<Option<UpgradeFaultKind>, Memory>
-    ensures { IfOk result (λ k. k ≡ target_kind (map resource_of resources.now) uri) }
+    ensures { IfOk result (λ k. k
+        ≡ target_kind (all_of scope.entry.resources.now) (uri_joined scope.entry.base.now reference.now)) }
 {
-    match uri {
-        None => Ok(Some(UpgradeFaultKind::BadReference)),
-        Some(uri) => {
-            if leads_nowhere(alloc, resources, uri)? {
-                Ok(Some(UpgradeFaultKind::Unresolved))
-            } else {
-                Ok(None)
-            }
+    match local_fragment(reference) {
+        Some(fragment) => {
+            let pointer = pointer_in(alloc, fragment)?;
+            let here = resource_numbered(scope.resources, scope.here);
+            Ok(unresolved(has_no_part(alloc, &pointer, here)?))
         }
+        None => target_kind(alloc, scope.resources, uri_joined(scope.base, reference)?),
     }
 }
 
-fn leads_nowhere(alloc: Global, resources: &[Resource], uri: Url) -> Result<bool, Memory>
-    ensures { IfOk result (λ b. b ≡ is_none (target (map resource_of resources.now) uri)) }
+fn unresolved(nowhere: bool) -> Option<UpgradeFaultKind>
+    ensures { result ≡ (if nowhere then Some Unresolved else None) }
+{
+    if nowhere {
+        Some(UpgradeFaultKind::Unresolved)
+    } else {
+        None
+    }
+}
+
+fn target_kind(
+    alloc: Global,
+    resources: &ResourceTable<'_>,
+    uri: Option<Url>,
+) -> Result<Option<UpgradeFaultKind>, Memory>
+    ensures { IfOk result (λ k. k ≡ target_kind (all_of resources.now) uri) }
+{
+    match uri {
+        None => Ok(Some(UpgradeFaultKind::BadReference)),
+        Some(uri) => Ok(unresolved(leads_nowhere(alloc, resources, uri)?)),
+    }
+}
+
+fn leads_nowhere(alloc: Global, resources: &ResourceTable<'_>, uri: Url) -> Result<bool, Memory>
+    ensures { IfOk result (λ b. b ≡ is_none (target_tokens (all_of resources.now) uri)) }
 {
     let pointer = fragment_pointer(alloc, &uri)?;
-    let bare = without_fragment(uri)?;
-    has_no_part(alloc, &pointer, resource_named(resources, printed(&bare)))
+    let bare = uri_without_fragment(uri)?;
+    has_no_part(
+        alloc,
+        &pointer,
+        resource_named(resources, uri_printed(&bare)),
+    )
 }
 
 fn has_no_part(
     alloc: Global,
     pointer: &Option<Pointer>,
-    resource: Option<&Resource>,
+    resource: Option<&Resource<'_>>,
 ) -> Result<bool, Memory>
     ensures { IfOk result (λ b. b ≡ is_none (option_and_then (part_at pointer.now)
-        (option_map (λ r. resource_of r.now) resource.entry))) }
+        (option_map (λ r. resource_seen r.now) resource.entry))) }
 {
     match resource {
         Some(resource) => match pointer {

@@ -1,9 +1,14 @@
 //! Documents of older drafts of JSON Schema, made into documents of 2020-12.
 #![tactic(auto)]
 
+mod apart;
 mod becoming;
 mod checking;
 mod containing;
+mod copied_original;
+mod copies;
+mod copy_name;
+mod copying;
 mod dialect;
 mod document;
 mod documents;
@@ -23,21 +28,24 @@ mod pieces;
 mod recursion;
 mod reference;
 mod required;
+mod resource_table;
 mod resources;
 mod schema;
+mod scope;
 mod target;
 mod types;
+mod uncopied;
 mod under;
 mod uri;
 mod walking;
 
 pub use dialect::Dialect;
 pub use document::upgrade;
-pub use documents::{Source, upgrade_all};
+pub use documents::{SourceDocument, upgrade_all};
 pub use fault::{UpgradeFault, UpgradeFaultKind};
-pub use holding::Holding;
+pub use holding::SchemaHolding;
 pub use keyword::{Change, change_in};
-pub use moving::moved;
+pub use moving::moved_tokens;
 pub use originals::original;
 pub use schema::{change_of, own_dialect};
 pub use walking::upgraded;

@@ -2,12 +2,12 @@
 ghost use Rattle.std.specs.Prelude.{◌≡◌, IfOk, option_map};
 ghost use Rattle.js_doc.specs.Lookup.{part_named};
 ghost use Rattle.js_doc.specs.Seen.{value_of};
-ghost use Rattle.js_upgrade.specs.Moved.{keyword_step, moved, step, step_to};
+ghost use Rattle.js_upgrade.specs.Moved.{keyword_step, moved_tokens, step, step_to};
 ghost use Rattle.js_upgrade.specs.Upgrade.{own_dialect};
 ghost use Rattle.js_upgrade.specs.code.Pushed.{IsStepped};
 
 use crate::dialect::Dialect;
-use crate::holding::{Holding, holding_of};
+use crate::holding::{SchemaHolding, holding_by_change};
 use crate::schema::{change_of, own_dialect};
 use crate::under::push_under;
 use js_doc::{Doc, Members, Memory, Pointer, Token};
@@ -18,21 +18,21 @@ use std::alloc::Global;
 ///
 /// # Errors
 /// `Memory`.
-pub fn moved(
+pub fn moved_tokens(
     alloc: Global,
-    holding: Holding,
+    holding: SchemaHolding,
     dialect: Dialect,
     value: &Doc,
     tokens: &[Token],
 ) -> Result<Option<Pointer>, Memory>
-    ensures { IfOk result (λ p. p ≡ moved holding dialect (value_of value.now) tokens.now) }
+    ensures { IfOk result (λ p. p ≡ moved_tokens holding dialect (value_of value.now) tokens.now) }
 {
     let mut out = Pointer::new(alloc);
     let mut here = value;
     let mut held = Held { holding, dialect };
     for i in 0..tokens.len() {
         let token = tokens[i].as_str();
-        let Some(part) = part_named(alloc, here, token)? else {
+        let Some(part) = part_by_token(alloc, here, token)? else {
             return Ok(None);
         };
         match push_step(alloc, &mut out, held, here, token, part, &tokens[i + 1..])? {
@@ -47,13 +47,13 @@ pub fn moved(
 /// How a value is held, and in which dialect.
 #[derive(Clone, Copy)]
 pub(crate) struct Held {
-    pub holding: Holding,
+    pub holding: SchemaHolding,
     pub dialect: Dialect,
 }
 
 // The item or member that the token names.
 #[tactic(auto, using(crate::proofs::OneStep::part_rules))]
-pub(crate) fn part_named<'d>(
+pub(crate) fn part_by_token<'d>(
     alloc: Global,
     value: &'d Doc,
     token: &str,
@@ -71,8 +71,11 @@ pub(crate) fn part_named<'d>(
     }
 }
 
-// Adds what stands in place of the token, and says how the part that it names is held; None where it goes.
-fn push_step(
+/// Adds what stands in place of the token, and says how the part that it names is held; None where it goes.
+///
+/// # Errors
+/// `Memory`.
+pub(crate) fn push_step(
     alloc: Global,
     out: &mut Pointer,
     held: Held,
@@ -86,28 +89,36 @@ fn push_step(
 {
     match value {
         Doc::Members(siblings) => match held.holding {
-            Holding::One => push_keyword(alloc, out, held.dialect, siblings, token, part, rest),
-            Holding::OneOrListed => {
+            SchemaHolding::One => push_keyword(
+                alloc,
+                out,
+                held.dialect,
+                siblings,
+                token,
+                part,
+                rest,
+            ),
+            SchemaHolding::OneOrListed => {
                 push_keyword(alloc, out, held.dialect, siblings, token, part, rest)
             }
-            Holding::Named => push_token(out, Holding::One, held.dialect, token),
-            Holding::Listed => push_token(out, Holding::Nothing, held.dialect, token),
-            Holding::Nothing => push_token(out, Holding::Nothing, held.dialect, token),
+            SchemaHolding::Named => push_token(out, SchemaHolding::One, held.dialect, token),
+            SchemaHolding::Listed => push_token(out, SchemaHolding::Nothing, held.dialect, token),
+            SchemaHolding::Nothing => push_token(out, SchemaHolding::Nothing, held.dialect, token),
         },
         Doc::List(_) => match held.holding {
-            Holding::Listed => push_token(out, Holding::One, held.dialect, token),
-            Holding::OneOrListed => push_token(out, Holding::One, held.dialect, token),
-            Holding::One => push_token(out, Holding::Nothing, held.dialect, token),
-            Holding::Named => push_token(out, Holding::Nothing, held.dialect, token),
-            Holding::Nothing => push_token(out, Holding::Nothing, held.dialect, token),
+            SchemaHolding::Listed => push_token(out, SchemaHolding::One, held.dialect, token),
+            SchemaHolding::OneOrListed => push_token(out, SchemaHolding::One, held.dialect, token),
+            SchemaHolding::One => push_token(out, SchemaHolding::Nothing, held.dialect, token),
+            SchemaHolding::Named => push_token(out, SchemaHolding::Nothing, held.dialect, token),
+            SchemaHolding::Nothing => push_token(out, SchemaHolding::Nothing, held.dialect, token),
         },
-        _ => push_token(out, Holding::Nothing, held.dialect, token),
+        _ => push_token(out, SchemaHolding::Nothing, held.dialect, token),
     }
 }
 
 fn push_token(
     out: &mut Pointer,
-    holding: Holding,
+    holding: SchemaHolding,
     dialect: Dialect,
     token: &str,
 ) -> Result<Option<Held>, Memory>
@@ -133,7 +144,7 @@ fn push_keyword(
     let change = change_of(dialect, siblings, token);
     if push_under(alloc, out, siblings, token, part, rest, change)? {
         Ok(Some(Held {
-            holding: holding_of(change),
+            holding: holding_by_change(change),
             dialect,
         }))
     } else {

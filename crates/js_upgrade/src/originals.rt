@@ -2,17 +2,19 @@
 ghost use Rattle.std.specs.Prelude.{◌≡◌, ◌++◌, IfOk, OnOk, option_map};
 ghost use Rattle.js_doc.specs.Lookup.{part_named};
 ghost use Rattle.js_doc.specs.Seen.{value_of};
-ghost use Rattle.js_upgrade.specs.Originals.{at_end, held_back, is_wrapper, item_back, keyword_back};
-ghost use Rattle.js_upgrade.specs.Originals.{keyword_from, lead, original, original_in, stay, step_back, way_of};
+ghost use Rattle.js_upgrade.specs.Originals.{at_end, held_back, is_wrapper, item_back, joined_tokens, keyword_back};
+ghost use Rattle.js_upgrade.specs.Originals.{keyword_from, lead, original, original_from, original_in, stay};
+ghost use Rattle.js_upgrade.specs.Originals.{step_back, way_of};
 ghost use Rattle.js_upgrade.specs.Upgrade.{dialect_found, document_dialect, own_dialect};
-ghost use Rattle.js_upgrade.specs.code.Back.{IsBack};
+ghost use Rattle.js_upgrade.specs.code.Back.{IsStepBack};
 ghost use Rattle.js_upgrade.specs.declared.originals.Way.TheVariants.{Held};
-ghost use Rattle.js_upgrade.specs.declared.holding.Holding.TheVariants.{One};
+ghost use Rattle.js_upgrade.specs.declared.holding.SchemaHolding.TheVariants.{One};
 
+use crate::copied_original::copied_original;
 use crate::dialect::Dialect;
-use crate::holding::{Holding, holding_of};
+use crate::holding::{SchemaHolding, holding_by_change};
 use crate::keyword::Change;
-use crate::moving::part_named;
+use crate::moving::part_by_token;
 use crate::origin::origin;
 use crate::schema::{change_of, dialect_in, own_dialect};
 use js_doc::{Doc, Members, Memory, Pointer, Token};
@@ -22,7 +24,7 @@ use std::alloc::Global;
 #[derive(Clone, Copy, Debug, PartialEq, Eq)]
 pub(crate) enum Way {
     /// As it is held.
-    Held(Holding),
+    Held(SchemaHolding),
     /// By its items; if it is no list, as the only item.
     Alternatives,
     /// The same, behind `not`.
@@ -58,8 +60,22 @@ pub fn original(
     ensures { IfOk result (λ p. p ≡ original_in assumed (value_of root.now) tokens.now) }
 {
     match document_dialect(assumed, root) {
-        Some(dialect) => original_at(alloc, dialect, root, tokens),
+        Some(dialect) => original_from(alloc, dialect, root, tokens),
         None => Ok(None),
+    }
+}
+
+fn original_from(
+    alloc: Global,
+    dialect: Dialect,
+    root: &Doc,
+    tokens: &[Token],
+) -> Result<Option<Pointer>, Memory>
+    ensures { IfOk result (λ p. p ≡ original_from dialect (value_of root.now) tokens.now) }
+{
+    match copied_original(alloc, dialect, root, tokens)? {
+        Some(place) => Ok(Some(place)),
+        None => original_at(alloc, Pointer::new(alloc), dialect, root, tokens),
     }
 }
 
@@ -82,19 +98,25 @@ fn dialect_or(assumed: Dialect, found: Option<&Doc>) -> Option<Dialect>
     }
 }
 
-fn original_at(
+/// The same of what stands in a schema, whose place is given.
+///
+/// # Errors
+/// `Memory`.
+pub(crate) fn original_at(
     alloc: Global,
+    place: Pointer,
     dialect: Dialect,
-    root: &Doc,
+    schema: &Doc,
     tokens: &[Token],
 ) -> Result<Option<Pointer>, Memory>
-    ensures { IfOk result (λ p. p ≡ original (Held One) dialect (value_of root.now) tokens.now) }
+    ensures { IfOk result (λ p. p
+        ≡ joined_tokens place (original (Held One) dialect (value_of schema.now) tokens.now)) }
 {
-    let mut out = Pointer::new(alloc);
+    let mut out = place;
     let mut at = At {
-        way: Way::Held(Holding::One),
+        way: Way::Held(SchemaHolding::One),
         dialect,
-        value: root,
+        value: schema,
     };
     for i in 0..tokens.len() {
         match step_back(alloc, &mut out, at, tokens[i].as_str())? {
@@ -127,7 +149,7 @@ fn step_back<'d>(
     at: At<'d>,
     token: &str,
 ) -> Result<Option<At<'d>>, Memory>
-    ensures { IfOk result (IsBack out.old out.new
+    ensures { IfOk result (IsStepBack out.old out.new
         (step_back at.entry.way at.entry.dialect (value_of at.entry.value.now) token.now)) }
 {
     let At {
@@ -143,7 +165,14 @@ fn step_back<'d>(
             if is_wrapper(token) {
                 Ok(stay(out, Way::Wrapped, dialect, value))
             } else {
-                lead(alloc, out, Way::Held(Holding::One), dialect, value, token)
+                lead(
+                    alloc,
+                    out,
+                    Way::Held(SchemaHolding::One),
+                    dialect,
+                    value,
+                    token,
+                )
             }
         }
         Way::Names => lead(alloc, out, Way::Within, dialect, value, token),
@@ -159,7 +188,7 @@ fn is_wrapper(token: &str) -> bool
 
 #[tactic(auto, using(crate::proofs::StepsBack::stay_rules))]
 fn stay<'d>(_out: &Pointer, way: Way, dialect: Dialect, value: &'d Doc) -> Option<At<'d>>
-    ensures { IsBack _out.now _out.now (stay way dialect (value_of value.now)) result }
+    ensures { IsStepBack _out.now _out.now (stay way dialect (value_of value.now)) result }
 {
     Some(At {
         way,
@@ -176,10 +205,10 @@ fn lead<'d>(
     value: &'d Doc,
     token: &str,
 ) -> Result<Option<At<'d>>, Memory>
-    ensures { IfOk result (IsBack out.old out.new
+    ensures { IfOk result (IsStepBack out.old out.new
         (lead way dialect token.now (part_named token.now (value_of value.now)))) }
 {
-    match part_named(alloc, value, token)? {
+    match part_by_token(alloc, value, token)? {
         Some(part) => {
             out.push(token)?;
             Ok(Some(At {
@@ -199,47 +228,54 @@ fn item_back<'d>(
     value: &'d Doc,
     token: &str,
 ) -> Result<Option<At<'d>>, Memory>
-    ensures { IfOk result (IsBack out.old out.new (item_back dialect (value_of value.now) token.now)) }
+    ensures { IfOk result (IsStepBack out.old out.new (item_back dialect (value_of value.now) token.now)) }
 {
     match value {
-        Doc::List(_) => lead(alloc, out, Way::Held(Holding::One), dialect, value, token),
-        _ => Ok(stay(out, Way::Held(Holding::One), dialect, value)),
+        Doc::List(_) => lead(
+            alloc,
+            out,
+            Way::Held(SchemaHolding::One),
+            dialect,
+            value,
+            token,
+        ),
+        _ => Ok(stay(out, Way::Held(SchemaHolding::One), dialect, value)),
     }
 }
 
 fn held_back<'d>(
     alloc: Global,
     out: &mut Pointer,
-    holding: Holding,
+    holding: SchemaHolding,
     dialect: Dialect,
     value: &'d Doc,
     token: &str,
 ) -> Result<Option<At<'d>>, Memory>
-    ensures { IfOk result (IsBack out.old out.new (held_back holding dialect (value_of value.now) token.now)) }
+    ensures { IfOk result (IsStepBack out.old out.new (held_back holding dialect (value_of value.now) token.now)) }
 {
-    let schemas = Way::Held(Holding::One);
-    let others = Way::Held(Holding::Nothing);
+    let schemas = Way::Held(SchemaHolding::One);
+    let others = Way::Held(SchemaHolding::Nothing);
     match value {
         Doc::Members(siblings) => match holding {
-            Holding::One => keyword_back(out, dialect, value, siblings, token),
-            Holding::OneOrListed => keyword_back(out, dialect, value, siblings, token),
-            Holding::Named => lead(alloc, out, schemas, dialect, value, token),
-            Holding::Listed => lead(alloc, out, others, dialect, value, token),
-            Holding::Nothing => lead(alloc, out, others, dialect, value, token),
+            SchemaHolding::One => keyword_back(out, dialect, value, siblings, token),
+            SchemaHolding::OneOrListed => keyword_back(out, dialect, value, siblings, token),
+            SchemaHolding::Named => lead(alloc, out, schemas, dialect, value, token),
+            SchemaHolding::Listed => lead(alloc, out, others, dialect, value, token),
+            SchemaHolding::Nothing => lead(alloc, out, others, dialect, value, token),
         },
         Doc::List(_) => match holding {
-            Holding::Listed => lead(alloc, out, schemas, dialect, value, token),
-            Holding::OneOrListed => lead(alloc, out, schemas, dialect, value, token),
-            Holding::One => lead(alloc, out, others, dialect, value, token),
-            Holding::Named => lead(alloc, out, others, dialect, value, token),
-            Holding::Nothing => lead(alloc, out, others, dialect, value, token),
+            SchemaHolding::Listed => lead(alloc, out, schemas, dialect, value, token),
+            SchemaHolding::OneOrListed => lead(alloc, out, schemas, dialect, value, token),
+            SchemaHolding::One => lead(alloc, out, others, dialect, value, token),
+            SchemaHolding::Named => lead(alloc, out, others, dialect, value, token),
+            SchemaHolding::Nothing => lead(alloc, out, others, dialect, value, token),
         },
         Doc::Text(_) => match holding {
-            Holding::One => Ok(stay(out, Way::Within, dialect, value)),
-            Holding::Listed => lead(alloc, out, others, dialect, value, token),
-            Holding::Named => lead(alloc, out, others, dialect, value, token),
-            Holding::OneOrListed => lead(alloc, out, others, dialect, value, token),
-            Holding::Nothing => lead(alloc, out, others, dialect, value, token),
+            SchemaHolding::One => Ok(stay(out, Way::Within, dialect, value)),
+            SchemaHolding::Listed => lead(alloc, out, others, dialect, value, token),
+            SchemaHolding::Named => lead(alloc, out, others, dialect, value, token),
+            SchemaHolding::OneOrListed => lead(alloc, out, others, dialect, value, token),
+            SchemaHolding::Nothing => lead(alloc, out, others, dialect, value, token),
         },
         _ => lead(alloc, out, others, dialect, value, token),
     }
@@ -252,7 +288,7 @@ fn keyword_back<'d>(
     siblings: &'d Members,
     token: &str,
 ) -> Result<Option<At<'d>>, Memory>
-    ensures { IfOk result (IsBack out.old out.new
+    ensures { IfOk result (IsStepBack out.old out.new
         (keyword_back (own_dialect dialect siblings.now) siblings.now (value_of value.now) token.now)) }
 {
     let dialect = own_dialect(dialect, siblings);
@@ -270,7 +306,7 @@ fn keyword_from<'d>(
     new: &str,
     name: &str,
 ) -> Result<Option<At<'d>>, Memory>
-    ensures { IfOk result (IsBack out.old out.new
+    ensures { IfOk result (IsStepBack out.old out.new
         (keyword_from dialect siblings.now (value_of value.now) new.now name.now)) }
 {
     let Some(argument) = siblings.get(name) else {
@@ -298,16 +334,16 @@ fn way_of(new: &str, change: Change) -> Way
             if new == "dependentRequired" {
                 Way::Names
             } else {
-                Way::Held(Holding::Named)
+                Way::Held(SchemaHolding::Named)
             }
         }
         Change::Properties => {
             if new == "required" {
                 Way::Within
             } else {
-                Way::Held(Holding::Named)
+                Way::Held(SchemaHolding::Named)
             }
         }
-        _ => Way::Held(holding_of(change)),
+        _ => Way::Held(holding_by_change(change)),
     }
 }

@@ -5,7 +5,8 @@ ghost use Rattle.js_doc.specs.Members.{get};
 ghost use Rattle.js_doc.specs.Seen.{value_of};
 ghost use Rattle.js_doc.specs.Value as spec;
 ghost use Rattle.js_upgrade.specs.Schema.{dependencies_upgraded, dependent_names, dependent_schema, extends_upgraded};
-ghost use Rattle.js_upgrade.specs.Schema.{gathered, is_list, is_true, list_or_schema_upgraded, one, put_all};
+ghost use Rattle.js_upgrade.specs.Schema.{gathered_members, is_some_list, is_true, list_or_schema_upgraded, one};
+ghost use Rattle.js_upgrade.specs.Schema.{put_all};
 
 use crate::gathering::{put_one, put_some_items, put_some_members};
 use crate::once::each_once;
@@ -50,7 +51,7 @@ pub(crate) fn put_behind_list(
     value: Doc,
 ) -> Result<(), Memory>
     ensures { OnOk result (among.new
-        ≡ put_all (if is_list (get (codes "items") siblings.now) then one (codes "items") (value_of value) else [])
+        ≡ put_all (if is_some_list (get (codes "items") siblings.now) then one (codes "items") (value_of value) else [])
         among.old) }
 {
     if has_list(siblings, "items") {
@@ -61,7 +62,7 @@ pub(crate) fn put_behind_list(
 }
 
 pub(crate) fn has_list(siblings: &Members, name: &str) -> bool
-    ensures { result ≡ is_list (get name.now siblings.now) }
+    ensures { result ≡ is_some_list (get name.now siblings.now) }
 {
     matches!(siblings.get(name), Some(Doc::List(_)))
 }
@@ -130,7 +131,7 @@ fn put_both_dependencies(
 }
 
 fn dependent_names(alloc: Global, members: &Members) -> Result<Members, Memory>
-    ensures { IfOk result (λ m. m ≡ gathered dependent_names members.now []) }
+    ensures { IfOk result (λ m. m ≡ gathered_members dependent_names members.now []) }
 {
     let mut found = Members::new(alloc);
     for (name, value) in members.pairs() {
@@ -163,7 +164,7 @@ fn put_dependent_names(
 }
 
 fn dependent_schemas(alloc: Global, members: &Members) -> Result<Members, Memory>
-    ensures { IfOk result (λ m. m ≡ gathered dependent_schema members.now []) }
+    ensures { IfOk result (λ m. m ≡ gathered_members dependent_schema members.now []) }
 {
     let mut found = Members::new(alloc);
     for (name, value) in members.pairs() {

@@ -6,14 +6,16 @@ ghost use Rattle.js_upgrade.specs.Documents.{anchored, with_anchor};
 ghost use Rattle.js_upgrade.specs.Reference.{recursion_rewritten, recurses_at};
 ghost use Rattle.js_upgrade.specs.Resource.{has_recursion, is_recursive, recurses};
 ghost use Rattle.js_upgrade.specs.Schema.{put_all, recursive_anchor, recursive_name};
-ghost use Rattle.js_upgrade.specs.Seen.{resource_of};
+ghost use Rattle.js_upgrade.specs.Seen.{resource_seen};
+ghost use Rattle.js_upgrade.specs.code.Table.{all_of};
 
 use crate::dialect::Dialect;
 use crate::gathering::put_one;
 use crate::pieces::{has_true, is_truth};
-use crate::resources::{Resource, resource_named};
+use crate::resource_table::{ResourceTable, resource_named};
+use crate::resources::Resource;
 use crate::schema::{is_identifier, own_dialect};
-use crate::uri::printed;
+use crate::uri::uri_printed;
 use js_doc::{Doc, Members, Memory, Text};
 use std::alloc::Global;
 use url::Url;
@@ -83,14 +85,14 @@ fn with_anchor(alloc: Global, value: Doc) -> Result<Doc, Memory>
 /// `Memory`.
 pub(crate) fn recursion_rewritten(
     alloc: Global,
-    resources: &[Resource],
+    resources: &ResourceTable<'_>,
     base: &Url,
     value: &Doc,
 ) -> Result<Doc, Memory>
     ensures { IfOk result (λ d. value_of d
-        ≡ recursion_rewritten (map resource_of resources.now) base.now (value_of value.now)) }
+        ≡ recursion_rewritten (all_of resources.now) base.now (value_of value.now)) }
 {
-    if recurses_at(resource_named(resources, printed(base))) {
+    if recurses_at(resource_named(resources, uri_printed(base))) {
         let reference = Text::from_str(alloc, "#recursiveAnchor")?;
         Ok(Doc::Text(reference))
     } else {
@@ -98,8 +100,8 @@ pub(crate) fn recursion_rewritten(
     }
 }
 
-fn recurses_at(found: Option<&Resource>) -> bool
-    ensures { result ≡ recurses_at (option_map (λ r. resource_of r.now) found.entry) }
+fn recurses_at(found: Option<&Resource<'_>>) -> bool
+    ensures { result ≡ recurses_at (option_map (λ r. resource_seen r.now) found.entry) }
 {
     match found {
         Some(resource) => recurses(resource),
@@ -108,10 +110,10 @@ fn recurses_at(found: Option<&Resource>) -> bool
 }
 
 /// Whether the root of the resource has `$recursiveAnchor`.
-pub(crate) fn recurses(resource: &Resource) -> bool
-    ensures { result ≡ recurses (resource_of resource.now) }
+pub(crate) fn recurses(resource: &Resource<'_>) -> bool
+    ensures { result ≡ recurses (resource_seen resource.now) }
 {
-    has_recursion(resource.dialect, &resource.root)
+    has_recursion(resource.dialect, resource.root)
 }
 
 /// The same of a root, by the dialect around it.

@@ -5,21 +5,21 @@ ghost use Rattle.js_doc.specs.Value.{items, members, object};
 ghost use Rattle.js_upgrade.specs.Reference.{argument_rewritten, as_it_is, items_relocated, members_relocated};
 ghost use Rattle.js_upgrade.specs.Reference.{relocated};
 ghost use Rattle.js_upgrade.specs.Schema.{change_of};
-ghost use Rattle.js_upgrade.specs.Seen.{resource_of};
-ghost use Rattle.js_upgrade.specs.Upgrade.{holding_in, holding_of};
-ghost use Rattle.js_upgrade.specs.declared.holding.Holding.TheVariants.{One};
+ghost use Rattle.js_upgrade.specs.Upgrade.{holding_in, holding_by_change};
+ghost use Rattle.js_upgrade.specs.code.Table.{all_of};
+ghost use Rattle.js_upgrade.specs.declared.holding.SchemaHolding.TheVariants.{One};
 
 use crate::dialect::Dialect;
 use crate::gathering::put_one;
-use crate::holding::{Holding, holding_of};
+use crate::holding::{SchemaHolding, holding_by_change};
 use crate::keyword::Change;
 use crate::recursion::recursion_rewritten;
-use crate::resources::{Resource, identity};
-use crate::schema::{change_of, own_dialect};
+use crate::resources::identity;
+use crate::schema::{change_beside, hides, own_dialect};
+use crate::scope::{Scope, number_here};
 use crate::target::rewritten;
 use js_doc::{Doc, Items, Members, Memory};
 use std::alloc::Global;
-use url::Url;
 
 /// The value with the references of the schemas that it holds rewritten.
 ///
@@ -28,39 +28,36 @@ use url::Url;
 #[cycle(relocate)]
 pub(crate) fn relocated(
     alloc: Global,
-    resources: &[Resource],
-    holding: Holding,
+    scope: Scope<'_>,
+    holding: SchemaHolding,
     dialect: Dialect,
-    base: &Url,
     value: &Doc,
 ) -> Result<Doc, Memory>
     ensures { IfOk result (λ d. value_of d
-        ≡ relocated (map resource_of resources.now) holding dialect base.now (value_of value.now)) }
+        ≡ relocated (all_of scope.entry.resources.now) holding dialect scope.entry.base.now (value_of value.now)) }
 {
     match value {
         Doc::Members(members) => match holding {
-            Holding::One => Ok(Doc::Members(schema_relocated(
-                alloc, resources, dialect, base, members,
+            SchemaHolding::One => Ok(Doc::Members(schema_relocated(
+                alloc, scope, dialect, members,
             )?)),
-            Holding::OneOrListed => Ok(Doc::Members(schema_relocated(
-                alloc, resources, dialect, base, members,
+            SchemaHolding::OneOrListed => Ok(Doc::Members(schema_relocated(
+                alloc, scope, dialect, members,
             )?)),
-            Holding::Named => Ok(Doc::Members(members_relocated(
-                alloc, resources, dialect, base, members,
+            SchemaHolding::Named => Ok(Doc::Members(members_relocated(
+                alloc, scope, dialect, members,
             )?)),
-            Holding::Listed => value.copy(alloc),
-            Holding::Nothing => value.copy(alloc),
+            SchemaHolding::Listed => value.copy(alloc),
+            SchemaHolding::Nothing => value.copy(alloc),
         },
         Doc::List(items) => match holding {
-            Holding::Listed => Ok(Doc::List(items_relocated(
-                alloc, resources, dialect, base, items,
+            SchemaHolding::Listed => Ok(Doc::List(items_relocated(alloc, scope, dialect, items)?)),
+            SchemaHolding::OneOrListed => Ok(Doc::List(items_relocated(
+                alloc, scope, dialect, items,
             )?)),
-            Holding::OneOrListed => Ok(Doc::List(items_relocated(
-                alloc, resources, dialect, base, items,
-            )?)),
-            Holding::One => value.copy(alloc),
-            Holding::Named => value.copy(alloc),
-            Holding::Nothing => value.copy(alloc),
+            SchemaHolding::One => value.copy(alloc),
+            SchemaHolding::Named => value.copy(alloc),
+            SchemaHolding::Nothing => value.copy(alloc),
         },
         _ => value.copy(alloc),
     }
@@ -69,40 +66,48 @@ pub(crate) fn relocated(
 #[cycle(relocate)]
 fn schema_relocated(
     alloc: Global,
-    resources: &[Resource],
+    scope: Scope<'_>,
     dialect: Dialect,
-    base: &Url,
     siblings: &Members,
 ) -> Result<Members, Memory>
     ensures { IfOk result (λ m. object (members m)
-        ≡ relocated (map resource_of resources.now) One dialect base.now (object (members siblings.now))) }
+        ≡ relocated (all_of scope.entry.resources.now) One dialect scope.entry.base.now
+        (object (members siblings.now))) }
 {
     let own = own_dialect(dialect, siblings);
-    let found = identity(own, base, siblings)?;
+    let found = identity(own, scope.base, siblings)?;
     match found {
-        Some(below) => keywords_relocated(alloc, resources, own, &below, siblings),
-        None => keywords_relocated(alloc, resources, own, base, siblings),
+        Some(below) => {
+            let inner = Scope {
+                resources: scope.resources,
+                base: &below,
+                here: number_here(scope.resources, &below)?,
+            };
+            keywords_relocated(alloc, inner, own, siblings)
+        }
+        None => keywords_relocated(alloc, scope, own, siblings),
     }
 }
 
 #[cycle(relocate)]
 fn keywords_relocated(
     alloc: Global,
-    resources: &[Resource],
+    scope: Scope<'_>,
     dialect: Dialect,
-    base: &Url,
     siblings: &Members,
 ) -> Result<Members, Memory>
-    ensures { IfOk result (λ m. m ≡ members_relocated (map resource_of resources.now)
+    ensures { IfOk result (λ m. m ≡ members_relocated (all_of scope.entry.resources.now)
         (holding_in dialect siblings.now)
-        (λ name. argument_rewritten (map resource_of resources.now) (change_of dialect siblings.now name) base.now)
-        dialect base.now (members siblings.now)) }
+        (λ name. argument_rewritten (all_of scope.entry.resources.now) (change_of dialect siblings.now name)
+        scope.entry.base.now)
+        dialect scope.entry.base.now (members siblings.now)) }
 {
+    let hidden = hides(dialect, siblings);
     let mut out = Members::new(alloc);
     for (name, argument) in siblings.pairs() {
         let key = name.as_str();
-        let change = change_of(dialect, siblings, key);
-        let value = argument_relocated(alloc, resources, dialect, base, change, argument)?;
+        let change = change_beside(hidden, dialect, key);
+        let value = argument_relocated(alloc, scope, dialect, change, argument)?;
         put_one(alloc, &mut out, key, value)?;
     }
     Ok(out)
@@ -111,44 +116,41 @@ fn keywords_relocated(
 #[cycle(relocate)]
 fn argument_relocated(
     alloc: Global,
-    resources: &[Resource],
+    scope: Scope<'_>,
     dialect: Dialect,
-    base: &Url,
     change: Change,
     argument: &Doc,
 ) -> Result<Doc, Memory>
-    ensures { IfOk result (λ d. value_of d ≡ argument_rewritten (map resource_of resources.now) change base.now
-        (value_of argument.now)
-        (relocated (map resource_of resources.now) (holding_of change) dialect base.now (value_of argument.now))) }
+    ensures { IfOk result (λ d. value_of d ≡ argument_rewritten (all_of scope.entry.resources.now) change
+        scope.entry.base.now (value_of argument.now)
+        (relocated (all_of scope.entry.resources.now) (holding_by_change change) dialect scope.entry.base.now
+        (value_of argument.now))) }
 {
     match change {
-        Change::Refers => rewritten(alloc, resources, base, argument),
-        Change::RecursiveReference => recursion_rewritten(alloc, resources, base, argument),
-        _ => relocated(
+        Change::Refers => rewritten(alloc, scope, argument),
+        Change::RecursiveReference => recursion_rewritten(
             alloc,
-            resources,
-            holding_of(change),
-            dialect,
-            base,
+            scope.resources,
+            scope.base,
             argument,
         ),
+        _ => relocated(alloc, scope, holding_by_change(change), dialect, argument),
     }
 }
 
 #[cycle(relocate)]
 fn members_relocated(
     alloc: Global,
-    resources: &[Resource],
+    scope: Scope<'_>,
     dialect: Dialect,
-    base: &Url,
     schemas: &Members,
 ) -> Result<Members, Memory>
-    ensures { IfOk result (λ m. m ≡ members_relocated (map resource_of resources.now) (λ name. One)
-        as_it_is dialect base.now (members schemas.now)) }
+    ensures { IfOk result (λ m. m ≡ members_relocated (all_of scope.entry.resources.now) (λ name. One)
+        as_it_is dialect scope.entry.base.now (members schemas.now)) }
 {
     let mut out = Members::new(alloc);
     for (name, schema) in schemas.pairs() {
-        let schema = relocated(alloc, resources, Holding::One, dialect, base, schema)?;
+        let schema = relocated(alloc, scope, SchemaHolding::One, dialect, schema)?;
         put_one(alloc, &mut out, name.as_str(), schema)?;
     }
     Ok(out)
@@ -157,18 +159,17 @@ fn members_relocated(
 #[cycle(relocate)]
 fn items_relocated(
     alloc: Global,
-    resources: &[Resource],
+    scope: Scope<'_>,
     dialect: Dialect,
-    base: &Url,
     schemas: &Items,
 ) -> Result<Items, Memory>
     ensures { IfOk result (λ vs. vs
-        ≡ items_relocated (map resource_of resources.now) dialect base.now (items schemas.now)) }
+        ≡ items_relocated (all_of scope.entry.resources.now) dialect scope.entry.base.now (items schemas.now)) }
 {
     let docs = schemas.as_slice();
     let mut out = Vec::with_capacity(alloc, docs.len())?;
     for i in 0..docs.len() {
-        out.push(relocated(alloc, resources, Holding::One, dialect, base, &docs[i])?)?;
+        out.push(relocated(alloc, scope, SchemaHolding::One, dialect, &docs[i])?)?;
     }
     Ok(Items::new(out))
 }

@@ -1,6 +1,7 @@
 //! The keywords of a schema, beside one another.
-ghost use Rattle.std.specs.Prelude.{◌≡◌, option_map};
+ghost use Rattle.std.specs.Prelude.{◌≡◌, option_map, if◌then◌else◌};
 ghost use Rattle.js_doc.specs.Seen.{value_of};
+ghost use Rattle.js_upgrade.specs.Keyword.{change_in};
 ghost use Rattle.js_upgrade.specs.Schema.{beside_reference, change_of, hides, is_identifier, is_uri};
 ghost use Rattle.js_upgrade.specs.Upgrade.{declared, dialect_in, identifier, identifies, own_dialect};
 
@@ -12,8 +13,15 @@ use js_doc::{Doc, Members};
 pub fn change_of(dialect: Dialect, siblings: &Members, name: &str) -> Change
     ensures { result ≡ change_of dialect siblings.now name.now }
 {
+    change_beside(hides(dialect, siblings), dialect, name)
+}
+
+/// The same, where it is known whether a reference hides it.
+pub(crate) fn change_beside(hidden: bool, dialect: Dialect, name: &str) -> Change
+    ensures { result ≡ (if hidden then beside_reference (change_in dialect name.now) else change_in dialect name.now) }
+{
     let change = change_in(dialect, name);
-    if hides(dialect, siblings) {
+    if hidden {
         beside_reference(change)
     } else {
         change
@@ -67,7 +75,7 @@ pub(crate) fn dialect_in(uri: &Doc) -> Option<Dialect>
     ensures { result ≡ dialect_in (value_of uri.now) }
 {
     match uri {
-        Doc::Text(text) => Dialect::named(text.as_str()),
+        Doc::Text(text) => Dialect::of_uri(text.as_str()),
         _ => None,
     }
 }

@@ -1,14 +1,23 @@
 //! The text of a reference, with the place to which its target has gone.
 ghost use Rattle.std.specs.Prelude.{◌≡◌, IfOk, map, option_map, string_bytes};
 ghost use Rattle.js_doc.specs.Seen.{value_of};
+ghost use Rattle.js_upgrade.specs.Moved.{moved_tokens};
 ghost use Rattle.js_upgrade.specs.Reference.{followed, in_resource, moved_in, rewritten, with_pointer, with_target};
-ghost use Rattle.js_upgrade.specs.Seen.{resource_of};
+ghost use Rattle.js_upgrade.specs.Seen.{resource_seen};
+ghost use Rattle.js_upgrade.specs.Url.{uri_joined};
+ghost use Rattle.js_upgrade.specs.code.Table.{all_of};
+ghost use Rattle.js_upgrade.specs.declared.holding.SchemaHolding.TheVariants.{One};
 
-use crate::holding::Holding;
+use crate::copy_name::redirected;
+use crate::holding::SchemaHolding;
 use crate::identifier::before_mark;
-use crate::moving::moved;
-use crate::resources::{Resource, resource_named};
-use crate::uri::{fragment_pointer, joined, printed, without_fragment};
+use crate::moving::moved_tokens;
+use crate::resource_table::{ResourceTable, resource_named, resource_numbered};
+use crate::resources::Resource;
+use crate::scope::Scope;
+use crate::uri::{
+    fragment_pointer, local_fragment, pointer_in, uri_joined, uri_printed, uri_without_fragment,
+};
 use js_doc::{Doc, Memory, Pointer, Text};
 use std::alloc::Global;
 use url::Url;
@@ -17,43 +26,53 @@ use url::Url;
 ///
 /// # Errors
 /// `Memory`.
-pub(crate) fn rewritten(
-    alloc: Global,
-    resources: &[Resource],
-    base: &Url,
-    value: &Doc,
-) -> Result<Doc, Memory>
+pub(crate) fn rewritten(alloc: Global, scope: Scope<'_>, value: &Doc) -> Result<Doc, Memory>
     ensures { IfOk result (λ d. value_of d
-        ≡ rewritten (map resource_of resources.now) base.now (value_of value.now)) }
+        ≡ rewritten (all_of scope.entry.resources.now) scope.entry.base.now (value_of value.now)) }
 {
     match value {
-        Doc::Text(text) => {
-            let reference = text.as_str();
-            let uri = joined(base, reference)?;
-            Ok(Doc::Text(Text::new(followed(alloc, resources, reference, uri)?)))
-        }
+        Doc::Text(text) => Ok(Doc::Text(Text::new(text_rewritten(alloc, scope, text.as_str())?))),
         _ => value.copy(alloc),
+    }
+}
+
+fn text_rewritten(alloc: Global, scope: Scope<'_>, reference: &str) -> Result<String, Memory>
+    ensures { IfOk result (λ s. string_bytes s
+        ≡ followed (all_of scope.entry.resources.now) reference.now (uri_joined scope.entry.base.now reference.now)) }
+{
+    match local_fragment(reference) {
+        Some(fragment) => {
+            let pointer = pointer_in(alloc, fragment)?;
+            let here = resource_numbered(scope.resources, scope.here);
+            in_resource(alloc, reference, pointer, here)
+        }
+        None => followed(
+            alloc,
+            scope.resources,
+            reference,
+            uri_joined(scope.base, reference)?,
+        ),
     }
 }
 
 // A reference that is this URI when it is joined with its base.
 fn followed(
     alloc: Global,
-    resources: &[Resource],
+    resources: &ResourceTable<'_>,
     reference: &str,
     uri: Option<Url>,
 ) -> Result<String, Memory>
-    ensures { IfOk result (λ s. string_bytes s ≡ followed (map resource_of resources.now) reference.now uri) }
+    ensures { IfOk result (λ s. string_bytes s ≡ followed (all_of resources.now) reference.now uri) }
 {
     match uri {
         Some(uri) => {
             let pointer = fragment_pointer(alloc, &uri)?;
-            let bare = without_fragment(uri)?;
+            let bare = uri_without_fragment(uri)?;
             in_resource(
                 alloc,
                 reference,
                 pointer,
-                resource_named(resources, printed(&bare)),
+                resource_named(resources, uri_printed(&bare)),
             )
         }
         None => copied(alloc, reference),
@@ -70,10 +89,10 @@ fn in_resource(
     alloc: Global,
     reference: &str,
     pointer: Option<Pointer>,
-    resource: Option<&Resource>,
+    resource: Option<&Resource<'_>>,
 ) -> Result<String, Memory>
     ensures { IfOk result (λ s. string_bytes s ≡ in_resource reference.now pointer
-        (option_map (λ r. resource_of r.now) resource.entry)) }
+        (option_map (λ r. resource_seen r.now) resource.entry)) }
 {
     match pointer {
         Some(old) => match resource {
@@ -93,16 +112,31 @@ fn in_resource(
 /// `Memory`.
 pub(crate) fn moved_in(
     alloc: Global,
-    resource: &Resource,
+    resource: &Resource<'_>,
     pointer: &Pointer,
 ) -> Result<Option<Pointer>, Memory>
-    ensures { IfOk result (λ p. p ≡ moved_in (resource_of resource.now) pointer.now) }
+    ensures { IfOk result (λ p. p ≡ moved_in (resource_seen resource.now) pointer.now) }
 {
-    moved(
+    if let Some(place) = redirected(alloc, resource.dialect, resource.copies, pointer)? {
+        moved_root(alloc, resource, &place)
+    } else {
+        moved_root(alloc, resource, pointer)
+    }
+}
+
+fn moved_root(
+    alloc: Global,
+    resource: &Resource<'_>,
+    pointer: &Pointer,
+) -> Result<Option<Pointer>, Memory>
+    ensures { IfOk result (λ p. p
+        ≡ moved_tokens One (resource_seen resource.now).dialect (resource_seen resource.now).root pointer.now) }
+{
+    moved_tokens(
         alloc,
-        Holding::One,
+        SchemaHolding::One,
         resource.dialect,
-        &resource.root,
+        resource.root,
         pointer.tokens(),
     )
 }

@@ -5,12 +5,12 @@ ghost use Rattle.js_doc.specs.Members.{get};
 ghost use Rattle.js_upgrade.specs.Schema.{is_true};
 ghost use Rattle.js_upgrade.specs.Moved.{alternative_under, contains_under, dependencies_under, dependent_under};
 ghost use Rattle.js_upgrade.specs.Moved.{first_item, just};
-ghost use Rattle.js_upgrade.specs.Moved.{listed_under, negated, types_under, under};
+ghost use Rattle.js_upgrade.specs.Moved.{listed_under, negated, types_under, tokens_under};
 ghost use Rattle.js_upgrade.specs.code.Pushed.{IsPushed};
 
 use crate::containing::holder;
 use crate::keyword::Change;
-use crate::moving::part_named;
+use crate::moving::part_by_token;
 use crate::pieces::{has_list, has_true};
 use crate::types::has_any;
 use js_doc::{Doc, Members, Memory, Pointer, Token};
@@ -30,7 +30,7 @@ pub(crate) fn push_under(
     change: Change,
 ) -> Result<bool, Memory>
     ensures { IfOk result (IsPushed out.old out.new
-        (under siblings.now name.now (value_of value.now) rest.now change)) }
+        (tokens_under siblings.now name.now (value_of value.now) rest.now change)) }
 {
     match change {
         Change::Goes | Change::Identifier | Change::RecursiveAnchor => Ok(false),
@@ -154,7 +154,7 @@ fn push_types(alloc: Global, out: &mut Pointer, value: &Doc, rest: &[Token]) -> 
             if has_any(items.as_slice()) {
                 return Ok(false);
             }
-            push_alternative(out, part_named(alloc, value, index.as_str())?)
+            push_alternative(out, part_by_token(alloc, value, index.as_str())?)
         }
         _ => Ok(false),
     }

@@ -1,25 +1,28 @@
 //! URIs, as `url` reads, joins and prints them.
-ghost use Rattle.std.specs.Prelude.{◌≡◌, IfOk, None, if◌then◌else◌};
+ghost use Rattle.std.specs.Prelude.{◌≡◌, IfOk, None, option_map, if◌then◌else◌};
+ghost use Rattle.std.specs.List.{list_all};
 ghost use Rattle.std.specs.Str.{is_utf8};
 ghost use Rattle.percent_encoding.specs.Percent.{percent_decode};
 ghost use Rattle.js_doc.specs.PointerReading.{pointer_of};
-ghost use Rattle.js_upgrade.specs.Url.{fragment_pointer, joined, printed, without_fragment};
+ghost use Rattle.js_upgrade.specs.Url.{fragment_pointer, uri_joined, uri_printed, uri_without_fragment};
+ghost use Rattle.js_upgrade.specs.code.Local.{is_fragment_byte, kept_fragment, local_fragment};
 
+use crate::dialect::after_prefix;
 use js_doc::{Memory, Pointer, PointerFault};
 use std::alloc::Global;
 use url::{ParseError, Url};
 
 /// No URI, identifier or reference may have more bytes.
-pub(crate) const LONGEST: usize = 65_536;
+pub(crate) const URI_LIMIT: usize = 65_536;
 
 /// A text joined with a base. None if it is too long, or can't be joined.
 ///
 /// # Errors
 /// `Memory`.
-pub(crate) fn joined(base: &Url, text: &str) -> Result<Option<Url>, Memory>
-    ensures { IfOk result (λ u. u ≡ joined base.now text.now) }
+pub(crate) fn uri_joined(base: &Url, text: &str) -> Result<Option<Url>, Memory>
+    ensures { IfOk result (λ u. u ≡ uri_joined base.now text.now) }
 {
-    if LONGEST < text.len() {
+    if URI_LIMIT < text.len() {
         return Ok(None);
     }
     match base.join(text) {
@@ -34,9 +37,9 @@ pub(crate) fn joined(base: &Url, text: &str) -> Result<Option<Url>, Memory>
 ///
 /// # Errors
 /// `Memory`.
-#[tactic(auto, unfolding(crate::specs::Url::without_fragment))]
-pub(crate) fn without_fragment(mut url: Url) -> Result<Url, Memory>
-    ensures { IfOk result (λ u. u ≡ without_fragment url) }
+#[tactic(auto, unfolding(crate::specs::Url::uri_without_fragment))]
+pub(crate) fn uri_without_fragment(mut url: Url) -> Result<Url, Memory>
+    ensures { IfOk result (λ u. u ≡ uri_without_fragment url) }
 {
     match url.set_fragment(None) {
         Ok(()) => Ok(url),
@@ -45,9 +48,9 @@ pub(crate) fn without_fragment(mut url: Url) -> Result<Url, Memory>
 }
 
 /// The URL's text.
-#[tactic(auto, unfolding(crate::specs::Url::printed))]
-pub(crate) fn printed(url: &Url) -> &str
-    ensures { result.now ≡ printed url.now }
+#[tactic(auto, unfolding(crate::specs::Url::uri_printed))]
+pub(crate) fn uri_printed(url: &Url) -> &str
+    ensures { result.now ≡ uri_printed url.now }
 {
     url.as_str()
 }
@@ -62,7 +65,11 @@ pub(crate) fn fragment_pointer(alloc: Global, url: &Url) -> Result<Option<Pointe
     pointer_in(alloc, url.fragment().unwrap_or(""))
 }
 
-fn pointer_in(alloc: Global, fragment: &str) -> Result<Option<Pointer>, Memory>
+/// The pointer that a fragment is. None where it is a name, or no text.
+///
+/// # Errors
+/// `Memory`.
+pub(crate) fn pointer_in(alloc: Global, fragment: &str) -> Result<Option<Pointer>, Memory>
     ensures { IfOk result (λ p. p ≡ (if is_utf8 (percent_decode fragment.now)
         then pointer_of (percent_decode fragment.now) else None)) }
 {
@@ -71,4 +78,36 @@ fn pointer_in(alloc: Global, fragment: &str) -> Result<Option<Pointer>, Memory>
         Err(PointerFault::BadPointer) => Ok(None),
         Err(PointerFault::Memory) => Err(Memory),
     }
+}
+
+/// The fragment, of a reference that has nothing else and is joined with its base as it is.
+pub(crate) fn local_fragment(reference: &str) -> Option<&str>
+    ensures { option_map (λ f. f.now) result ≡ local_fragment reference.now }
+{
+    match after_prefix("#", reference) {
+        Some(fragment) => kept_fragment(reference, fragment),
+        None => None,
+    }
+}
+
+fn kept_fragment<'t>(reference: &str, fragment: &'t str) -> Option<&'t str>
+    ensures { option_map (λ f. f.now) result ≡ kept_fragment reference.now fragment.now }
+{
+    if reference.len() <= URI_LIMIT && are_kept(fragment.as_bytes()) {
+        Some(fragment)
+    } else {
+        None
+    }
+}
+
+fn are_kept(bytes: &[u8]) -> bool
+    ensures { result ≡ list_all is_fragment_byte bytes.now }
+{
+    bytes.iter().all(|byte| is_fragment_byte(*byte))
+}
+
+fn is_fragment_byte(byte: u8) -> bool
+    ensures { result ≡ is_fragment_byte byte }
+{
+    32 < byte && (byte < 127 && !(byte == b'"' || (byte == b'<' || (byte == b'>' || byte == b'`'))))
 }

@@ -2,15 +2,16 @@
 ghost use Rattle.std.specs.Prelude.{◌≡◌, IfOk, OnOk, map};
 ghost use Rattle.js_doc.specs.Seen.{value_of};
 ghost use Rattle.js_doc.specs.Value.{items, members, object};
-ghost use Rattle.js_upgrade.specs.Schema.{change_of, put_all, upgraded_by};
-ghost use Rattle.js_upgrade.specs.Upgrade.{holding_in, items_upgraded, members_upgraded, upgraded};
-ghost use Rattle.js_upgrade.specs.declared.holding.Holding.TheVariants.{One};
+ghost use Rattle.js_upgrade.specs.Schema.{put_all, upgraded_by};
+ghost use Rattle.js_upgrade.specs.Upgrade.{holding_by_change, items_upgraded, members_upgraded, upgraded};
+ghost use Rattle.js_upgrade.specs.declared.holding.SchemaHolding.TheVariants.{One};
 
 use crate::becoming::put_upgraded;
 use crate::dialect::Dialect;
 use crate::gathering::put_one;
-use crate::holding::{Holding, holding_of};
-use crate::schema::{change_of, own_dialect};
+use crate::holding::{SchemaHolding, holding_by_change};
+use crate::keyword::Change;
+use crate::schema::{change_beside, hides, own_dialect};
 use js_doc::{Doc, Items, Members, Memory};
 use std::alloc::Global;
 
@@ -21,7 +22,7 @@ use std::alloc::Global;
 #[cycle(upgrade)]
 pub fn upgraded(
     alloc: Global,
-    holding: Holding,
+    holding: SchemaHolding,
     dialect: Dialect,
     value: &Doc,
 ) -> Result<Doc, Memory>
@@ -29,18 +30,20 @@ pub fn upgraded(
 {
     match value {
         Doc::Members(members) => match holding {
-            Holding::One => Ok(Doc::Members(schema_upgraded(alloc, dialect, members)?)),
-            Holding::OneOrListed => Ok(Doc::Members(schema_upgraded(alloc, dialect, members)?)),
-            Holding::Named => Ok(Doc::Members(members_upgraded(alloc, dialect, members)?)),
-            Holding::Listed => value.copy(alloc),
-            Holding::Nothing => value.copy(alloc),
+            SchemaHolding::One => Ok(Doc::Members(schema_upgraded(alloc, dialect, members)?)),
+            SchemaHolding::OneOrListed => Ok(Doc::Members(schema_upgraded(
+                alloc, dialect, members,
+            )?)),
+            SchemaHolding::Named => Ok(Doc::Members(members_upgraded(alloc, dialect, members)?)),
+            SchemaHolding::Listed => value.copy(alloc),
+            SchemaHolding::Nothing => value.copy(alloc),
         },
         Doc::List(items) => match holding {
-            Holding::Listed => Ok(Doc::List(items_upgraded(alloc, dialect, items)?)),
-            Holding::OneOrListed => Ok(Doc::List(items_upgraded(alloc, dialect, items)?)),
-            Holding::One => value.copy(alloc),
-            Holding::Named => value.copy(alloc),
-            Holding::Nothing => value.copy(alloc),
+            SchemaHolding::Listed => Ok(Doc::List(items_upgraded(alloc, dialect, items)?)),
+            SchemaHolding::OneOrListed => Ok(Doc::List(items_upgraded(alloc, dialect, items)?)),
+            SchemaHolding::One => value.copy(alloc),
+            SchemaHolding::Named => value.copy(alloc),
+            SchemaHolding::Nothing => value.copy(alloc),
         },
         _ => value.copy(alloc),
     }
@@ -51,9 +54,12 @@ fn schema_upgraded(alloc: Global, dialect: Dialect, siblings: &Members) -> Resul
     ensures { IfOk result (λ m. object (members m) ≡ upgraded One dialect (object (members siblings.now))) }
 {
     let own = own_dialect(dialect, siblings);
+    let hidden = hides(own, siblings);
     let mut keywords = Members::new(alloc);
     for (name, argument) in siblings.pairs() {
-        put_keyword(alloc, &mut keywords, own, siblings, name.as_str(), argument)?;
+        let key = name.as_str();
+        let change = change_beside(hidden, own, key);
+        put_keyword(alloc, &mut keywords, own, change, siblings, key, argument)?;
     }
     Ok(keywords)
 }
@@ -63,16 +69,15 @@ fn put_keyword(
     alloc: Global,
     among: &mut Members,
     dialect: Dialect,
+    change: Change,
     siblings: &Members,
     name: &str,
     argument: &Doc,
 ) -> Result<(), Memory>
     ensures { OnOk result (among.new ≡ put_all (upgraded_by siblings.now name.now
-        (upgraded (holding_in dialect siblings.now name.now) dialect (value_of argument.now))
-        (change_of dialect siblings.now name.now)) among.old) }
+        (upgraded (holding_by_change change) dialect (value_of argument.now)) change) among.old) }
 {
-    let change = change_of(dialect, siblings, name);
-    let value = upgraded(alloc, holding_of(change), dialect, argument)?;
+    let value = upgraded(alloc, holding_by_change(change), dialect, argument)?;
     put_upgraded(alloc, among, change, siblings, name, value)
 }
 
@@ -82,7 +87,7 @@ fn members_upgraded(alloc: Global, dialect: Dialect, schemas: &Members) -> Resul
 {
     let mut out = Members::new(alloc);
     for (name, schema) in schemas.pairs() {
-        let schema = upgraded(alloc, Holding::One, dialect, schema)?;
+        let schema = upgraded(alloc, SchemaHolding::One, dialect, schema)?;
         put_one(alloc, &mut out, name.as_str(), schema)?;
     }
     Ok(out)
@@ -95,7 +100,7 @@ fn items_upgraded(alloc: Global, dialect: Dialect, schemas: &Items) -> Result<It
     let docs = schemas.as_slice();
     let mut out = Vec::with_capacity(alloc, docs.len())?;
     for i in 0..docs.len() {
-        out.push(upgraded(alloc, Holding::One, dialect, &docs[i])?)?;
+        out.push(upgraded(alloc, SchemaHolding::One, dialect, &docs[i])?)?;
     }
     Ok(Items::new(out))
 }

@@ -19,6 +19,6 @@ abbrev pub reached_at : Tokens → At → Reached
 reached_at tokens at = (at.way, (at.dialect, (value_of at.value.now, tokens)))
 
 -- to this, with these tokens behind those before
-abbrev pub IsBack : Tokens → Tokens → Option Back → Option At → Type 0
-IsBack old new found None = found ≡ None
-IsBack old new found (Some at) = option_map (reached_by old) found ≡ Some (reached_at new at)
+abbrev pub IsStepBack : Tokens → Tokens → Option Back → Option At → Type 0
+IsStepBack old new found None = found ≡ None
+IsStepBack old new found (Some at) = option_map (reached_by old) found ≡ Some (reached_at new at)

@@ -6,9 +6,9 @@ use Rattle.std.specs.List.{list_any}
 use Rattle.std.specs.Ordering.{is_eq, nat_cmp}
 use Rattle.js_doc.specs.Value.{Text}
 
-abbrev pub is_key : List (Bor Text) → Text → Bool
-is_key keys s = list_any (λ k. is_eq (slice_cmp nat_cmp s k.now)) keys
+abbrev pub is_seen_text : List (Bor Text) → Text → Bool
+is_seen_text keys s = list_any (λ k. is_eq (slice_cmp nat_cmp s k.now)) keys
 
 -- the keys are the names that were seen
 abbrev pub HasSeen : List (Bor Text) → List Text → Type 0
-HasSeen keys names = (q : Bor Text) → is_key keys q.now ≡ list_any (bytes_eq q.now) names
+HasSeen keys names = (q : Bor Text) → is_seen_text keys q.now ≡ list_any (bytes_eq q.now) names

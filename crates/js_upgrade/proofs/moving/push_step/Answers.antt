@@ -4,7 +4,7 @@ use Rattle.js_doc.proofs.PartLists.{member_list-members}
 use Rattle.js_upgrade.specs.Moved.{keyword_step, step}
 use Rattle.js_upgrade.specs.Upgrade.{own_dialect}
 use Rattle.js_upgrade.specs.code.Pushed.{IsStepped}
-use Rattle.js_upgrade.specs.declared.holding.Holding.TheVariants.{One, OneOrListed}
+use Rattle.js_upgrade.specs.declared.holding.SchemaHolding.TheVariants.{One, OneOrListed}
 use Rattle.js_upgrade.proofs.moving.push_step.Goals as goal
 
 pub returns-in-One : goal.returns-in-One

@@ -4,8 +4,8 @@ use Rattle.js_doc.specs.declared.doc.Doc.TheVariants as Doc
 use Rattle.js_doc.proofs.PartLists.{member_list-members}
 use Rattle.js_upgrade.specs.Originals.{held_back, keyword_back}
 use Rattle.js_upgrade.specs.Upgrade.{own_dialect}
-use Rattle.js_upgrade.specs.code.Back.{IsBack}
-use Rattle.js_upgrade.specs.declared.holding.Holding.TheVariants.{One, OneOrListed}
+use Rattle.js_upgrade.specs.code.Back.{IsStepBack}
+use Rattle.js_upgrade.specs.declared.holding.SchemaHolding.TheVariants.{One, OneOrListed}
 use Rattle.js_upgrade.proofs.originals.held_back.Goals as goal
 
 pub returns-in-One : goal.returns-in-One
@@ -20,7 +20,7 @@ returns-in-One c =
     (member_list-members c.in-Members.siblings)
     ∙ ap (λ w. keyword_back (own_dialect d c.in-Members.siblings) c.in-Members.siblings w token) (sym is) in
     let call = c.keyword_back in
-    subst (λ s. IfOk call.result (IsBack c.args.out.now call.new.out s)) (sym same) call.ensures
+    subst (λ s. IfOk call.result (IsStepBack c.args.out.now call.new.out s)) (sym same) call.ensures
 
 pub returns-in-OneOrListed : goal.returns-in-OneOrListed
 returns-in-OneOrListed c =
@@ -34,4 +34,4 @@ returns-in-OneOrListed c =
     (member_list-members c.in-Members.siblings)
     ∙ ap (λ w. keyword_back (own_dialect d c.in-Members.siblings) c.in-Members.siblings w token) (sym is) in
     let call = c.keyword_back-in-OneOrListed in
-    subst (λ s. IfOk call.result (IsBack c.args.out.now call.new.out s)) (sym same) call.ensures
+    subst (λ s. IfOk call.result (IsStepBack c.args.out.now call.new.out s)) (sym same) call.ensures

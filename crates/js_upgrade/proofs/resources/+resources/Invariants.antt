@@ -3,9 +3,9 @@ use Rattle.js_doc.specs.Nesting.{depth}
 use Rattle.js_doc.specs.Value.{list, object, items, members}
 use Rattle.js_doc.specs.Seen.{value_of, pair_of}
 use Rattle.js_upgrade.specs.Resource.{item_resources, member_resources}
-use Rattle.js_upgrade.specs.Seen.{resource_of}
+use Rattle.js_upgrade.specs.Seen.{resource_seen}
 use Rattle.js_upgrade.specs.Upgrade.{holding_in}
-use Rattle.js_upgrade.specs.declared.holding.Holding.TheVariants.{One}
+use Rattle.js_upgrade.specs.declared.holding.SchemaHolding.TheVariants.{One}
 use Rattle.js_upgrade.proofs.Loops.{IsSplit}
 use Rattle.js_upgrade.proofs.resources.+resources.Given as goal
 
@@ -30,21 +30,21 @@ invariant-push_keyword_resources-loop-name l =
     let entries = l.initial.name-iterator in
     let held = holding_in l.dialect l.siblings in
     IsSplit entries l.name-iterator
-    × (map resource_of l.out.items
+    × (map resource_seen l.out.items
     ++ member_resources held l.dialect l.base (members (map pair_of l.name-iterator))
-    ≡ map resource_of l.initial.out.items
+    ≡ map resource_seen l.initial.out.items
     ++ member_resources held l.dialect l.base (members (map pair_of entries)))
 
 abbrev pub invariant-push_member_resources-loop-schema : goal.invariant-push_member_resources-loop-schema
 invariant-push_member_resources-loop-schema l =
     let entries = l.initial.schema-iterator in
     IsSplit entries l.schema-iterator
-    × (map resource_of l.out.items
+    × (map resource_seen l.out.items
     ++ member_resources (λ name. One) l.dialect l.base (members (map pair_of l.schema-iterator))
-    ≡ map resource_of l.initial.out.items
+    ≡ map resource_seen l.initial.out.items
     ++ member_resources (λ name. One) l.dialect l.base (members (map pair_of entries)))
 
 abbrev pub invariant-push_item_resources-loop-i : goal.invariant-push_item_resources-loop-i
 invariant-push_item_resources-loop-i l =
-    map resource_of l.out.items ++ item_resources l.dialect l.base (items (map value_of (drop l.i l.docs)))
-    ≡ map resource_of l.initial.out.items ++ item_resources l.dialect l.base (items (map value_of l.docs))
+    map resource_seen l.out.items ++ item_resources l.dialect l.base (items (map value_of (drop l.i l.docs)))
+    ≡ map resource_seen l.initial.out.items ++ item_resources l.dialect l.base (items (map value_of l.docs))

@@ -12,8 +12,8 @@ returns-then-has_any c =
     ∙ any_types c.as_slice.result.now c.in-List.items c.args.rest.now c.as_slice.ensures
     (sym c.has_any.ensures ∙ c.if-has_any.true)
 
-pub returns-in_ok-part_named-in-List : goal.returns-in_ok-part_named-in-List
-returns-in_ok-part_named-in-List c =
+pub returns-in_ok-part_by_token-in-List : goal.returns-in_ok-part_by_token-in-List
+returns-in_ok-part_by_token-in-List c =
     let index = c.in-Some.index.now in
     let is = ap value_of c.in-List.is in
     let same = ap (types_under (value_of c.args.value.now)) c.in-Some.ensures.cases.0
@@ -21,7 +21,7 @@ returns-in_ok-part_named-in-List c =
     ∙ types_found c.as_slice.result.now c.in-List.items index c.in-Some.field-0-1.now c.as_slice.ensures
     (sym c.has_any.ensures ∙ c.if-has_any.false)
     ∙ sym (ap (λ v. alternative_under (part_named index v)) is)
-    ∙ sym (ap alternative_under (c.in_ok-part_named-in-List.ensures
+    ∙ sym (ap alternative_under (c.in_ok-part_by_token-in-List.ensures
     ∙ ap (λ k. part_named k (value_of c.args.value.now)) c.as_str.ensures)) in
     subst (λ o. IfOk c.push_alternative.result (IsPushed c.args.out.now c.push_alternative.new.out o)) (sym same)
     c.push_alternative.ensures

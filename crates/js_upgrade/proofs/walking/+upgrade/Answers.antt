@@ -2,11 +2,12 @@ use Rattle.std.proofs.Common.{ℕ, List, [], ap, ◌∙◌, arith}
 use Rattle.js_doc.specs.Value.{members}
 use Rattle.js_doc.specs.Seen.{value_of}
 use Rattle.js_doc.specs.declared.doc.Doc.{Doc}
-use Rattle.js_upgrade.specs.Schema.{gathered, one, put_all}
-use Rattle.js_upgrade.specs.Upgrade.{becomes, holding_in, members_upgraded, upgraded}
-use Rattle.js_upgrade.specs.declared.holding.Holding.TheVariants.{One}
+use Rattle.js_upgrade.specs.Schema.{change_of, gathered_members, one, put_all, upgraded_by}
+use Rattle.js_upgrade.specs.Upgrade.{becomes, holding_in, holding_by_change, members_upgraded, upgraded}
+use Rattle.js_upgrade.specs.declared.holding.SchemaHolding.TheVariants.{One}
 use Rattle.js_upgrade.proofs.InOrder.{gathered_one, names_ascend}
-use Rattle.js_upgrade.proofs.Loops.{all_seen, gathered_end, gathered_next, next_item_smaller, next_smaller, schema_is}
+use Rattle.js_upgrade.proofs.Loops.{all_seen, change_known, gathered_end, gathered_next, next_item_smaller}
+use Rattle.js_upgrade.proofs.Loops.{next_smaller, schema_is}
 use Rattle.js_upgrade.proofs.Loops.{split_next}
 use Rattle.js_upgrade.proofs.walking.+upgrade.Goals as goal
 
@@ -34,8 +35,14 @@ schema_upgraded-loop-name-preserved t c =
       split_next _ l.name-iterator c.next.new.self m l.invariant.0 c.in-Some.ensures.steps,
       gathered_next (becomes own siblings) (holding_in own siblings) own l.name-iterator c.next.new.self m l.keywords
           c.put_keyword.new.among _ c.in-Some.ensures.steps
-          (c.in_ok-put_keyword.ensures ∙ ap (λ k. put_all (becomes own siblings k
-          (upgraded (holding_in own siblings k) own (value_of m.1))) l.keywords) c.as_str.ensures)
+          (c.in_ok-put_keyword.ensures
+          ∙ ap (λ change. put_all (upgraded_by siblings c.as_str-key.result.now
+          (upgraded (holding_by_change change) own (value_of m.1)) change) l.keywords)
+          (change_known own siblings c.hides-hidden.result m.0 c.as_str-key.result.now c.change_beside-change.result
+          c.hides-hidden.ensures c.as_str-key.ensures c.change_beside-change.ensures)
+          ∙ ap (λ k. put_all (upgraded_by siblings k
+          (upgraded (holding_in own siblings m.0) own (value_of m.1)) (change_of own siblings m.0)) l.keywords)
+          c.as_str-key.ensures)
           l.invariant.1,
     )
 
@@ -48,7 +55,8 @@ schema_upgraded-returns t c =
     schema_is c.args.dialect own siblings l.keywords c.own_dialect-own.ensures
     (gathered_end (becomes own siblings) (holding_in own siblings) own l.name-iterator l.keywords _
     c.in-None.ensures.steps.0 l.invariant.1
-    ∙ ap (λ ms. gathered (becomes own siblings) (members_upgraded (holding_in own siblings) own (members ms)) []) seen)
+    ∙ ap (λ ms. gathered_members (becomes own siblings) (members_upgraded (holding_in own siblings) own
+    (members ms)) []) seen)
 
 pub members_upgraded-loop-name-preserved : goal.members_upgraded-loop-name-preserved
 members_upgraded-loop-name-preserved t c =
@@ -70,6 +78,6 @@ members_upgraded-returns t c =
     let d = c.args.dialect in
     let seen = all_seen c.pairs-name-items.ensures.pairs c.into_iter-name-iterator.ensures.into_iter_gives in
     gathered_end one (λ name. One) d l.name-iterator l.out _ c.in-None.ensures.steps.0 l.invariant.1
-    ∙ ap (λ ms. gathered one (members_upgraded (λ name. One) d (members ms)) []) seen
+    ∙ ap (λ ms. gathered_members one (members_upgraded (λ name. One) d (members ms)) []) seen
     ∙ gathered_one (members_upgraded (λ name. One) d (members c.args.schemas.now))
     (names_ascend (λ name. One) d c.args.schemas.now c.pairs-name-items.ensures.ascending)

@@ -2,9 +2,9 @@ use Rattle.std.proofs.Common.{◌≡◌, ◌+◌, ◌*◌, ◌++◌, [], map, dr
 use Rattle.js_doc.specs.Nesting.{depth}
 use Rattle.js_doc.specs.Value.{list, object, items, members}
 use Rattle.js_doc.specs.Seen.{value_of, pair_of}
-use Rattle.js_upgrade.specs.Schema.{gathered, one}
+use Rattle.js_upgrade.specs.Schema.{gathered_members, one}
 use Rattle.js_upgrade.specs.Upgrade.{becomes, holding_in, items_upgraded, members_upgraded}
-use Rattle.js_upgrade.specs.declared.holding.Holding.TheVariants.{One}
+use Rattle.js_upgrade.specs.declared.holding.SchemaHolding.TheVariants.{One}
 use Rattle.js_upgrade.proofs.Loops.{IsSplit}
 use Rattle.js_upgrade.proofs.walking.+upgrade.Given as goal
 
@@ -30,16 +30,17 @@ invariant-schema_upgraded-loop-name l =
     let own = l.own in
     let siblings = l.siblings in
     IsSplit all l.name-iterator
-    × (gathered (becomes own siblings)
+    × (gathered_members (becomes own siblings)
     (members_upgraded (holding_in own siblings) own (members (map pair_of l.name-iterator))) l.keywords
-    ≡ gathered (becomes own siblings) (members_upgraded (holding_in own siblings) own (members (map pair_of all))) [])
+    ≡ gathered_members (becomes own siblings) (members_upgraded (holding_in own siblings) own (members
+    (map pair_of all))) [])
 
 abbrev pub invariant-members_upgraded-loop-name : goal.invariant-members_upgraded-loop-name
 invariant-members_upgraded-loop-name l =
     let all = l.initial.name-iterator in
     IsSplit all l.name-iterator
-    × (gathered one (members_upgraded (λ name. One) l.dialect (members (map pair_of l.name-iterator))) l.out
-    ≡ gathered one (members_upgraded (λ name. One) l.dialect (members (map pair_of all))) [])
+    × (gathered_members one (members_upgraded (λ name. One) l.dialect (members (map pair_of l.name-iterator))) l.out
+    ≡ gathered_members one (members_upgraded (λ name. One) l.dialect (members (map pair_of all))) [])
 
 abbrev pub invariant-items_upgraded-loop-i : goal.invariant-items_upgraded-loop-i
 invariant-items_upgraded-loop-i l =

@@ -1,5 +1,5 @@
 use Rattle.js_upgrade.proofs.Prefixes.{after_is}
-use Rattle.js_upgrade.proofs.dialect.after.Goals as goal
+use Rattle.js_upgrade.proofs.dialect.after_prefix.Goals as goal
 
 pub returns : goal.returns
 returns c = after_is c.args.prefix.now c.args.text.now c.strip_prefix.result c.strip_prefix.ensures.cases
