@@ -1,14 +1,13 @@
 //! The program `jschema-upgrade`: schema documents of older drafts in, documents of 2020-12 out.
 #![tactic(auto)]
 
-mod disk;
+mod disk_folder;
 
-use disk::Disk;
-use js_command::{FAILED, MISUSED};
+use disk_folder::DiskFolder;
+use js_command::{Disk, FAILED, program_arguments};
 use js_output::Sink;
-use js_upgrade_command::{USAGE, command};
-use std::env;
-use std::io::{BufWriter, ErrorKind};
+use js_upgrade_command::{UPGRADE_USAGE, upgrade_command};
+use std::io::BufWriter;
 use std::process::ExitCode;
 
 fn main(rt: HostRuntime) -> ExitCode {
@@ -17,13 +16,9 @@ fn main(rt: HostRuntime) -> ExitCode {
 
 fn status(rt: &HostRuntime) -> u8 {
     let mut faults = Sink::new(rt.stderr());
-    let words = match words_given(rt) {
+    let words = match program_arguments(rt) {
         Ok(words) => words,
-        Err(NoWords::Memory) => return FAILED,
-        Err(NoWords::NotUtf8) => {
-            let _ = faults.write_all(USAGE);
-            return MISUSED;
-        }
+        Err(reason) => return reason.report_usage(UPGRADE_USAGE, &mut faults),
     };
     let mut lent = Vec::new(rt.alloc());
     for word in &words {
@@ -32,12 +27,12 @@ fn status(rt: &HostRuntime) -> u8 {
         }
     }
     let mut files = Disk::new(rt);
-    let mut folder = Disk::new(rt);
+    let mut folder = DiskFolder::new(rt);
     let Ok(mut buffered) = BufWriter::new(rt.alloc(), rt.stdout()) else {
         return FAILED;
     };
     let mut out = Sink::new(&mut buffered);
-    let status = command(
+    let status = upgrade_command(
         rt.alloc(),
         lent.as_slice(),
         &mut files,
@@ -49,27 +44,4 @@ fn status(rt: &HostRuntime) -> u8 {
     // Dropping the buffer would write again what a failed write left in it.
     drop(buffered.into_parts());
     status
-}
-
-// Why there are no arguments: memory ran out, or one isn't UTF-8.
-#[derive(Drop)]
-enum NoWords {
-    Memory,
-    NotUtf8,
-}
-
-// The arguments after the program's name.
-fn words_given(rt: &HostRuntime) -> Result<Vec<String>, NoWords> {
-    let all = match env::args(rt) {
-        Ok(all) => all,
-        Err(error) if error.kind() == ErrorKind::OutOfMemory => return Err(NoWords::Memory),
-        Err(_) => return Err(NoWords::NotUtf8),
-    };
-    let mut words = Vec::new(rt.alloc());
-    for word in all.skip(1) {
-        if words.push(word).is_err() {
-            return Err(NoWords::Memory);
-        }
-    }
-    Ok(words)
 }

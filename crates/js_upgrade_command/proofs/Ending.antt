@@ -14,15 +14,15 @@ use Rattle.js_command.specs.Files.{ContentsByPath, IsFileFault}
 use Rattle.js_command.specs.Status.{fault_status}
 use Rattle.js_command.specs.Words.{files_of}
 use Rattle.js_upgrade.specs.Documents.{Sources}
-use Rattle.js_upgrade_command.specs.Outcome.{IsDone, IsStopped, IsUntaken, RequestOutcome, StopsBy, outcome}
-use Rattle.js_upgrade_command.specs.Outcome.{sources_after}
-use Rattle.js_upgrade_command.specs.Outputs.{IsBegun, IsWritten, Written}
+use Rattle.js_upgrade_command.specs.Outcome.{IsDone, IsRequestStopped, IsUntaken, IsUpgradeStop, UpgradeOutcome}
+use Rattle.js_upgrade_command.specs.Outcome.{outcome, sources_after}
+use Rattle.js_upgrade_command.specs.Outputs.{IsPartlyWritten, IsWritten, Written}
 use Rattle.js_upgrade_command.specs.Stop.{stopped_by}
-use Rattle.js_upgrade_command.specs.Upgraded.{upgraded}
-use Rattle.js_upgrade_command.specs.Words.{Request, and_then}
-use Rattle.js_upgrade_command.specs.code.Seen.{IsMisuse, IsRefusal, misuse_status}
-use Rattle.js_upgrade_command.specs.declared.words.Misuse.{Misuse}
-use Rattle.js_upgrade_command.specs.declared.words.Misuse.TheVariants as misuse
+use Rattle.js_upgrade_command.specs.Upgraded.{upgraded_or_refused}
+use Rattle.js_upgrade_command.specs.Words.{UpgradeRequest, and_then}
+use Rattle.js_upgrade_command.specs.code.Seen.{IsUpgradeMisuse, RefusesWith, upgrade_misuse_status}
+use Rattle.js_upgrade_command.specs.declared.words.UpgradeMisuse.{UpgradeMisuse}
+use Rattle.js_upgrade_command.specs.declared.words.UpgradeMisuse.TheVariants as misuse
 
 -- ---- files
 
@@ -46,8 +46,8 @@ none_written contents n [] d h = h
 none_written contents n (path ∷ paths) d (inl h) = no_file_written (contents path) h.1
 none_written contents n (path ∷ paths) d (inr h) = none_written contents (n + 1) paths d h.1
 
-pub untaken_stops : (contents : ContentsByPath) (request : Request) (d : Option ℕ) (f : Fault)
-    → IsUntaken contents 0 (files_of request.documents) d f → StopsBy contents request d f
+pub untaken_stops : (contents : ContentsByPath) (request : UpgradeRequest) (d : Option ℕ) (f : Fault)
+    → IsUntaken contents 0 (files_of request.documents) d f → IsUpgradeStop contents request d f
 untaken_stops contents request d fault.Memory h = tt
 untaken_stops contents request d (fault.Refused r) h =
     absurd (none_refused contents 0 (files_of request.documents) d r h)
@@ -56,19 +56,21 @@ untaken_stops contents request d _ h = h
 -- ---- refusals
 
 pub outcome_there : (assumed : _) (texts : DocumentTexts) (sources : Sources) (answer : Result Values Refusal)
-    → sources_after assumed [] 0 texts ≡ Ok sources → upgraded sources ≡ answer → outcome assumed texts ≡ answer
-outcome_there assumed texts sources answer e f = ap (λ r. and_then r upgraded) e ∙ f
+    → sources_after assumed [] 0 texts ≡ Ok sources → upgraded_or_refused sources ≡ answer → outcome assumed texts
+    ≡ answer
+outcome_there assumed texts sources answer e f = ap (λ r. and_then r upgraded_or_refused) e ∙ f
 
-module _ (contents : ContentsByPath) (request : Request) (texts : DocumentTexts)
+module _ (contents : ContentsByPath) (request : UpgradeRequest) (texts : DocumentTexts)
     (holds : AreContents contents request.documents texts) where
-  pub unread_stops : (f : Fault) → IsRefusal (sources_after request.assumed [] 0 texts) f
-      → StopsBy contents request (stopped_by f).document (stopped_by f).fault
+  pub unread_stops : (f : Fault) → RefusesWith (sources_after request.assumed [] 0 texts) f
+      → IsUpgradeStop contents request (stopped_by f).document (stopped_by f).fault
   unread_stops fault.Memory h = tt
-  unread_stops (fault.Refused r) h = (refl, (texts, holds, ap (λ r. and_then r upgraded) h))
+  unread_stops (fault.Refused r) h = (refl, (texts, holds, ap (λ r. and_then r upgraded_or_refused) h))
   unread_stops _ h = absurd h
 
   pub refused_stops : (sources : Sources) (f : Fault) → sources_after request.assumed [] 0 texts ≡ Ok sources
-      → IsRefusal (upgraded sources) f → StopsBy contents request (stopped_by f).document (stopped_by f).fault
+      → RefusesWith (upgraded_or_refused sources) f
+      → IsUpgradeStop contents request (stopped_by f).document (stopped_by f).fault
   refused_stops sources fault.Memory e h = tt
   refused_stops sources (fault.Refused r) e h =
       (refl, (texts, holds, outcome_there request.assumed texts sources (Err r) e h))
@@ -76,25 +78,25 @@ module _ (contents : ContentsByPath) (request : Request) (texts : DocumentTexts)
 
 -- ---- with nothing written, and with a prefix
 
-pub stops_before : (contents : ContentsByPath) (request : Request) (out : Option (List ℕ)) (failed : Bool)
-    (files : Option Written) (d : Option ℕ) (f : Fault) → StopsBy contents request d f
-    → IsStopped contents request out out failed files files d f
+pub stops_before : (contents : ContentsByPath) (request : UpgradeRequest) (out : Option (List ℕ)) (failed : Bool)
+    (files : Option Written) (d : Option ℕ) (f : Fault) → IsUpgradeStop contents request d f
+    → IsRequestStopped contents request out out failed files files d f
 stops_before contents request out failed files d fault.Memory h = tt
 stops_before contents request out failed files d fault.Write h =
     absurd (none_written contents 0 (files_of request.documents) d h)
 stops_before contents request out failed files d _ h = (Keeps-refl out, refl, h)
 
-pub stops_within : (contents : ContentsByPath) (request : Request) (values : Values)
+pub stops_within : (contents : ContentsByPath) (request : UpgradeRequest) (values : Values)
     (old new : Option (List ℕ)) (failed : Bool) (before after : Option Written) (d : Option ℕ) (f : Fault)
-    → RequestOutcome contents request (Ok values)
+    → UpgradeOutcome contents request (Ok values)
     → (f ≢ fault.Memory
-    → (f ≡ fault.Write) × IsBegun request.into request.documents values old new failed before after d)
-    → IsStopped contents request old new failed before after d f
+    → (f ≡ fault.Write) × IsPartlyWritten request.into request.documents values old new failed before after d)
+    → IsRequestStopped contents request old new failed before after d f
 stops_within contents request values old new failed before after d f comes h = by_fault f h
   where
     by_fault : (f : Fault) → (f ≢ fault.Memory
-        → (f ≡ fault.Write) × IsBegun request.into request.documents values old new failed before after d)
-        → IsStopped contents request old new failed before after d f
+        → (f ≡ fault.Write) × IsPartlyWritten request.into request.documents values old new failed before after d)
+        → IsRequestStopped contents request old new failed before after d f
     by_fault fault.Memory h = tt
     by_fault fault.Write h = (values, comes, (h (λ e. cc)).1)
     by_fault fault.Read h = let e = (h (λ e. cc)).0 in absurd (cc)
@@ -107,7 +109,8 @@ stops_within contents request values old new failed before after d f comes h = b
 
 -- ---- words that ask for nothing
 
-pub misused_ends : {A : Type 0} (asked : Result A Misuse) (m : Misuse) (status : ℕ) → status ≡ misuse_status m
+pub misused_ends : {A : Type 0} (asked : Result A UpgradeMisuse) (m : UpgradeMisuse) (status : ℕ)
+    → status ≡ upgrade_misuse_status m
     → OnErr asked ((status ≡ 2) ⊎ (status ≡ 4))
 misused_ends (Ok a) m status e = tt
 misused_ends (Err f) misuse.Memory status e = inr e
@@ -117,7 +120,7 @@ misused_ends (Err f) misuse.NoDialect status e = inl e
 misused_ends (Err f) misuse.NoFolder status e = inl e
 misused_ends (Err f) misuse.OneName status e = inl e
 
-pub misuse_named : (m : Misuse) (status : ℕ) → status ≡ misuse_status m
+pub misuse_named : (m : UpgradeMisuse) (status : ℕ) → status ≡ upgrade_misuse_status m
     → (status ≡ 0) ⊎ (status ≡ 2) ⊎ (status ≡ 3) ⊎ (status ≡ 4)
 misuse_named misuse.Memory status e = inr (inr (inr e))
 misuse_named misuse.OtherForm status e = inr (inl e)
@@ -127,8 +130,9 @@ misuse_named misuse.NoFolder status e = inr (inl e)
 misuse_named misuse.OneName status e = inr (inl e)
 
 -- a status of 2 is a misuse by what the words ask for
-pub misuse_asked : {A : Type 0} (asked : Result A Misuse) (m : Misuse) (status : ℕ) → status ≡ misuse_status m
-    → IsMisuse asked m → status ≡ 2 → asked ≡ Err m
+pub misuse_asked : {A : Type 0} (asked : Result A UpgradeMisuse) (m : UpgradeMisuse) (status : ℕ)
+    → status ≡ upgrade_misuse_status m
+    → IsUpgradeMisuse asked m → status ≡ 2 → asked ≡ Err m
 misuse_asked asked misuse.Memory status e h two = let wrong : 4 ≡ 2 = sym e ∙ two in absurd (omega (arith, wrong))
 misuse_asked asked misuse.OtherForm status e h two = h
 misuse_asked asked misuse.OddPairs status e h two = h
@@ -136,7 +140,7 @@ misuse_asked asked misuse.NoDialect status e h two = h
 misuse_asked asked misuse.NoFolder status e h two = h
 misuse_asked asked misuse.OneName status e h two = h
 
-pub misuse_above : (m : Misuse) (status : ℕ) → status ≡ misuse_status m → 2 < status → status ≡ 4
+pub misuse_above : (m : UpgradeMisuse) (status : ℕ) → status ≡ upgrade_misuse_status m → 2 < status → status ≡ 4
 misuse_above misuse.Memory status e h = e
 misuse_above misuse.OtherForm status e h = absurd (omega (arith, e, h))
 misuse_above misuse.OddPairs status e h = absurd (omega (arith, e, h))
@@ -144,7 +148,7 @@ misuse_above misuse.NoDialect status e h = absurd (omega (arith, e, h))
 misuse_above misuse.NoFolder status e h = absurd (omega (arith, e, h))
 misuse_above misuse.OneName status e h = absurd (omega (arith, e, h))
 
-pub misuse_nonzero : {P : Type 0} (m : Misuse) (status : ℕ) → status ≡ misuse_status m → status ≡ 0 → P
+pub misuse_nonzero : {P : Type 0} (m : UpgradeMisuse) (status : ℕ) → status ≡ upgrade_misuse_status m → status ≡ 0 → P
 misuse_nonzero misuse.Memory status e z = absurd (omega (arith, e, z))
 misuse_nonzero misuse.OtherForm status e z = absurd (omega (arith, e, z))
 misuse_nonzero misuse.OddPairs status e z = absurd (omega (arith, e, z))
@@ -184,9 +188,9 @@ stop_above f status other e low same = not_less status (stop_status f status e) 
 
 -- ---- all were written
 
-pub done_by : {T E : Type 0} (contents : ContentsByPath) (request : Request) (slice items : List Doc)
+pub done_by : {T E : Type 0} (contents : ContentsByPath) (request : UpgradeRequest) (slice items : List Doc)
     (old new : Option (List ℕ)) (before after : Option Written) (r : Result T E) → slice ≡ items
-    → RequestOutcome contents request (Ok (map value_of items))
+    → UpgradeOutcome contents request (Ok (map value_of items))
     → OnOk r (IsWritten request.into request.documents (map value_of slice) old new before after)
     → OnOk r (IsDone contents request old new before after)
 done_by contents request slice items old new before after (Err e) same comes h = tt

@@ -3,7 +3,8 @@ use Rattle.std.proofs.Common.{◌≡◌, ◌∙◌, ℕ, ◌+◌, ◌-◌, ◌<�
 use Rattle.std.proofs.Common.{cond, drop, suc, refl, sym, ap, arith}
 use Rattle.std.proofs.lemmas.List.{length-drop}
 use Rattle.std.specs.List.{after_first, position_or_len}
-use Rattle.js_upgrade_command.specs.Names.{Text, is_slash, name_after, name_of}
+use Rattle.js_upgrade_command.specs.Names.{is_slash, name_after, file_name_of}
+use Rattle.js_doc.specs.Value.{Text}
 
 abbrev before : Text → ℕ
 before bs = position_or_len is_slash bs
@@ -30,8 +31,8 @@ past kept [] h = absurd (omega (arith, h))
 past kept (b ∷ bs) h = past_by kept b bs (is_slash b) (past kept bs) h
 
 pub name_past : (path rest : Text) → rest ≡ after_first is_slash path → position_or_len is_slash path < length path
-    → name_of rest ≡ name_of path
-name_past path rest is h = ap name_of is ∙ sym (past path path h)
+    → file_name_of rest ≡ file_name_of path
+name_past path rest is h = ap file_name_of is ∙ sym (past path path h)
 
 -- it is all, if there is none
 none_by : (kept : Text) (b : ℕ) (bs : Text) (v : Bool) → (before bs ≡ length bs → name_after kept bs ≡ kept)
@@ -43,7 +44,7 @@ none : (kept bs : Text) → before bs ≡ length bs → name_after kept bs ≡ k
 none kept [] h = refl
 none kept (b ∷ bs) h = none_by kept b bs (is_slash b) (none kept bs) h
 
-pub name_whole : (path : Text) → position_or_len is_slash path ≡ length path → name_of path ≡ path
+pub name_whole : (path : Text) → position_or_len is_slash path ≡ length path → file_name_of path ≡ path
 name_whole path h = none path path h
 
 -- what stands behind a slash is shorter

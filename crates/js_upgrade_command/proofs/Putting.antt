@@ -4,10 +4,12 @@ use Rattle.std.proofs.Common.{None, option_map, refl, sym, ap, ap₂, ◌∙◌,
 use Rattle.std.proofs.lemmas.List.{append-nil, drop_all, drop_more, length-append}
 use Rattle.js_doc.specs.Seen.{value_of}
 use Rattle.js_doc.specs.declared.doc.Doc.{Doc}
-use Rattle.js_upgrade_command.specs.Names.{Text, path_in}
-use Rattle.js_upgrade_command.specs.Outputs.{Written, HasPut, IsPartlyPut, files_in, line_of}
-use Rattle.js_upgrade_command.specs.code.Seen.{pairs_seen}
-use Rattle.js_upgrade_command.specs.declared.words.DocumentFile.{DocumentFile}
+use Rattle.js_upgrade_command.specs.Names.{path_in}
+use Rattle.js_doc.specs.Value.{Text}
+use Rattle.js_upgrade_command.specs.Outputs.{Written, HasPut, IsPartlyPut, files_in}
+use Rattle.js_output.specs.Values.{value_line}
+use Rattle.js_command.specs.Words.{pairs_seen}
+use Rattle.js_command.specs.declared.words.DocumentFile.{DocumentFile}
 
 pub put_nothing : (known : Option Written) → HasPut known known []
 put_nothing None = refl
@@ -43,10 +45,10 @@ module _ (path : Text) (files : List DocumentFile) (documents : List Doc) (at : 
   pub put_more : (f : DocumentFile) (d : Doc) (before between after : Option Written)
       → at < length files → at < length documents → d ≡ get_or documents at d
       → IsPutSoFar path files documents at before between
-      → HasPut between after ((path_in path (get_or files at f).file.now, line_of (value_of d)) ∷ [])
+      → HasPut between after ((path_in path (get_or files at f).file.now, value_line (value_of d)) ∷ [])
       → IsPutSoFar path files documents (at + 1) before after
   put_more f d before between after low few here sofar put =
-      let this : Text × List ℕ = (path_in path (get_or files at f).file.now, line_of (value_of d)) in
+      let this : Text × List ℕ = (path_in path (get_or files at f).file.now, value_line (value_of d)) in
       let files_are : drop at files ≡ get_or files at f ∷ drop (at + 1) files = drop_more files at f low in
       let documents_are : drop at documents ≡ d ∷ drop (at + 1) documents = drop_more documents at d few
       ∙ ap (λ x. x ∷ drop (at + 1) documents) (sym here) in

@@ -1,24 +1,18 @@
 -- Documents whose files are taken one after another.
 use Rattle.std.proofs.Common.{◌≡◌, ℕ, ◌+◌, ◌<◌, ◌≤◌, inl, inr, List, [], ◌∷◌, ◌++◌, length, get_or, drop, Option}
-use Rattle.std.proofs.Common.{Some, None, refl, sym, ap, ◌∙◌, subst, append_assoc}
-use Rattle.std.proofs.lemmas.List.{append-nil, drop_all, drop_more}
+use Rattle.std.proofs.Common.{Some, None, refl, sym, ap, ◌∙◌, subst}
+use Rattle.std.proofs.lemmas.List.{drop_more}
 use Rattle.js_output.specs.Device.{IsLeft, input_limit}
-use Rattle.js_output.specs.Documents.{DocumentTexts}
 use Rattle.js_output.specs.declared.fault.Fault.{Fault}
 use Rattle.js_output.specs.declared.fault.Fault.TheVariants as fault
-use Rattle.js_command.specs.Answer.{AreContents}
-use Rattle.js_command.specs.Files.{ContentsByPath, MayFit, IsFileFault}
-use Rattle.js_command.specs.Words.{files_of}
+use Rattle.js_command.specs.Files.{ContentsByPath, IsFileFault}
+use Rattle.js_command.specs.Words.{files_of, pairs_seen}
 use Rattle.js_upgrade_command.specs.Outcome.{IsUntaken}
-use Rattle.js_upgrade_command.specs.code.Seen.{pairs_seen, taken_seen, texts_seen}
-use Rattle.js_upgrade_command.specs.declared.documents.Taken.{Taken}
-use Rattle.js_upgrade_command.specs.declared.words.DocumentFile.{DocumentFile}
-
--- whatever documents the rest holds, these stand before them
-abbrev pub HoldsSoFar : ContentsByPath → List DocumentFile → ℕ → DocumentTexts → Type 0
-HoldsSoFar contents documents at taken = (rest : DocumentTexts)
-    → AreContents contents (pairs_seen (drop at documents)) rest
-    → AreContents contents (pairs_seen documents) (taken ++ rest)
+use Rattle.js_upgrade_command.specs.code.Seen.{taken_seen, texts_seen}
+use Rattle.js_upgrade_command.specs.declared.documents.DocumentText.{DocumentText}
+use Rattle.js_command.specs.declared.words.DocumentFile.{DocumentFile}
+use Rattle.js_command.proofs.FileFaults.{may_fit}
+use Rattle.js_command.proofs.Holding.{HoldsSoFar, holds_more as holds_one_more}
 
 -- those before this one were taken, so the rest decides
 abbrev pub RestUntaken : ContentsByPath → List DocumentFile → ℕ → Type 0
@@ -26,34 +20,27 @@ RestUntaken contents documents at = (document : Option ℕ) (f : Fault)
     → IsUntaken contents at (files_of (pairs_seen (drop at documents))) document f
     → IsUntaken contents 0 (files_of (pairs_seen documents)) document f
 
-pub holds_none : (contents : ContentsByPath) (documents : List DocumentFile) → HoldsSoFar contents documents 0 []
-holds_none contents documents = λ rest h. h
-
 pub untaken_none : (contents : ContentsByPath) (documents : List DocumentFile) → RestUntaken contents documents 0
 untaken_none contents documents = λ document f h. h
 
-texts_push : (ts : List Taken) (t : Taken) → texts_seen (ts ++ t ∷ []) ≡ texts_seen ts ++ taken_seen t ∷ []
+texts_push : (ts : List DocumentText) (t : DocumentText)
+    → texts_seen (ts ++ t ∷ []) ≡ texts_seen ts ++ taken_seen t ∷ []
 texts_push [] t = refl
 texts_push (x ∷ xs) t = ap (λ ds. taken_seen x ∷ ds) (texts_push xs t)
-
-may_fit : (known : Option (List ℕ)) (bytes : List ℕ) → IsLeft known bytes → length bytes ≤ input_limit → MayFit known
-may_fit None bytes is few = tt
-may_fit (Some contents) bytes is few = subst (λ b. length b ≤ input_limit) (sym is) few
 
 module _ (contents : ContentsByPath) (documents : List DocumentFile) (at : ℕ) (d : DocumentFile)
     (within : at < length documents) (is : d ≡ get_or documents at d) where
   this : drop at documents ≡ d ∷ drop (at + 1) documents
   this = drop_more documents at d within ∙ ap (λ x. x ∷ drop (at + 1) documents) (sym is)
 
-  pub holds_more : (taken more : List Taken) (t : Taken) → t.uri.now ≡ d.uri.now
+  pub holds_more : (taken more : List DocumentText) (t : DocumentText) → t.uri.now ≡ d.uri.now
       → IsLeft (contents d.file.now) t.text.items → length t.text.items ≤ input_limit → more ≡ taken ++ t ∷ []
       → HoldsSoFar contents documents at (texts_seen taken) → HoldsSoFar contents documents (at + 1) (texts_seen more)
-  holds_more taken more t named left few grows h = λ rest those.
-      let next : AreContents contents (pairs_seen (drop at documents)) (taken_seen t ∷ rest) =
-      subst (λ ds. AreContents contents (pairs_seen ds) (taken_seen t ∷ rest)) (sym this) (named, left, few, those) in
-      subst (λ ds. AreContents contents (pairs_seen documents) ds)
-      (sym (ap (λ ts. texts_seen ts ++ rest) grows ∙ ap (λ ts. ts ++ rest) (texts_push taken t)
-      ∙ append_assoc (texts_seen taken) (taken_seen t ∷ []) rest)) (h (taken_seen t ∷ rest) next)
+  holds_more taken more t named left few grows h =
+      holds_one_more contents documents at d t.text.items (texts_seen taken) (texts_seen more) within
+      (subst (λ x. IsLeft (contents x.file.now) t.text.items) is left) few
+      (ap texts_seen grows ∙ texts_push taken t
+      ∙ ap (λ u. texts_seen taken ++ (u, t.text.items) ∷ []) (named ∙ ap (λ x. x.uri.now) is)) h
 
   untaken_step : (document : Option ℕ) (f : Fault) (bytes : List ℕ)
       → IsLeft (contents d.file.now) bytes → length bytes ≤ input_limit
@@ -78,13 +65,6 @@ module _ (contents : ContentsByPath) (documents : List DocumentFile) (at : ℕ) 
   untaken_here f here h =
       h (Some at) f (subst (λ ds. IsUntaken contents at (files_of (pairs_seen ds)) (Some at) f) (sym this)
       (untaken_first f here))
-
-pub holds_all : (contents : ContentsByPath) (documents : List DocumentFile) (at : ℕ) (taken : DocumentTexts)
-    → length documents ≤ at → HoldsSoFar contents documents at taken
-    → AreContents contents (pairs_seen documents) taken
-holds_all contents documents at taken end h =
-    subst (λ ds. AreContents contents (pairs_seen documents) ds) (append-nil taken)
-    (h [] (subst (λ ds. AreContents contents (pairs_seen ds) []) (sym (drop_all at documents end)) tt))
 
 -- memory may run out at any file
 pub untaken_memory : (contents : ContentsByPath) (number : ℕ) (paths : List (List ℕ)) (document : Option ℕ)

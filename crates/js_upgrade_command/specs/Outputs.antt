@@ -2,11 +2,11 @@
 use Rattle.std.specs.Prelude.{◌≡◌, ℕ, List, [], ◌∷◌, ◌++◌, Option, Some, None, option_map, Bool, true, false, length}
 use Rattle.std.specs.Prelude.{flat_map}
 use Rattle.std.specs.Io.KnownBytes.{Appends, Keeps}
-use Rattle.js_doc.specs.Compact.{compact}
-use Rattle.js_doc.specs.Value.{Value, Values}
+use Rattle.js_doc.specs.Value.{Value, Values, Text}
 use Rattle.js_command.specs.Words.{DocumentPairs}
 use Rattle.js_output.specs.Device.{AppendsBeginning, FlushedOnce, Tracked}
-use Rattle.js_upgrade_command.specs.Names.{Text, path_in}
+use Rattle.js_output.specs.Values.{value_line}
+use Rattle.js_upgrade_command.specs.Names.{path_in}
 
 -- files with their paths
 abbrev pub Written : Type 0
@@ -16,15 +16,12 @@ Written = List (Text × List ℕ)
 abbrev pub HasPut : Option Written → Option Written → Written → Type 0
 HasPut old new files = new ≡ option_map (λ before. before ++ files) old
 
-abbrev pub line_of : Value → List ℕ
-line_of v = compact v ++ 10 ∷ []
-
-abbrev pub lines_of : Values → List ℕ
-lines_of vs = flat_map line_of vs
+abbrev pub value_lines : Values → List ℕ
+value_lines vs = flat_map value_line vs
 
 -- each document under its file's name
 abbrev pub files_in : Text → DocumentPairs → Values → Written
-files_in folder (p ∷ ps) (v ∷ vs) = (path_in folder p.1, line_of v) ∷ files_in folder ps vs
+files_in folder (p ∷ ps) (v ∷ vs) = (path_in folder p.1, value_line v) ∷ files_in folder ps vs
 files_in folder _ _ = []
 
 -- ---- what came of writing them, by what the output and the folder held before and hold now, where that is known
@@ -32,7 +29,7 @@ files_in folder _ _ = []
 -- all of them were written
 abbrev pub IsWritten : Option Text → DocumentPairs → Values → Option (List ℕ) → Option (List ℕ) → Option Written
     → Option Written → Type 0
-IsWritten None pairs values old new before after = Appends old new (lines_of values) × (after ≡ before)
+IsWritten None pairs values old new before after = Appends old new (value_lines values) × (after ≡ before)
 IsWritten (Some folder) pairs values old new before after =
     Keeps old new × HasPut before after (files_in folder pairs values)
 
@@ -48,9 +45,9 @@ IsPartlyPut before after files number =
     × (number ≡ Some (length done))
 
 -- a prefix of them was: the output has failed, or the file of the document with this number isn't written
-abbrev pub IsBegun : Option Text → DocumentPairs → Values → Option (List ℕ) → Option (List ℕ) → Bool
+abbrev pub IsPartlyWritten : Option Text → DocumentPairs → Values → Option (List ℕ) → Option (List ℕ) → Bool
     → Option Written → Option Written → Option ℕ → Type 0
-IsBegun None pairs values old new failed before after document =
-    (document ≡ None) × AppendsBeginning old new (lines_of values) × (failed ≡ true) × (after ≡ before)
-IsBegun (Some folder) pairs values old new failed before after document =
+IsPartlyWritten None pairs values old new failed before after document =
+    (document ≡ None) × AppendsBeginning old new (value_lines values) × (failed ≡ true) × (after ≡ before)
+IsPartlyWritten (Some folder) pairs values old new failed before after document =
     Keeps old new × IsPartlyPut before after (files_in folder pairs values) document

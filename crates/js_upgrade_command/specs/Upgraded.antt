@@ -11,24 +11,24 @@ use Rattle.js_upgrade.specs.declared.fault.UpgradeFaultKind.{UpgradeFaultKind}
 use Rattle.js_upgrade.specs.declared.fault.UpgradeFaultKind.TheVariants as upgrade
 
 -- a refusal has one name, whoever refuses
-abbrev pub kind_of : UpgradeFaultKind → RefusalKind
-kind_of upgrade.Memory = kind.Memory
-kind_of upgrade.TooManyDocuments = kind.TooManyDocuments
-kind_of upgrade.UnknownDialect = kind.UnknownDialect
-kind_of upgrade.BadKeyword = kind.BadKeyword
-kind_of upgrade.UriTooLong = kind.UriTooLong
-kind_of upgrade.BadId = kind.BadId
-kind_of upgrade.DuplicateUri = kind.DuplicateUri
-kind_of upgrade.BadReference = kind.BadReference
-kind_of upgrade.Unresolved = kind.Unresolved
+abbrev pub reported_kind : UpgradeFaultKind → RefusalKind
+reported_kind upgrade.Memory = kind.Memory
+reported_kind upgrade.TooManyDocuments = kind.TooManyDocuments
+reported_kind upgrade.UnknownDialect = kind.UnknownDialect
+reported_kind upgrade.BadKeyword = kind.BadKeyword
+reported_kind upgrade.UriTooLong = kind.UriTooLong
+reported_kind upgrade.BadId = kind.BadId
+reported_kind upgrade.DuplicateUri = kind.DuplicateUri
+reported_kind upgrade.BadReference = kind.BadReference
+reported_kind upgrade.Unresolved = kind.Unresolved
 
-abbrev pub refusal_of : UpgradeFault → Refusal
-refusal_of f = record { document = f.document; place = f.place; kind = kind_of f.kind }
+abbrev pub reported_refusal : UpgradeFault → Refusal
+reported_refusal f = record { document = f.document; place = f.place; kind = reported_kind f.kind }
 
 abbrev pub upgraded_unless : Option UpgradeFault → Sources → Result Values Refusal
 upgraded_unless None sources = Ok (each_upgraded sources)
-upgraded_unless (Some f) sources = Err (refusal_of f)
+upgraded_unless (Some f) sources = Err (reported_refusal f)
 
 -- in order, or the first fault
-abbrev pub upgraded : Sources → Result Values Refusal
-upgraded sources = upgraded_unless (first_fault sources) sources
+abbrev pub upgraded_or_refused : Sources → Result Values Refusal
+upgraded_or_refused sources = upgraded_unless (first_fault sources) sources

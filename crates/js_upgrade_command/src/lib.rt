@@ -13,5 +13,5 @@ mod upgraded;
 mod words;
 
 pub use folder::Folder;
-pub use program::command;
-pub use words::{Misuse, USAGE};
+pub use program::upgrade_command;
+pub use words::{UPGRADE_USAGE, UpgradeMisuse};

@@ -1,10 +1,10 @@
 //! Where documents are written to.
 ghost use Rattle.std.specs.Prelude.{◌≡◌, ◌<◌, IfOk, MatchOption, length, string_bytes};
 ghost use Rattle.std.specs.List.{after_first, position_or_len};
-ghost use Rattle.js_upgrade_command.specs.Names.{are_apart, has_name, is_slash, name_of, path_in};
-ghost use Rattle.js_upgrade_command.specs.code.Seen.{pairs_seen};
+ghost use Rattle.js_upgrade_command.specs.Names.{are_apart, has_file_name, is_slash, file_name_of, path_in};
+ghost use Rattle.js_command.specs.Words.{pairs_seen};
 
-use crate::words::DocumentFile;
+use js_command::DocumentFile;
 use js_doc::Memory;
 use std::alloc::Global;
 
@@ -17,14 +17,14 @@ pub(crate) fn path_in(alloc: Global, folder: &str, file: &str) -> Result<String,
 {
     let mut path = String::from_str(alloc, folder)?;
     path.push('/')?;
-    path.push_str(name_of(file))?;
+    path.push_str(file_name_of(file))?;
     Ok(path)
 }
 
 // A file's name, without its folder.
 #[tactic(auto, using(crate::proofs::LastSlash::slash_rules))]
-fn name_of(path: &str) -> &str
-    ensures { result.now ≡ name_of path.now }
+fn file_name_of(path: &str) -> &str
+    ensures { result.now ≡ file_name_of path.now }
 {
     let mut name = path;
     'folders: while let Some(rest) = behind_slash(name) {
@@ -49,18 +49,21 @@ pub(crate) fn are_apart(documents: &[DocumentFile]) -> bool
     ensures { result ≡ are_apart (pairs_seen documents.now) }
 {
     for number in 0..documents.len() {
-        if has_name(name_of(documents[number].file), &documents[number + 1..]) {
+        if has_file_name(
+            file_name_of(documents[number].file),
+            &documents[number + 1..],
+        ) {
             return false;
         }
     }
     true
 }
 
-fn has_name(name: &str, documents: &[DocumentFile]) -> bool
-    ensures { result ≡ has_name name.now (pairs_seen documents.now) }
+fn has_file_name(name: &str, documents: &[DocumentFile]) -> bool
+    ensures { result ≡ has_file_name name.now (pairs_seen documents.now) }
 {
     for document in documents {
-        if name_of(document.file) == name {
+        if file_name_of(document.file) == name {
             return true;
         }
     }

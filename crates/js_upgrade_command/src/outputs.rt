@@ -6,17 +6,19 @@ ghost use Rattle.js_doc.specs.Seen.{value_of};
 ghost use Rattle.js_upgrade_command.specs.Names.{path_in};
 ghost use Rattle.js_output.specs.Device.{AppendsBeginning, FlushedOnce};
 ghost use Rattle.js_output.specs.declared.fault.Fault.TheVariants as fault;
-ghost use Rattle.js_upgrade_command.specs.Outputs.{Flushes, HasPut, IsBegun, IsPartlyPut, IsWritten};
-ghost use Rattle.js_upgrade_command.specs.Outputs.{files_in, line_of, lines_of};
-ghost use Rattle.js_upgrade_command.specs.code.Seen.{pairs_seen, request_seen};
+ghost use Rattle.js_upgrade_command.specs.Outputs.{Flushes, HasPut, IsPartlyWritten, IsPartlyPut, IsWritten};
+ghost use Rattle.js_upgrade_command.specs.Outputs.{files_in, value_lines};
+ghost use Rattle.js_output.specs.Values.{value_line};
+ghost use Rattle.js_upgrade_command.specs.code.Seen.{upgrade_request_seen};
+ghost use Rattle.js_command.specs.Words.{pairs_seen};
 
 use crate::folder::Folder;
 use crate::names::path_in;
-use crate::request::Request;
-use crate::stop::Stop;
-use crate::words::DocumentFile;
-use js_doc::{Doc, Memory, put_text};
-use js_output::{Fault, Sink};
+use crate::request::UpgradeRequest;
+use crate::stop::RequestStop;
+use js_command::DocumentFile;
+use js_doc::{Doc, Memory};
+use js_output::{Fault, Sink, push_value_line, value_line};
 use std::alloc::Global;
 use std::io::Write;
 
@@ -24,19 +26,19 @@ use std::io::Write;
 ///
 /// # Errors
 /// `Write`, after a prefix; `Memory` at any point.
-pub(crate) fn write_all<P: Folder, W: Write>(
+pub(crate) fn write_documents<P: Folder, W: Write>(
     alloc: Global,
-    request: &Request,
+    request: &UpgradeRequest,
     documents: &[Doc],
     folder: &mut P,
     out: &mut Sink<W>,
-) -> Result<(), Stop>
-    ensures ok { OnOk result (IsWritten (request_seen request.now).into (request_seen request.now).documents
-        (map value_of documents.now) (W.contents out.old.device) (W.contents out.new.device)
-        (P.written folder.old) (P.written folder.new)) }
-    ensures flushed { OnOk result (Flushes (request_seen request.now).into out.old out.new) }
+) -> Result<(), RequestStop>
+    ensures ok { OnOk result (IsWritten (upgrade_request_seen request.now).into
+        (upgrade_request_seen request.now).documents (map value_of documents.now) (W.contents out.old.device)
+        (W.contents out.new.device) (P.written folder.old) (P.written folder.new)) }
+    ensures flushed { OnOk result (Flushes (upgrade_request_seen request.now).into out.old out.new) }
     ensures stop { IfErr result (λ s. s.fault ≢ fault.Memory → (s.fault ≡ fault.Write)
-        × IsBegun (request_seen request.now).into (request_seen request.now).documents
+        × IsPartlyWritten (upgrade_request_seen request.now).into (upgrade_request_seen request.now).documents
         (map value_of documents.now) (W.contents out.old.device) (W.contents out.new.device) out.new.failed
         (P.written folder.old) (P.written folder.new) s.document) }
 {
@@ -47,15 +49,19 @@ pub(crate) fn write_all<P: Folder, W: Write>(
 }
 
 // Writes them to the output, one after another, and flushes it.
-fn write_out<W: Write>(alloc: Global, documents: &[Doc], out: &mut Sink<W>) -> Result<(), Stop>
+fn write_out<W: Write>(
+    alloc: Global,
+    documents: &[Doc],
+    out: &mut Sink<W>,
+) -> Result<(), RequestStop>
     ensures ok { OnOk result (Appends (W.contents out.old.device) (W.contents out.new.device)
-        (lines_of (map value_of documents.now))) }
+        (value_lines (map value_of documents.now))) }
     ensures flushed { OnOk result (FlushedOnce out.old out.new × (out.new.failed ≡ false)) }
     ensures stop { IfErr result (λ s. s.fault ≢ fault.Memory → (s.fault ≡ fault.Write) × (s.document ≡ None)
         × AppendsBeginning (W.contents out.old.device) (W.contents out.new.device)
-        (lines_of (map value_of documents.now)) × (out.new.failed ≡ true)) }
+        (value_lines (map value_of documents.now)) × (out.new.failed ≡ true)) }
 {
-    let lines = lines_of(alloc, documents)?;
+    let lines = value_lines(alloc, documents)?;
     write_text(lines.as_bytes(), out)?;
     Ok(())
 }
@@ -71,23 +77,14 @@ fn write_text<W: Write>(text: &[u8], out: &mut Sink<W>) -> Result<(), Fault>
     out.flush()
 }
 
-fn lines_of(alloc: Global, documents: &[Doc]) -> Result<String, Memory>
-    ensures { IfOk result (λ text. string_bytes text ≡ lines_of (map value_of documents.now)) }
+fn value_lines(alloc: Global, documents: &[Doc]) -> Result<String, Memory>
+    ensures { IfOk result (λ text. string_bytes text ≡ value_lines (map value_of documents.now)) }
 {
     let mut lines = String::new(alloc);
     for document in documents {
-        push_line(&mut lines, document)?;
+        push_value_line(&mut lines, document)?;
     }
     Ok(lines)
-}
-
-// Adds a document's compact text and a line feed.
-fn push_line(lines: &mut String, document: &Doc) -> Result<(), Memory>
-    ensures { OnOk result (string_bytes lines.new ≡ string_bytes lines.old ++ line_of (value_of document.now)) }
-{
-    put_text(document, lines)?;
-    lines.push('\n')?;
-    Ok(())
 }
 
 // Writes each into the folder, under its file's name.
@@ -97,7 +94,7 @@ fn write_into<P: Folder>(
     files: &[DocumentFile],
     documents: &[Doc],
     folder: &mut P,
-) -> Result<(), Stop>
+) -> Result<(), RequestStop>
     ensures ok { OnOk result (HasPut (P.written folder.old) (P.written folder.new)
         (files_in path.now (pairs_seen files.now) (map value_of documents.now))) }
     ensures stop { IfErr result (λ s. s.fault ≢ fault.Memory → (s.fault ≡ fault.Write)
@@ -113,7 +110,7 @@ fn write_into<P: Folder>(
         let document = &documents[number];
         match put_one(alloc, path, file.file, document, folder) {
             Ok(()) => number += 1,
-            Err(fault) => return Err(Stop {
+            Err(fault) => return Err(RequestStop {
                 document: Some(number),
                 fault,
             }),
@@ -130,12 +127,11 @@ fn put_one<P: Folder>(
     folder: &mut P,
 ) -> Result<(), Fault>
     ensures ok { OnOk result (HasPut (P.written folder.old) (P.written folder.new)
-        ((path_in path.now file.now, line_of (value_of document.now)) ∷ [])) }
+        ((path_in path.now file.now, value_line (value_of document.now)) ∷ [])) }
     ensures stays { OnErr result (P.written folder.new ≡ P.written folder.old) }
     ensures fault { IfErr result (λ e. e ≢ fault.Memory → e ≡ fault.Write) }
 {
     let to = path_in(alloc, path, file)?;
-    let mut line = String::new(alloc);
-    push_line(&mut line, document)?;
+    let line = value_line(alloc, document)?;
     folder.put(to.as_str(), line.as_bytes())
 }

@@ -1,17 +1,18 @@
 //! What the program's words ask for.
 ghost use Rattle.std.specs.Prelude.{◌≡◌, Ok, IfOk, IfErr, option_map};
-ghost use Rattle.js_command.specs.Words.{words_of};
-ghost use Rattle.js_upgrade_command.specs.Words.{asked_by, misplaced, misuse_of, request_of};
-ghost use Rattle.js_upgrade_command.specs.code.Seen.{IsMisuse, pairs_seen, request_seen, said_seen};
+ghost use Rattle.js_command.specs.Words.{words_of, pairs_seen};
+ghost use Rattle.js_upgrade_command.specs.Words.{request_from, misplaced, misuse_in, upgrade_request_of};
+ghost use Rattle.js_upgrade_command.specs.code.Seen.{IsUpgradeMisuse, upgrade_request_seen, said_seen};
 
 use crate::names::are_apart;
-use crate::words::{DocumentFile, Misuse, Said, Waiting, say};
+use crate::words::{SaidSoFar, UpgradeMisuse, Waiting, say_word};
+use js_command::DocumentFile;
 use js_upgrade::Dialect;
 use std::alloc::Global;
 
 /// Documents to be upgraded, the dialect of those that name none, and the folder of the results, if there is one.
 #[derive(Drop)]
-pub(crate) struct Request<'a> {
+pub(crate) struct UpgradeRequest<'a> {
     pub(crate) assumed: Dialect,
     pub(crate) into: Option<&'a str>,
     pub(crate) documents: Vec<DocumentFile<'a>>,
@@ -20,12 +21,15 @@ pub(crate) struct Request<'a> {
 /// What the words ask for, without the program's name.
 ///
 /// # Errors
-/// See [`Misuse`].
-pub(crate) fn request_of<'a>(alloc: Global, words: &'a [&'a str]) -> Result<Request<'a>, Misuse>
-    ensures ok { IfOk result (λ r. request_of (words_of words.entry.now) ≡ Ok (request_seen r)) }
-    ensures err { IfErr result (IsMisuse (request_of (words_of words.entry.now))) }
+/// See [`UpgradeMisuse`].
+pub(crate) fn upgrade_request_of<'a>(
+    alloc: Global,
+    words: &'a [&'a str],
+) -> Result<UpgradeRequest<'a>, UpgradeMisuse>
+    ensures ok { IfOk result (λ r. upgrade_request_of (words_of words.entry.now) ≡ Ok (upgrade_request_seen r)) }
+    ensures err { IfErr result (IsUpgradeMisuse (upgrade_request_of (words_of words.entry.now))) }
 {
-    let mut said = Said {
+    let mut said = SaidSoFar {
         waiting: Waiting::ForAny,
         assumed: Dialect::Draft2020,
         into: None,
@@ -33,26 +37,26 @@ pub(crate) fn request_of<'a>(alloc: Global, words: &'a [&'a str]) -> Result<Requ
         documents: Vec::new(alloc),
     };
     for word in words {
-        say(&mut said, word)?;
+        say_word(&mut said, word)?;
     }
-    asked_by(said)
+    request_from(said)
 }
 
 // What was asked for by all words.
-fn asked_by<'a>(said: Said<'a>) -> Result<Request<'a>, Misuse>
-    ensures ok { IfOk result (λ r. asked_by (said_seen said.entry) ≡ Ok (request_seen r)) }
-    ensures err { IfErr result (IsMisuse (asked_by (said_seen said.entry))) }
+fn request_from<'a>(said: SaidSoFar<'a>) -> Result<UpgradeRequest<'a>, UpgradeMisuse>
+    ensures ok { IfOk result (λ r. request_from (said_seen said.entry) ≡ Ok (upgrade_request_seen r)) }
+    ensures err { IfErr result (IsUpgradeMisuse (request_from (said_seen said.entry))) }
 {
-    if let Some(misuse) = misuse_of(&said) {
+    if let Some(misuse) = misuse_in(&said) {
         return Err(misuse);
     }
-    let Said {
+    let SaidSoFar {
         assumed,
         into,
         documents,
         ..
     } = said;
-    Ok(Request {
+    Ok(UpgradeRequest {
         assumed,
         into,
         documents,
@@ -60,36 +64,36 @@ fn asked_by<'a>(said: Said<'a>) -> Result<Request<'a>, Misuse>
 }
 
 // Why what was said is no request.
-fn misuse_of(said: &Said) -> Option<Misuse>
-    ensures { result ≡ misuse_of (said_seen said.now) }
+fn misuse_in(said: &SaidSoFar) -> Option<UpgradeMisuse>
+    ensures { result ≡ misuse_in (said_seen said.now) }
 {
     match said.waiting {
-        Waiting::ForDialect | Waiting::ForFolder => return Some(Misuse::OtherForm),
+        Waiting::ForDialect | Waiting::ForFolder => return Some(UpgradeMisuse::OtherForm),
         Waiting::ForAny | Waiting::ForPairs => {}
     }
     if said.uri.is_some() {
-        return Some(Misuse::OddPairs);
+        return Some(UpgradeMisuse::OddPairs);
     }
     misplaced(said.into, said.documents.as_slice())
 }
 
 // Why the documents can't be written so: several go into a folder, where no two have one name.
-fn misplaced(into: Option<&str>, documents: &[DocumentFile]) -> Option<Misuse>
+fn misplaced(into: Option<&str>, documents: &[DocumentFile]) -> Option<UpgradeMisuse>
     ensures { result ≡ misplaced (option_map (λ w. w.now) into.entry) (pairs_seen documents.now) }
 {
     if documents.is_empty() {
-        return Some(Misuse::OtherForm);
+        return Some(UpgradeMisuse::OtherForm);
     }
     match into {
         None => if documents.len() == 1 {
             None
         } else {
-            Some(Misuse::NoFolder)
+            Some(UpgradeMisuse::NoFolder)
         },
         Some(_) => if are_apart(documents) {
             None
         } else {
-            Some(Misuse::OneName)
+            Some(UpgradeMisuse::OneName)
         },
     }
 }

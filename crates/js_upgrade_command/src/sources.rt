@@ -3,16 +3,17 @@ ghost use Rattle.std.specs.Prelude.{◌≡◌, [], Ok, IfOk, IfErr, map};
 ghost use Rattle.js_doc.specs.Seen.{value_of};
 ghost use Rattle.js_output.specs.Documents.{unfragmented};
 ghost use Rattle.js_upgrade.specs.Seen.{source_of};
-ghost use Rattle.js_upgrade_command.specs.Outcome.{refused, root_read, source_read, sources_after, uri_or, uri_read};
-ghost use Rattle.js_upgrade_command.specs.code.Seen.{IsRefusal, taken_seen, texts_seen, unread};
+ghost use Rattle.js_upgrade_command.specs.Outcome.{refused_whole, root_read, source_read, sources_after};
+ghost use Rattle.js_upgrade_command.specs.Outcome.{uri_or, uri_read};
+ghost use Rattle.js_upgrade_command.specs.code.Seen.{RefusesWith, taken_seen, texts_seen};
 ghost use Rattle.js_output.specs.declared.fault.Fault.TheVariants as fault;
 
-use crate::documents::Taken;
-use crate::words::append;
-use js_doc::{Doc, Pointer, ReadFault, read};
-use js_output::{Fault, Refusal, RefusalKind};
-use js_places::uri::{LONGEST, has_no_fragment, without_fragment};
-use js_upgrade::{Dialect, Source};
+use crate::documents::DocumentText;
+use js_bundle::uri::{LONGEST, has_no_fragment, without_fragment};
+use js_command::append;
+use js_doc::{Doc, Pointer, read};
+use js_output::{Fault, Refusal, RefusalKind, unread_document};
+use js_upgrade::{Dialect, SourceDocument};
 use std::alloc::Global;
 use url::{ParseError, Url};
 
@@ -23,11 +24,11 @@ use url::{ParseError, Url};
 pub(crate) fn sources_of(
     alloc: Global,
     assumed: Dialect,
-    documents: &[Taken],
-) -> Result<Vec<Source>, Fault>
+    documents: &[DocumentText],
+) -> Result<Vec<SourceDocument>, Fault>
     ensures ok { IfOk result (λ v. sources_after assumed [] 0 (texts_seen documents.now)
         ≡ Ok (map source_of v.items)) }
-    ensures err { IfErr result (IsRefusal (sources_after assumed [] 0 (texts_seen documents.now))) }
+    ensures err { IfErr result (RefusesWith (sources_after assumed [] 0 (texts_seen documents.now))) }
 {
     let mut sources = Vec::new(alloc);
     for number in 0..documents.len() {
@@ -41,43 +42,29 @@ fn source_of(
     alloc: Global,
     assumed: Dialect,
     number: usize,
-    document: &Taken,
-) -> Result<Source, Fault>
+    document: &DocumentText,
+) -> Result<SourceDocument, Fault>
     ensures ok { IfOk result (λ s. source_read assumed number (taken_seen document.now) ≡ Ok (source_of s)) }
-    ensures err { IfErr result (IsRefusal (source_read assumed number (taken_seen document.now))) }
+    ensures err { IfErr result (RefusesWith (source_read assumed number (taken_seen document.now))) }
 {
     let uri = uri_of(alloc, number, document.uri)?;
     let root = root_of(alloc, number, document.text.as_slice())?;
-    Ok(Source { uri, assumed, root })
+    Ok(SourceDocument { uri, assumed, root })
 }
 
 fn root_of(alloc: Global, number: usize, text: &[u8]) -> Result<Doc, Fault>
     ensures ok { IfOk result (λ d. root_read number text.now ≡ Ok (value_of d)) }
-    ensures err { IfErr result (IsRefusal (root_read number text.now)) }
+    ensures err { IfErr result (RefusesWith (root_read number text.now)) }
 {
     match read(alloc, text) {
         Ok(root) => Ok(root),
-        Err(fault) => Err(unread(alloc, number, fault)),
-    }
-}
-
-fn unread(alloc: Global, number: usize, fault: ReadFault) -> Fault
-    ensures { result ≡ unread number fault }
-{
-    match fault {
-        ReadFault::Memory => Fault::Memory,
-        ReadFault::NotJson => refused(alloc, number, RefusalKind::NotJson),
-        ReadFault::NotWhole(place) => Fault::Refused(Refusal {
-            document: number,
-            place,
-            kind: RefusalKind::NotWhole,
-        }),
+        Err(fault) => Err(unread_document(alloc, number, fault)),
     }
 }
 
 // The document with this number is refused as a whole.
-fn refused(alloc: Global, document: usize, kind: RefusalKind) -> Fault
-    ensures { result ≡ fault.Refused (refused document kind) }
+fn refused_whole(alloc: Global, document: usize, kind: RefusalKind) -> Fault
+    ensures { result ≡ fault.Refused (refused_whole document kind) }
 {
     Fault::Refused(Refusal {
         document,
@@ -88,26 +75,26 @@ fn refused(alloc: Global, document: usize, kind: RefusalKind) -> Fault
 
 fn uri_of(alloc: Global, number: usize, uri: &str) -> Result<Url, Fault>
     ensures ok { IfOk result (λ u. uri_read number uri.now ≡ Ok u) }
-    ensures err { IfErr result (IsRefusal (uri_read number uri.now)) }
+    ensures err { IfErr result (RefusesWith (uri_read number uri.now)) }
 {
     if LONGEST < uri.len() {
-        return Err(refused(alloc, number, RefusalKind::UriTooLong));
+        return Err(refused_whole(alloc, number, RefusalKind::UriTooLong));
     }
     match Url::parse(alloc, uri) {
         Ok(url) => unfragmented(alloc, number, url),
         Err(ParseError::OutOfMemory) => Err(Fault::Memory),
         Err(ParseError::Overflow) => Err(Fault::Memory),
-        Err(_) => Err(refused(alloc, number, RefusalKind::BadUri)),
+        Err(_) => Err(refused_whole(alloc, number, RefusalKind::BadUri)),
     }
 }
 
 // The URL without its fragment, which is to be empty.
 fn unfragmented(alloc: Global, number: usize, url: Url) -> Result<Url, Fault>
     ensures ok { IfOk result (λ u. uri_or number (unfragmented url) ≡ Ok u) }
-    ensures err { IfErr result (IsRefusal (uri_or number (unfragmented url))) }
+    ensures err { IfErr result (RefusesWith (uri_or number (unfragmented url))) }
 {
     if !has_no_fragment(&url) {
-        return Err(refused(alloc, number, RefusalKind::BadUri));
+        return Err(refused_whole(alloc, number, RefusalKind::BadUri));
     }
     Ok(without_fragment(url)?)
 }

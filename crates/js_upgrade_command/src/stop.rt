@@ -3,58 +3,58 @@ ghost use Rattle.std.specs.Prelude.{◌≡◌, IfOk, None, string_bytes};
 ghost use Rattle.js_command.specs.Status.{fault_status};
 ghost use Rattle.js_output.specs.declared.fault.Fault.TheVariants as fault;
 ghost use Rattle.js_upgrade_command.specs.Stop.{file_at, named_line, stop_line, subject_of, stopped_by};
-ghost use Rattle.js_upgrade_command.specs.code.Seen.{pairs_seen, request_seen};
+ghost use Rattle.js_upgrade_command.specs.code.Seen.{upgrade_request_seen};
+ghost use Rattle.js_command.specs.Words.{pairs_seen};
 
 use crate::names::path_in;
-use crate::request::Request;
-use crate::words::DocumentFile;
-use js_command::{FAILED, REFUSED};
+use crate::request::UpgradeRequest;
+use js_command::{DocumentFile, FAILED, REFUSED};
 use js_doc::{Memory, push_string};
 use js_output::{Fault, refusal_line};
 use std::alloc::{AllocFailed, Global};
 
 /// Why documents aren't upgraded, and the number of the document that it is about, if it is about one.
 #[derive(Drop)]
-pub(crate) struct Stop {
+pub(crate) struct RequestStop {
     pub(crate) document: Option<usize>,
     pub(crate) fault: Fault,
 }
 
-impl From<Memory> for Stop {
+impl From<Memory> for RequestStop {
     ghost from_gives = { λ _ e. e ≡ record { document = None; fault = fault.Memory } };
 
-    fn from(_refused: Memory) -> Stop {
-        Stop {
+    fn from(_refused: Memory) -> RequestStop {
+        RequestStop {
             document: None,
             fault: Fault::Memory,
         }
     }
 }
 
-impl<T: Drop> From<AllocFailed<T>> for Stop {
+impl<T: Drop> From<AllocFailed<T>> for RequestStop {
     ghost from_gives = { λ _ e. e ≡ record { document = None; fault = fault.Memory } };
 
-    fn from(_refused: AllocFailed<T>) -> Stop {
-        Stop {
+    fn from(_refused: AllocFailed<T>) -> RequestStop {
+        RequestStop {
             document: None,
             fault: Fault::Memory,
         }
     }
 }
 
-impl From<Fault> for Stop {
+impl From<Fault> for RequestStop {
     ghost from_gives = { λ f e. e ≡ stopped_by f };
 
-    fn from(fault: Fault) -> Stop {
+    fn from(fault: Fault) -> RequestStop {
         let document = match &fault {
             Fault::Refused(refusal) => Some(refusal.document),
             _ => None,
         };
-        Stop { document, fault }
+        RequestStop { document, fault }
     }
 }
 
-impl Stop {
+impl RequestStop {
     /// The program's exit status.
     pub(crate) fn status(&self) -> u8
         ensures { result ≡ fault_status self.now.fault }
@@ -70,8 +70,12 @@ impl Stop {
 ///
 /// # Errors
 /// `Memory`.
-pub(crate) fn stop_line(alloc: Global, request: &Request, stop: &Stop) -> Result<String, Memory>
-    ensures { IfOk result (λ line. string_bytes line ≡ stop_line (request_seen request.now) stop.now) }
+pub(crate) fn stop_line(
+    alloc: Global,
+    request: &UpgradeRequest,
+    stop: &RequestStop,
+) -> Result<String, Memory>
+    ensures { IfOk result (λ line. string_bytes line ≡ stop_line (upgrade_request_seen request.now) stop.now) }
 {
     let mut line = String::new(alloc);
     if let Some(document) = stop.document {
@@ -88,11 +92,12 @@ pub(crate) fn stop_line(alloc: Global, request: &Request, stop: &Stop) -> Result
 // The file that it is about: one that can't be written has another folder.
 fn subject_of(
     alloc: Global,
-    request: &Request,
+    request: &UpgradeRequest,
     document: usize,
     fault: &Fault,
 ) -> Result<String, Memory>
-    ensures { IfOk result (λ path. string_bytes path ≡ subject_of (request_seen request.now) document fault.now) }
+    ensures { IfOk result (λ path.
+        string_bytes path ≡ subject_of (upgrade_request_seen request.now) document fault.now) }
 {
     let file = file_at(request.documents.as_slice(), document);
     match (fault, request.into) {

@@ -2,30 +2,33 @@
 ghost use Rattle.std.specs.Prelude.{◌≡◌, Ok, IfOk, IfErr, map};
 ghost use Rattle.js_doc.specs.Seen.{value_of};
 ghost use Rattle.js_upgrade.specs.Seen.{source_of};
-ghost use Rattle.js_upgrade_command.specs.Upgraded.{kind_of, upgraded};
-ghost use Rattle.js_upgrade_command.specs.code.Seen.{IsRefusal, fault_of};
+ghost use Rattle.js_upgrade_command.specs.Upgraded.{reported_kind, upgraded_or_refused};
+ghost use Rattle.js_upgrade_command.specs.code.Seen.{RefusesWith, reported_fault};
 
 use js_doc::Doc;
 use js_output::{Fault, Refusal, RefusalKind};
-use js_upgrade::{Source, UpgradeFault, UpgradeFaultKind, upgrade_all};
+use js_upgrade::{SourceDocument, UpgradeFault, UpgradeFaultKind, upgrade_all};
 use std::alloc::Global;
 
 /// The documents as ones of 2020-12, in order.
 ///
 /// # Errors
 /// The first fault, as `upgrade_all` says; `Memory` at any point.
-pub(crate) fn upgraded(alloc: Global, sources: &[Source]) -> Result<Vec<Doc>, Fault>
-    ensures ok { IfOk result (λ v. upgraded (map source_of sources.now) ≡ Ok (map value_of v.items)) }
-    ensures err { IfErr result (IsRefusal (upgraded (map source_of sources.now))) }
+pub(crate) fn upgraded_or_refused(
+    alloc: Global,
+    sources: &[SourceDocument],
+) -> Result<Vec<Doc>, Fault>
+    ensures ok { IfOk result (λ v. upgraded_or_refused (map source_of sources.now) ≡ Ok (map value_of v.items)) }
+    ensures err { IfErr result (RefusesWith (upgraded_or_refused (map source_of sources.now))) }
 {
     match upgrade_all(alloc, sources) {
         Ok(documents) => Ok(documents),
-        Err(fault) => Err(fault_of(fault)),
+        Err(fault) => Err(reported_fault(fault)),
     }
 }
 
-fn fault_of(fault: UpgradeFault) -> Fault
-    ensures { result ≡ fault_of fault.kind fault }
+fn reported_fault(fault: UpgradeFault) -> Fault
+    ensures { result ≡ reported_fault fault.kind fault }
 {
     let UpgradeFault {
         document,
@@ -37,14 +40,14 @@ fn fault_of(fault: UpgradeFault) -> Fault
         _ => Fault::Refused(Refusal {
             document,
             place,
-            kind: kind_of(kind),
+            kind: reported_kind(kind),
         }),
     }
 }
 
 // A refusal has one name, whoever refuses.
-fn kind_of(kind: UpgradeFaultKind) -> RefusalKind
-    ensures { result ≡ kind_of kind }
+fn reported_kind(kind: UpgradeFaultKind) -> RefusalKind
+    ensures { result ≡ reported_kind kind }
 {
     match kind {
         UpgradeFaultKind::Memory => RefusalKind::Memory,

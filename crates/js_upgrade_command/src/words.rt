@@ -1,17 +1,16 @@
 //! The program's words, one after another.
-ghost use Rattle.std.specs.Prelude.{◌≡◌, ◌++◌, ◌∷◌, [], Ok, OnOk, IfErr};
-ghost use Rattle.js_upgrade_command.specs.Words.{dialect_of, dialect_said, is_flag, option_said, plain_said, word_said};
-ghost use Rattle.js_upgrade_command.specs.code.Seen.{IsMisuse, said_seen};
+ghost use Rattle.std.specs.Prelude.{◌≡◌, Ok, OnOk, IfErr};
+ghost use Rattle.js_upgrade_command.specs.Words.{dialect_of, dialect_said, is_option, option_said};
+ghost use Rattle.js_upgrade_command.specs.Words.{plain_said, word_said};
+ghost use Rattle.js_upgrade_command.specs.code.Seen.{IsUpgradeMisuse, said_seen};
 
+use js_command::{DocumentFile, append};
 use js_upgrade::Dialect;
-use std::alloc::{AllocError, AllocFailed, Global};
+use std::alloc::AllocFailed;
 
 /// The usage text, written if the words don't have the program's form.
-pub const USAGE: &[u8] =
+pub const UPGRADE_USAGE: &[u8] =
     b"usage: jschema-upgrade [--default-dialect DIALECT] [--into FOLDER] URI FILE [URI FILE]...\n";
-
-/// The usage text if a URI has no file.
-pub(crate) const PAIRS_USAGE: &[u8] = b"usage: URI and FILE come in pairs\n";
 
 /// The usage text if a word that is to be a dialect is none.
 pub(crate) const DIALECT_USAGE: &[u8] =
@@ -25,7 +24,7 @@ pub(crate) const NAMES_USAGE: &[u8] = b"usage: with --into each FILE needs a nam
 
 /// Why the words ask for nothing.
 #[derive(Clone, Copy, Debug, Drop, PartialEq, Eq)]
-pub enum Misuse {
+pub enum UpgradeMisuse {
     /// Memory ran out.
     Memory,
     /// They don't have the program's form.
@@ -40,13 +39,13 @@ pub enum Misuse {
     OneName,
 }
 
-impl<T: Drop> From<AllocFailed<T>> for Misuse {
-    ghost use Rattle.js_upgrade_command.specs.declared.words.Misuse.TheVariants.{Memory};
+impl<T: Drop> From<AllocFailed<T>> for UpgradeMisuse {
+    ghost use Rattle.js_upgrade_command.specs.declared.words.UpgradeMisuse.TheVariants.{Memory};
 
     ghost from_gives = { λ _ m. m ≡ Memory };
 
-    fn from(_refused: AllocFailed<T>) -> Misuse {
-        Misuse::Memory
+    fn from(_refused: AllocFailed<T>) -> UpgradeMisuse {
+        UpgradeMisuse::Memory
     }
 }
 
@@ -63,16 +62,9 @@ pub(crate) enum Waiting {
     ForPairs,
 }
 
-/// A document: its URI, and its file.
-#[derive(Clone, Copy, Drop)]
-pub(crate) struct DocumentFile<'a> {
-    pub(crate) uri: &'a str,
-    pub(crate) file: &'a str,
-}
-
 /// What the words so far say.
 #[derive(Drop)]
-pub(crate) struct Said<'a> {
+pub(crate) struct SaidSoFar<'a> {
     pub(crate) waiting: Waiting,
     pub(crate) assumed: Dialect,
     pub(crate) into: Option<&'a str>,
@@ -84,10 +76,10 @@ pub(crate) struct Said<'a> {
 /// What a word says after those before it.
 ///
 /// # Errors
-/// See [`Misuse`].
-pub(crate) fn say<'a>(said: &mut Said<'a>, word: &'a str) -> Result<(), Misuse>
+/// See [`UpgradeMisuse`].
+pub(crate) fn say_word<'a>(said: &mut SaidSoFar<'a>, word: &'a str) -> Result<(), UpgradeMisuse>
     ensures ok { OnOk result (word_said (said_seen said.old) word.entry.now ≡ Ok (said_seen said.new)) }
-    ensures err { IfErr result (IsMisuse (word_said (said_seen said.old) word.entry.now)) }
+    ensures err { IfErr result (IsUpgradeMisuse (word_said (said_seen said.old) word.entry.now)) }
 {
     match said.waiting {
         Waiting::ForAny => say_option(said, word),
@@ -101,17 +93,17 @@ pub(crate) fn say<'a>(said: &mut Said<'a>, word: &'a str) -> Result<(), Misuse>
     }
 }
 
-fn say_option<'a>(said: &mut Said<'a>, word: &'a str) -> Result<(), Misuse>
+fn say_option<'a>(said: &mut SaidSoFar<'a>, word: &'a str) -> Result<(), UpgradeMisuse>
     ensures ok { OnOk result (option_said (said_seen said.old) word.entry.now ≡ Ok (said_seen said.new)) }
-    ensures err { IfErr result (IsMisuse (option_said (said_seen said.old) word.entry.now)) }
+    ensures err { IfErr result (IsUpgradeMisuse (option_said (said_seen said.old) word.entry.now)) }
 {
     match word {
         "--default-dialect" => said.waiting = Waiting::ForDialect,
         "--into" => said.waiting = Waiting::ForFolder,
         "--" => said.waiting = Waiting::ForPairs,
         _ => {
-            if is_flag(word) {
-                return Err(Misuse::OtherForm);
+            if is_option(word) {
+                return Err(UpgradeMisuse::OtherForm);
             }
             return say_plain(said, word);
         }
@@ -120,19 +112,19 @@ fn say_option<'a>(said: &mut Said<'a>, word: &'a str) -> Result<(), Misuse>
 }
 
 // A word that begins with `-` and has more.
-fn is_flag(word: &str) -> bool
-    ensures { result ≡ is_flag word.now }
+fn is_option(word: &str) -> bool
+    ensures { result ≡ is_option word.now }
 {
     let bytes = word.as_bytes();
     1 < bytes.len() && bytes[0] == b'-'
 }
 
-fn say_dialect(said: &mut Said<'_>, dialect: Option<Dialect>) -> Result<(), Misuse>
+fn say_dialect(said: &mut SaidSoFar<'_>, dialect: Option<Dialect>) -> Result<(), UpgradeMisuse>
     ensures ok { OnOk result (dialect_said (said_seen said.old) dialect ≡ Ok (said_seen said.new)) }
-    ensures err { IfErr result (IsMisuse (dialect_said (said_seen said.old) dialect)) }
+    ensures err { IfErr result (IsUpgradeMisuse (dialect_said (said_seen said.old) dialect)) }
 {
     let Some(dialect) = dialect else {
-        return Err(Misuse::NoDialect);
+        return Err(UpgradeMisuse::NoDialect);
     };
     said.waiting = Waiting::ForAny;
     said.assumed = dialect;
@@ -150,14 +142,14 @@ fn dialect_of(word: &str) -> Option<Dialect>
         "draft-07" => Some(Dialect::Draft07),
         "2019-09" => Some(Dialect::Draft2019),
         "2020-12" => Some(Dialect::Draft2020),
-        _ => Dialect::named(word),
+        _ => Dialect::of_uri(word),
     }
 }
 
 // A word of a pair.
-fn say_plain<'a>(said: &mut Said<'a>, word: &'a str) -> Result<(), Misuse>
+fn say_plain<'a>(said: &mut SaidSoFar<'a>, word: &'a str) -> Result<(), UpgradeMisuse>
     ensures ok { OnOk result (said_seen said.new ≡ plain_said (said_seen said.old) word.entry.now) }
-    ensures err { IfErr result (λ m. m ≡ Misuse.Memory) }
+    ensures err { IfErr result (λ m. m ≡ UpgradeMisuse.Memory) }
 {
     match said.uri {
         None => {
@@ -170,11 +162,4 @@ fn say_plain<'a>(said: &mut Said<'a>, word: &'a str) -> Result<(), Misuse>
             Ok(())
         }
     }
-}
-
-/// Adds an item at the end.
-pub(crate) fn append<T: Drop>(list: &mut Vec<T>, item: T) -> Result<(), AllocFailed<T>>
-    ensures { OnOk result (list.new.items ≡ list.old.items ++ item ∷ []) }
-{
-    list.push(item)
 }

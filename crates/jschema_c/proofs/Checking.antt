@@ -3,8 +3,8 @@ use Rattle.std.proofs.Common.{◌≡◌, ℕ, zero, suc, List, slice_get, Some, 
 use Rattle.std.proofs.Common.{refl, sym, ap, ◌∙◌, subst}
 use Rattle.js_bundle.specs.Document as bundle
 use Rattle.js_bundle.specs.Schemas.{is_place, place_at}
-use Rattle.js_tree.specs.declared.forms.Format.{Format}
-use Rattle.js_tree.specs.declared.forms.Format.TheVariants.{Flag, Basic, Detailed, Merged, Verbose}
+use Rattle.js_tree.specs.declared.formats.Format.{Format}
+use Rattle.js_tree.specs.declared.formats.Format.TheVariants.{Flag, Basic, Detailed, Merged, Verbose}
 use Rattle.js_output.specs.Documents.{DocumentTexts}
 use Rattle.js_output.specs.Entry.{entry_causes, entry_place}
 use Rattle.js_output.specs.Outcome.{Output, InstanceOutcomeWithin, OutcomeWithin}
@@ -12,13 +12,13 @@ use Rattle.js_output.specs.declared.fault.Fault.{Fault}
 use Rattle.js_output.proofs.Answering.{after-clear}
 use Rattle.js_output.proofs.FinishedSchemas.{finished_are, outcome_over}
 use Rattle.js_output.proofs.Sites.{stands_named, stands_there}
-use Rattle.jschema_c.specs.declared.said.Said.{Said}
+use Rattle.jschema_c.specs.declared.last_call.LastCall.{LastCall}
 use Rattle.jschema_c.specs.declared.session.Session.{Session}
 use Rattle.jschema_c.specs.declared.status.Status.{Status}
 use Rattle.jschema_c.specs.declared.status.Status.TheVariants as status
 use Rattle.jschema_c.specs.Exports.{SessionChecks}
 use Rattle.jschema_c.specs.Run.{IsReady, TellsOutcome}
-use Rattle.jschema_c.specs.Said.{Says}
+use Rattle.jschema_c.specs.LastCall.{Says}
 use Rattle.jschema_c.specs.Session.{Asked, Checks, IsOutput, Judges}
 use Rattle.jschema_c.specs.Status.{format_number}
 
@@ -77,7 +77,7 @@ module _ (documents : DocumentTexts) (uri : List ℕ) (number : ℕ) (s : Sessio
       → IsOutput Expected valid text
   output valid text (it, comes, verdict, is) = (it, onto (Ok it) comes, verdict, is)
 
-  judged : (given : List ℕ) (came : Result Status Fault) (answered : Status) (said : Said)
+  judged : (given : List ℕ) (came : Result Status Fault) (answered : Status) (said : LastCall)
       → Judges Here given came
       → Says given came answered said → TellsOutcome Expected answered said
   judged given (Ok status.Done) answered said h (is, same, none) =
@@ -107,7 +107,7 @@ module _ (documents : DocumentTexts) (uri : List ℕ) (number : ℕ) (s : Sessio
       (subst (λ p. Judges (At ready.schemas p other) given came) at
       (subst (λ d. Judges (At d place other) given came) same h))
 
-  checked : (given : List ℕ) (came : Result Status Fault) (answered : Status) (said : Said)
+  checked : (given : List ℕ) (came : Result Status Fault) (answered : Status) (said : LastCall)
       → Checks s.phase s.limits s.entries.items number instance (format_number format) given came
       → Says given came answered said → TellsOutcome Expected answered said
   checked given (Ok status.Misused) answered said (none, empty) says =

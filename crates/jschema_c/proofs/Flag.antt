@@ -5,14 +5,14 @@ use Rattle.js_bundle.specs.Document as bundle
 use Rattle.js_bundle.specs.Resource.{Site}
 use Rattle.js_doc.specs.Value.{Value}
 use Rattle.js_doc.specs.declared.reading.ReadFault.{ReadFault}
-use Rattle.js_tree.specs.declared.forms.Format.TheVariants.{Flag}
-use Rattle.js_walk.specs.declared.walking.limits.Limits.{Limits}
+use Rattle.js_tree.specs.declared.formats.Format.TheVariants.{Flag}
+use Rattle.js_eval.specs.declared.evaluation.limits.Limits.{Limits}
 use Rattle.js_output.specs.Device.{input_limit}
 use Rattle.js_output.specs.Outcome.{Output, InstanceOutcomeWithin, ReadOutcome, TextOutcome}
 use Rattle.js_output.specs.Reading.{reading}
 use Rattle.js_output.specs.declared.fault.Fault.{Fault}
 use Rattle.js_output.specs.declared.fault.Fault.TheVariants as fault
-use Rattle.jschema_c.specs.Said.{flag_text}
+use Rattle.jschema_c.specs.LastCall.{flag_text}
 use Rattle.jschema_c.specs.Session.{IsOutput}
 
 module _ (limits : Limits) (docs : bundle.Documents) (entry : Option Site) (bytes : List ℕ) (output : Output) where

@@ -9,19 +9,19 @@ use Rattle.js_bundle.specs.Candidate.{IsClear}
 use Rattle.js_bundle.specs.Document as bundle
 use Rattle.js_bundle.specs.Refusals.{candidates}
 use Rattle.js_bundle.specs.Schemas.{StandsFor}
-use Rattle.js_walk.specs.Result.{standard_limits}
+use Rattle.js_eval.specs.Result.{standard_limits}
 use Rattle.js_output.specs.Cause.{MayGoOn}
 use Rattle.js_output.specs.Documents.{DocumentTexts}
 use Rattle.js_output.specs.Entry.{entry_causes, entry_place}
 use Rattle.js_output.specs.Finished.{AreAddedInTurn}
 use Rattle.js_output.specs.declared.fault.Fault.{Fault}
-use Rattle.jschema_c.specs.declared.said.Said.{Said}
+use Rattle.jschema_c.specs.declared.last_call.LastCall.{LastCall}
 use Rattle.jschema_c.specs.declared.session.Phase.{Phase}
 use Rattle.jschema_c.specs.declared.session.Phase.TheVariants as phase
 use Rattle.jschema_c.specs.declared.session.Session.{Session}
 use Rattle.jschema_c.specs.declared.status.Status.{Status}
 use Rattle.jschema_c.specs.declared.status.Status.TheVariants as status
-use Rattle.jschema_c.specs.Run.{AddsInTurn, IsOpened, IsReady}
+use Rattle.jschema_c.specs.Run.{AddsInTurn, IsOpenedSession, IsReady}
 use Rattle.jschema_c.specs.Session.{finished_in, AddCall, AddedTo, FinishCall, FinishedAs, EntryCall, Entered}
 
 -- ---- entries that are kept
@@ -41,7 +41,7 @@ kept_last xs x =
 
 -- ---- calls that are done
 
-added_by : (old new : Phase) (uri text : List ℕ) (said : Said) → AddCall uri text old new status.Done said
+added_by : (old new : Phase) (uri text : List ℕ) (said : LastCall) → AddCall uri text old new status.Done said
     → AddedTo old uri text new
 added_by old new uri text said (Ok status.Done, h, says) = h
 added_by old new uri text said (Ok status.Invalid, h, says) = absurd h
@@ -50,7 +50,7 @@ added_by old new uri text said (Ok status.Refused, h, says) = absurd h
 added_by old new uri text said (Ok status.Failed, h, says) = absurd h
 added_by old new uri text said (Err f, h, says) = absurd says
 
-finished_by : (old new : Phase) (said : Said) → FinishCall old new status.Done said → FinishedAs old new
+finished_by : (old new : Phase) (said : LastCall) → FinishCall old new status.Done said → FinishedAs old new
 finished_by old new said (Ok status.Done, h, says) = h
 finished_by old new said (Ok status.Invalid, h, says) = absurd h
 finished_by old new said (Ok status.Misused, h, says) = absurd (cc (says.0))
@@ -58,7 +58,7 @@ finished_by old new said (Ok status.Refused, h, says) = absurd h
 finished_by old new said (Ok status.Failed, h, says) = absurd h
 finished_by old new said (Err f, h, says) = absurd says
 
-entered_by : (state : Phase) (uri : List ℕ) (old new : List ℕ × ℕ) (said : Said)
+entered_by : (state : Phase) (uri : List ℕ) (old new : List ℕ × ℕ) (said : LastCall)
     → EntryCall state uri old new status.Done said → Entered state uri old.0 new.0 new.1
 entered_by state uri old new said (Ok status.Done, h, says) = h
 entered_by state uri old new said (Ok status.Invalid, h, says) = absurd h
@@ -114,7 +114,8 @@ found schemas (phase.Finished there) uri old new number e (utf8, clear, (place, 
           (subst (λ l. slice_get l (length old) ≡ Some place) (sym grows) (kept_last old place));
     }
 
-pub opened : (documents : DocumentTexts) (uri : List ℕ) (number : ℕ) (s : Session) → IsOpened documents uri number s
+pub opened : (documents : DocumentTexts) (uri : List ℕ) (number : ℕ) (s : Session)
+    → IsOpenedSession documents uri number s
     → IsReady documents uri number s
 opened documents uri number s is =
     let (all, adding, added) = all_added [] documents is.empty is.full is.is_new.none is.adds in
@@ -137,6 +138,6 @@ same_limits [] s full same = ap (λ x. x.limits) same
 same_limits (d ∷ ds) s full (more, call, rest) = same_limits ds more full rest ∙ call.1.limits
 
 pub opened_limits : (documents : DocumentTexts) (uri : List ℕ) (number : ℕ) (s : Session)
-    → IsOpened documents uri number s → s.limits ≡ standard_limits
+    → IsOpenedSession documents uri number s → s.limits ≡ standard_limits
 opened_limits documents uri number s is =
     is.enters.1.1 ∙ is.finishes.1.limits ∙ same_limits documents is.empty is.full is.adds ∙ is.is_new.limits

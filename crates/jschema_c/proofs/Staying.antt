@@ -2,7 +2,7 @@
 use Rattle.std.proofs.Common.{◌≡◌, ℕ, List, [], ◌∷◌, ◌++◌, slice_get, Some, Result, Ok, Err, refl, sym, ap, ◌∙◌, subst}
 use Rattle.js_output.specs.Documents.{DocumentTexts}
 use Rattle.js_output.specs.declared.fault.Fault.{Fault}
-use Rattle.jschema_c.specs.declared.said.Said.{Said}
+use Rattle.jschema_c.specs.declared.last_call.LastCall.{LastCall}
 use Rattle.jschema_c.specs.declared.session.Phase.{Phase}
 use Rattle.jschema_c.specs.declared.session.Phase.TheVariants as phase
 use Rattle.jschema_c.specs.declared.session.Session.{Session}
@@ -40,7 +40,7 @@ module _ (documents : DocumentTexts) (uri : List ℕ) (number : ℕ) (s : Sessio
       subst (λ l. slice_get l number ≡ Some ready.place) (sym grows)
       (kept_more old (place ∷ []) number ready.place kept)
 
-  kept_by : (state : Phase) (other : List ℕ) (old new : List ℕ × ℕ) (answered : Status) (said : Said)
+  kept_by : (state : Phase) (other : List ℕ) (old new : List ℕ × ℕ) (answered : Status) (said : LastCall)
       → EntryCall state other old new answered said → slice_get old.0 number ≡ Some ready.place
       → slice_get new.0 number ≡ Some ready.place
   kept_by state other old new answered said (Ok status.Done, h, says) kept =

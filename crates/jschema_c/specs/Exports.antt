@@ -5,11 +5,12 @@ use Rattle.jschema_c.specs.declared.session.Phase.TheVariants as phase
 use Rattle.jschema_c.specs.declared.session.Session.{Session}
 use Rattle.jschema_c.specs.declared.status.Status.{Status}
 use Rattle.jschema_c.specs.declared.status.Status.TheVariants as status
-use Rattle.js_walk.specs.Result.{standard_limits}
-use Rattle.jschema_c.specs.Said.{IsSilent, copied}
+use Rattle.js_eval.specs.Result.{standard_limits}
+use Rattle.jschema_c.specs.LastCall.{IsSilent, copied}
 use Rattle.jschema_c.specs.Session.{AddCall, FinishCall, ListCall, EntryCall, CheckCall, IsFinished, finished_in}
 use Rattle.jschema_c.specs.Session.{SetsLimits}
 use Rattle.jschema_c.specs.Status.{code}
+use Rattle.jschema_c.specs.Showing.{ShowCall}
 use Rattle.jschema_c.specs.Tracing.{TraceCall}
 use Rattle.jschema_c.specs.Upgrading.{UpgradeCall}
 
@@ -54,6 +55,10 @@ SessionFinishes before after s = FinishCall before.phase after.phase s after.sai
 abbrev pub SessionLists : Session → Session → Status → Type 0
 SessionLists before after s =
     ListCall before.phase s after.said × ((after.phase ≡ before.phase) × KeepsEntries before after)
+
+abbrev pub SessionShows : ℕ → Session → Session → Status → Type 0
+SessionShows number before after s =
+    ShowCall before.phase number s after.said × ((after.phase ≡ before.phase) × KeepsEntries before after)
 
 abbrev pub SessionTraces : List ℕ → List ℕ → List ℕ → List ℕ → Session → Session → Status → Type 0
 SessionTraces dialect document pointers ends before after s =
@@ -107,8 +112,8 @@ pub record RefusalRoom : Type 0 where
   pub place : List ℕ
   pub place_length : ℕ
 
-abbrev pub room : ℕ → ℕ → ℕ → List ℕ → ℕ → RefusalRoom
-room kind subject document place place_length =
+abbrev pub refusal_room : ℕ → ℕ → ℕ → List ℕ → ℕ → RefusalRoom
+refusal_room kind subject document place place_length =
     record { kind = kind; subject = subject; document = document; place = place; place_length = place_length }
 
 -- it has these parts, and as much of the place as fits

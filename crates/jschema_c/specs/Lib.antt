@@ -1,8 +1,9 @@
 pub mod BoxedValue
 pub mod Status
 pub mod Refusal
-pub mod Said
+pub mod LastCall
 pub mod Session
+pub mod Showing
 pub mod Tracing
 pub mod Upgrading
 pub mod Exports

@@ -22,16 +22,16 @@ AreUtf8 [] = ⊤
 AreUtf8 (p ∷ ps) = IsUtf8 (pointer_text p) × AreUtf8 ps
 
 -- the numbers of what isn't there
-abbrev pub nowhere : ℕ
-nowhere = 18446744073709551615
+abbrev pub absent_number : ℕ
+absent_number = 18446744073709551615
 
 abbrev pub spot_told : Option (ℕ × (ℕ × ℕ)) → ℕ × (ℕ × ℕ)
-spot_told None = (nowhere, (nowhere, nowhere))
+spot_told None = (absent_number, (absent_number, absent_number))
 spot_told (Some s) = s
 
 abbrev pub spots_told :
     Option ((ℕ × (ℕ × ℕ)) × (ℕ × Option (ℕ × (ℕ × ℕ)))) → (ℕ × (ℕ × ℕ)) × (ℕ × (ℕ × (ℕ × ℕ)))
-spots_told None = (spot_told None, (nowhere, spot_told None))
+spots_told None = (spot_told None, (absent_number, spot_told None))
 spots_told (Some s) = (s.0, (s.1.0, spot_told s.1.1))
 
 abbrev pub position_seen : Position → (ℕ × (ℕ × ℕ)) × (ℕ × (ℕ × (ℕ × ℕ)))

@@ -8,12 +8,12 @@ use Rattle.js_output.specs.Entry.{entry_causes, entry_place}
 use Rattle.js_output.specs.Finished.{AreFinished}
 use Rattle.js_output.specs.Outcome.{Output}
 use Rattle.js_output.specs.declared.fault.Fault.{Fault}
-use Rattle.jschema_c.specs.declared.said.Said.{Said}
+use Rattle.jschema_c.specs.declared.last_call.LastCall.{LastCall}
 use Rattle.jschema_c.specs.declared.session.Session.{Session}
 use Rattle.jschema_c.specs.declared.status.Status.{Status}
 use Rattle.jschema_c.specs.declared.status.Status.TheVariants as status
 use Rattle.jschema_c.specs.Exports.{IsNew, SessionAdds, SessionFinishes, SessionEnters}
-use Rattle.jschema_c.specs.Said.{SaysFault, IsSilent, text_in}
+use Rattle.jschema_c.specs.LastCall.{SaysFault, IsSilent, text_in}
 use Rattle.jschema_c.specs.Session.{finished_in, IsOutput}
 
 -- these documents were added, one after another
@@ -23,7 +23,7 @@ AddsInTurn before (d ∷ ds) after = (more : Session) × SessionAdds d.0 d.1 bef
     × AddsInTurn more ds after
 
 -- A new handle has come to `s`: these documents were added and finished, and the entry with this URI got this number.
-pub record IsOpened (documents : DocumentTexts) (uri : List ℕ) (number : ℕ) (s : Session) : Type 0 where
+pub record IsOpenedSession (documents : DocumentTexts) (uri : List ℕ) (number : ℕ) (s : Session) : Type 0 where
   pub empty : Session
   pub full : Session
   pub finished : Session
@@ -44,7 +44,7 @@ pub record IsReady (documents : DocumentTexts) (uri : List ℕ) (number : ℕ) (
   pub kept : slice_get s.entries.items number ≡ Some place
 
 -- the status of a check and what it says are those of this outcome; or memory ran out
-abbrev pub TellsOutcome : (Result Output Fault → Type 0) → Status → Said → Type 0
+abbrev pub TellsOutcome : (Result Output Fault → Type 0) → Status → LastCall → Type 0
 TellsOutcome Expected status.Done said = IsOutput Expected true (text_in said) × (said.refusal ≡ None)
 TellsOutcome Expected status.Invalid said = IsOutput Expected false (text_in said) × (said.refusal ≡ None)
 TellsOutcome Expected status.Misused said = ⊥

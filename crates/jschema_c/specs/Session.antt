@@ -3,7 +3,7 @@ use Rattle.std.specs.Prelude.{◌≡◌, ◌≤◌, ◌<◌, ◌⊎◌, ℕ, Lis
 use Rattle.std.specs.Prelude.{None, Result, Ok, Err, Bool, true, false, ◌==◌, ⊤}
 use Rattle.std.specs.List.{list_any}
 use Rattle.std.specs.Str.{IsUtf8}
-use Rattle.js_tree.specs.declared.forms.Format.{Format}
+use Rattle.js_tree.specs.declared.formats.Format.{Format}
 use Rattle.js_bundle.specs.Adding.{IsAdded, IsRefusedBy}
 use Rattle.js_bundle.specs.Document.{Documents}
 use Rattle.js_bundle.specs.Candidate.{IsClear}
@@ -12,8 +12,8 @@ use Rattle.js_bundle.specs.Resource.{sites}
 use Rattle.js_bundle.specs.Schemas.{is_place, place_at, StandsFor, IsEntryFault}
 use Rattle.js_bundle.specs.declared.refusal.Refusal.{Refusal}
 use Rattle.js_bundle.specs.declared.refusal.EntryFault.{EntryFault}
-use Rattle.js_walk.specs.Result.{limits_at_most}
-use Rattle.js_walk.specs.declared.walking.limits.Limits.{Limits}
+use Rattle.js_eval.specs.Result.{limits_at_most}
+use Rattle.js_eval.specs.declared.evaluation.limits.Limits.{Limits}
 use Rattle.js_output.specs.Cause.{MayGoOn}
 use Rattle.js_output.specs.Device.{input_limit}
 use Rattle.js_output.specs.Documents.{fault_by}
@@ -27,8 +27,8 @@ use Rattle.jschema_c.specs.declared.session.Phase.TheVariants as phase
 use Rattle.jschema_c.specs.declared.status.Status.{Status}
 use Rattle.jschema_c.specs.declared.status.Status.TheVariants as status
 use Rattle.jschema_c.specs.Refusal.{IsRefusal}
-use Rattle.jschema_c.specs.Said.{Says}
-use Rattle.jschema_c.specs.declared.said.Said.{Said}
+use Rattle.jschema_c.specs.LastCall.{Says}
+use Rattle.jschema_c.specs.declared.last_call.LastCall.{LastCall}
 use Rattle.jschema_c.specs.Status.{format_number}
 
 -- the documents, once they are finished
@@ -74,7 +74,7 @@ Adds uri text old new (Ok status.Misused) = (new ≡ old) × CannotAdd old uri
 Adds uri text old new (Ok _) = ⊥
 Adds uri text old new (Err f) = (new ≡ old) × RefusesText old uri text f
 
-abbrev pub AddCall : List ℕ → List ℕ → Phase → Phase → Status → Said → Type 0
+abbrev pub AddCall : List ℕ → List ℕ → Phase → Phase → Status → LastCall → Type 0
 AddCall uri document old new answered said = (came : Result Status Fault) × Adds uri document old new came
     × Says [] came answered said
 
@@ -100,7 +100,7 @@ Finishes old new (Ok status.Misused) = (new ≡ old) × IsFinished old
 Finishes old new (Ok _) = ⊥
 Finishes old new (Err f) = (new ≡ old) × RefusesDocuments old f
 
-abbrev pub FinishCall : Phase → Phase → Status → Said → Type 0
+abbrev pub FinishCall : Phase → Phase → Status → LastCall → Type 0
 FinishCall old new answered said = (came : Result Status Fault) × Finishes old new came × Says [] came answered said
 
 -- ---- the list of places
@@ -120,7 +120,7 @@ Lists state text (Ok status.Misused) = CannotList state × (text ≡ [])
 Lists state text (Ok _) = ⊥
 Lists state text (Err f) = IsFinished state × (f ≡ fault.Memory)
 
-abbrev pub ListCall : Phase → Status → Said → Type 0
+abbrev pub ListCall : Phase → Status → LastCall → Type 0
 ListCall state answered said = (given : List ℕ) × (came : Result Status Fault) × Lists state given came
     × Says given came answered said
 
@@ -151,7 +151,7 @@ Enters schemas uri old new (Ok status.Misused) = (new ≡ old) × CannotEnter sc
 Enters schemas uri old new (Ok _) = ⊥
 Enters schemas uri old new (Err f) = (new ≡ old) × RefusesEntry schemas uri f
 
-abbrev pub EntryCall : Phase → List ℕ → List ℕ × ℕ → List ℕ × ℕ → Status → Said → Type 0
+abbrev pub EntryCall : Phase → List ℕ → List ℕ × ℕ → List ℕ × ℕ → Status → LastCall → Type 0
 EntryCall schemas uri old new answered said = (came : Result Status Fault) × Enters schemas uri old new came
     × Says [] came answered said
 
@@ -196,7 +196,7 @@ Checks state limits entries entry instance number text came =
     (documents : Documents) × (place : ℕ) × (format : Format) × Asked state entries entry number documents place format
     × Judges (InstanceOutcomeWithin limits documents (place_at documents place) format instance) text came
 
-abbrev pub CheckCall : Phase → Limits → List ℕ → ℕ → List ℕ → ℕ → Status → Said → Type 0
+abbrev pub CheckCall : Phase → Limits → List ℕ → ℕ → List ℕ → ℕ → Status → LastCall → Type 0
 CheckCall state limits entries entry instance number answered said =
     (given : List ℕ) × (came : Result Status Fault) × Checks state limits entries entry instance number given came
     × Says given came answered said

@@ -2,22 +2,21 @@
 use Rattle.std.specs.Prelude.{◌≡◌, ◌<◌, ◌⊎◌, ℕ, List, [], ◌∷◌, ◌++◌, length, map, Option, Some, None, Result, Ok, Err}
 use Rattle.std.specs.Prelude.{⊤}
 use Rattle.std.specs.Str.{IsUtf8}
-use Rattle.js_bundle.specs.Adding.{refusal_of_read}
-use Rattle.js_doc.specs.Compact.{compact}
 use Rattle.js_doc.specs.Pointer.{Tokens, pointer_text}
 use Rattle.js_doc.specs.Reading.{IsReadAs, IsReadFault}
 use Rattle.js_doc.specs.Value.{Value, Values, items, list, null, text}
 use Rattle.js_doc.specs.declared.reading.ReadFault.{ReadFault}
-use Rattle.js_doc.specs.declared.reading.ReadFault.TheVariants as read_fault
 use Rattle.js_output.specs.Device.{input_limit}
+use Rattle.js_output.specs.Documents.{unread_document}
+use Rattle.js_output.specs.Values.{value_line}
 use Rattle.js_output.specs.declared.fault.Fault.{Fault}
 use Rattle.js_output.specs.declared.fault.Fault.TheVariants as fault
 use Rattle.js_upgrade.specs.Originals.{original_in}
 use Rattle.js_upgrade.specs.declared.dialect.Dialect.{Dialect}
 use Rattle.jschema_c.specs.Locating.{ArePointers, AreUtf8}
-use Rattle.jschema_c.specs.Said.{Says}
+use Rattle.jschema_c.specs.LastCall.{Says}
 use Rattle.jschema_c.specs.Upgrading.{assumed_in}
-use Rattle.jschema_c.specs.declared.said.Said.{Said}
+use Rattle.jschema_c.specs.declared.last_call.LastCall.{LastCall}
 use Rattle.jschema_c.specs.declared.status.Status.{Status}
 use Rattle.jschema_c.specs.declared.status.Status.TheVariants as status
 
@@ -32,7 +31,7 @@ abbrev pub origins_told : Dialect → Value → List Tokens → Values
 origins_told assumed root pointers = map (λ p. origin_told (original_in assumed root p)) pointers
 
 abbrev pub origins_text : Dialect → Value → List Tokens → List ℕ
-origins_text assumed root pointers = compact (list (items (origins_told assumed root pointers))) ++ 10 ∷ []
+origins_text assumed root pointers = value_line (list (items (origins_told assumed root pointers)))
 
 -- ---- what comes of a call
 
@@ -47,14 +46,10 @@ CannotTrace uri pointers ends =
     (IsUtf8 uri → assumed_in uri ≡ None) ⊎ ((ps : List Tokens) → AreUtf8 ps → ¬ (ArePointers pointers 0 ends ps))
 
 -- the document isn't read
-abbrev pub unread : ReadFault → Fault
-unread read_fault.Memory = fault.Memory
-unread e = fault.Refused (refusal_of_read 0 e)
-
 abbrev pub RefusesOriginal : List ℕ → Fault → Type 0
 RefusesOriginal document fault.Memory = ⊤
 RefusesOriginal document fault.InputTooLarge = input_limit < length document
-RefusesOriginal document f = (e : ReadFault) × IsReadFault document e × (f ≡ unread e)
+RefusesOriginal document f = (e : ReadFault) × IsReadFault document e × (f ≡ unread_document 0 e)
 
 abbrev pub Traces : List ℕ → List ℕ → List ℕ → List ℕ → List ℕ → Result Status Fault → Type 0
 Traces uri document pointers ends said (Ok status.Done) = Traced uri document pointers ends said
@@ -62,6 +57,6 @@ Traces uri document pointers ends said (Ok status.Misused) = (said ≡ []) × Ca
 Traces uri document pointers ends said (Ok _) = ⊥
 Traces uri document pointers ends said (Err f) = RefusesOriginal document f
 
-abbrev pub TraceCall : List ℕ → List ℕ → List ℕ → List ℕ → Status → Said → Type 0
+abbrev pub TraceCall : List ℕ → List ℕ → List ℕ → List ℕ → Status → LastCall → Type 0
 TraceCall uri document pointers ends answered said = (given : List ℕ) × (came : Result Status Fault)
     × Traces uri document pointers ends given came × Says given came answered said

@@ -7,17 +7,17 @@ use Rattle.js_bundle.specs.declared.refusal.RefusalKind.TheVariants as kind
 use Rattle.js_doc.specs.Value.{Value, Values}
 use Rattle.js_output.specs.Documents.{fault_by}
 use Rattle.js_output.specs.declared.fault.Fault.{Fault}
-use Rattle.js_places.specs.Document.{Document, Documents}
+use Rattle.js_bundle.specs.Document.{Document, Documents}
 use Rattle.js_upgrade.specs.Dialect.{dialect_named}
-use Rattle.js_upgrade.specs.Documents.{Source, Sources, all_upgraded}
-use Rattle.js_upgrade.specs.Fault.{first_fault, IsFaultOf}
+use Rattle.js_upgrade.specs.Documents.{SourceDocument, Sources, all_upgraded}
+use Rattle.js_upgrade.specs.Fault.{first_fault, IsUpgradeFault}
 use Rattle.js_upgrade.specs.declared.dialect.Dialect.{Dialect}
 use Rattle.js_upgrade.specs.declared.dialect.Dialect.TheVariants.{Draft2020}
 use Rattle.js_upgrade.specs.declared.fault.UpgradeFault.{UpgradeFault}
 use Rattle.js_upgrade.specs.declared.fault.UpgradeFaultKind.{UpgradeFaultKind}
 use Rattle.js_upgrade.specs.declared.fault.UpgradeFaultKind.TheVariants as fault
-use Rattle.jschema_c.specs.Said.{Says}
-use Rattle.jschema_c.specs.declared.said.Said.{Said}
+use Rattle.jschema_c.specs.LastCall.{Says}
+use Rattle.jschema_c.specs.declared.last_call.LastCall.{LastCall}
 use Rattle.jschema_c.specs.declared.session.Phase.{Phase}
 use Rattle.jschema_c.specs.declared.session.Phase.TheVariants as phase
 use Rattle.jschema_c.specs.declared.status.Status.{Status}
@@ -28,7 +28,7 @@ abbrev pub assumed_in : List ℕ → Option Dialect
 assumed_in [] = Some Draft2020
 assumed_in (x ∷ xs) = dialect_named (x ∷ xs)
 
-abbrev pub source : Dialect → Document → Source
+abbrev pub source : Dialect → Document → SourceDocument
 source assumed document = record { uri = document.uri; assumed = assumed; root = document.root }
 
 abbrev pub sources : Dialect → Documents → Sources
@@ -61,23 +61,24 @@ CannotUpgrade (phase.Finished schemas) uri = ⊤
 
 -- ---- refused: as the document is
 
-abbrev pub kind_of : UpgradeFaultKind → RefusalKind
-kind_of fault.Memory = kind.Memory
-kind_of fault.TooManyDocuments = kind.TooManyDocuments
-kind_of fault.UnknownDialect = kind.UnknownDialect
-kind_of fault.BadKeyword = kind.BadKeyword
-kind_of fault.UriTooLong = kind.UriTooLong
-kind_of fault.BadId = kind.BadId
-kind_of fault.DuplicateUri = kind.DuplicateUri
-kind_of fault.BadReference = kind.BadReference
-kind_of fault.Unresolved = kind.Unresolved
+abbrev pub session_refusal_kind : UpgradeFaultKind → RefusalKind
+session_refusal_kind fault.Memory = kind.Memory
+session_refusal_kind fault.TooManyDocuments = kind.TooManyDocuments
+session_refusal_kind fault.UnknownDialect = kind.UnknownDialect
+session_refusal_kind fault.BadKeyword = kind.BadKeyword
+session_refusal_kind fault.UriTooLong = kind.UriTooLong
+session_refusal_kind fault.BadId = kind.BadId
+session_refusal_kind fault.DuplicateUri = kind.DuplicateUri
+session_refusal_kind fault.BadReference = kind.BadReference
+session_refusal_kind fault.Unresolved = kind.Unresolved
 
-abbrev pub refusal_of : UpgradeFault → Refusal
-refusal_of e = record { document = e.document; place = e.place; kind = kind_of e.kind }
+abbrev pub session_refusal : UpgradeFault → Refusal
+session_refusal e = record { document = e.document; place = e.place; kind = session_refusal_kind e.kind }
 
 abbrev pub RefusesSources : Sources → Fault → Type 0
 RefusesSources sources f =
-    (e : UpgradeFault) × IsFaultOf (first_fault sources) e × (f ≡ fault_by (kind_of e.kind) (refusal_of e))
+    (e : UpgradeFault) × IsUpgradeFault (first_fault sources) e
+    × (f ≡ fault_by (session_refusal_kind e.kind) (session_refusal e))
 
 abbrev pub RefusesUpgrade : Phase → List ℕ → Fault → Type 0
 RefusesUpgrade (phase.Adding documents) uri f =
@@ -91,6 +92,6 @@ Upgrades uri old new (Ok status.Misused) = (new ≡ old) × CannotUpgrade old ur
 Upgrades uri old new (Ok _) = ⊥
 Upgrades uri old new (Err f) = (new ≡ old) × RefusesUpgrade old uri f
 
-abbrev pub UpgradeCall : List ℕ → Phase → Phase → Status → Said → Type 0
+abbrev pub UpgradeCall : List ℕ → Phase → Phase → Status → LastCall → Type 0
 UpgradeCall uri old new answered said = (came : Result Status Fault) × Upgrades uri old new came
     × Says [] came answered said

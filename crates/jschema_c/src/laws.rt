@@ -2,12 +2,12 @@
 ghost use Rattle.std.specs.Prelude.{◌≡◌, List, ℕ};
 ghost use Rattle.js_output.specs.Documents.{DocumentTexts};
 ghost use Rattle.js_output.specs.Outcome.{Outcome, OutcomeWithin};
-ghost use Rattle.js_tree.specs.declared.forms.Format.{Format};
+ghost use Rattle.js_tree.specs.declared.formats.Format.{Format};
 ghost use Rattle.jschema_c.specs.declared.session.Session.{Session};
 ghost use Rattle.jschema_c.specs.declared.status.Status.{Status};
 ghost use Rattle.jschema_c.specs.Exports.{IsSharedBy, SessionChecks, SessionEnters, SessionLimits, SessionLists};
-ghost use Rattle.js_walk.specs.Result.{standard_limits};
-ghost use Rattle.jschema_c.specs.Run.{IsOpened, IsReady, TellsOutcome};
+ghost use Rattle.js_eval.specs.Result.{standard_limits};
+ghost use Rattle.jschema_c.specs.Run.{IsOpenedSession, IsReady, TellsOutcome};
 ghost use Rattle.jschema_c.specs.Status.{format_number};
 
 /// A check is a run: after `jschema_new`, `jschema_add` for each document, `jschema_finish` and `jschema_entry`, what
@@ -16,7 +16,7 @@ ghost use Rattle.jschema_c.specs.Status.{format_number};
 pub fn check_is_run()
     ensures { (documents : DocumentTexts) (uri : List ℕ) (number : ℕ) (s after : Session)
         (instance : List ℕ) (format : Format) (answered : Status)
-        → IsOpened documents uri number s
+        → IsOpenedSession documents uri number s
         → SessionChecks number instance (format_number format) s after answered
         → TellsOutcome (Outcome documents uri format instance) answered after.said }
 {
@@ -27,9 +27,9 @@ pub fn check_is_run()
 /// These calls make a handle ready, with the standard limits.
 pub fn opened_is_ready()
     ensures ready { (documents : DocumentTexts) (uri : List ℕ) (number : ℕ) (s : Session)
-        → IsOpened documents uri number s → IsReady documents uri number s }
+        → IsOpenedSession documents uri number s → IsReady documents uri number s }
     ensures limits { (documents : DocumentTexts) (uri : List ℕ) (number : ℕ) (s : Session)
-        → IsOpened documents uri number s → s.limits ≡ standard_limits }
+        → IsOpenedSession documents uri number s → s.limits ≡ standard_limits }
 {}
 
 /// A check of a ready handle is a run within its limits.

@@ -5,27 +5,29 @@
 ghost use Rattle.std.specs.Prelude.{◌≡◌, ◌≢◌, None, IfSome, IsSomeAnd, length};
 ghost use Rattle.jschema_c.specs.Exports.{IsNew, OnHandle, SessionAdds, SessionFinishes, SessionLists, SessionEnters};
 ghost use Rattle.jschema_c.specs.Exports.{AnswersNumber, IsPut, SessionChecks, SessionLimits, SessionTraces};
-ghost use Rattle.jschema_c.specs.Exports.{SessionUpgrades, Shares, TellsRefusal, refusal_in, room};
+ghost use Rattle.jschema_c.specs.Exports.{SessionShows, SessionUpgrades, Shares, TellsRefusal};
+ghost use Rattle.jschema_c.specs.Exports.{refusal_in, refusal_room};
 ghost use Rattle.jschema_c.specs.Locating.{Locates};
-ghost use Rattle.jschema_c.specs.Said.{copied, text_in};
+ghost use Rattle.jschema_c.specs.LastCall.{copied, text_in};
 ghost use Rattle.jschema_c.specs.Status.{code};
 ghost use Rattle.jschema_c.specs.declared.status.Status.TheVariants as Status;
 
 mod handle;
+mod last_call;
 pub mod laws;
 mod loose;
 mod position;
 mod refusal;
-mod said;
 mod session;
 pub mod sharing_laws;
+mod showing;
 mod status;
 mod tracing;
 mod upgrading;
 
 use handle::Handle;
+use last_call::copy_fitting;
 use position::{Position, locate};
-use said::copy_text;
 use session::Session;
 use status::Status;
 use std::alloc::Global;
@@ -61,7 +63,7 @@ pub extern "C" fn jschema_limit(
         return Status::Misused.code();
     };
     let status = taken.session.set_limits(applications, nodes);
-    handle.put_back(alloc, taken);
+    handle.put_taken(alloc, taken);
     status.code()
 }
 
@@ -78,8 +80,8 @@ pub extern "C" fn jschema_add(
     let Some(mut taken) = handle.take_session(alloc) else {
         return Status::Misused.code();
     };
-    let status = taken.session.add_document(alloc, uri, document);
-    handle.put_back(alloc, taken);
+    let status = taken.session.append_document(alloc, uri, document);
+    handle.put_taken(alloc, taken);
     status.code()
 }
 
@@ -94,7 +96,21 @@ pub extern "C" fn jschema_upgrade(alloc: Global, handle: &mut Handle, dialect: &
         return Status::Misused.code();
     };
     let status = taken.session.upgrade_documents(alloc, dialect);
-    handle.put_back(alloc, taken);
+    handle.put_taken(alloc, taken);
+    status.code()
+}
+
+/// Shows the document with this number, 0 for the first that was added, as it is now: its compact text and a line feed
+/// are the text. There is none once the documents are finished.
+#[unsafe(no_mangle)]
+pub extern "C" fn jschema_document(alloc: Global, handle: &mut Handle, number: usize) -> u32
+    ensures { OnHandle (SessionShows number) handle.old.value handle.new.value result }
+{
+    let Some(mut taken) = handle.take_session(alloc) else {
+        return Status::Misused.code();
+    };
+    let status = taken.session.show_document(alloc, number);
+    handle.put_taken(alloc, taken);
     status.code()
 }
 
@@ -120,7 +136,7 @@ pub extern "C" fn jschema_origins(
     let status = taken
         .session
         .trace(alloc, dialect, document, pointers, ends);
-    handle.put_back(alloc, taken);
+    handle.put_taken(alloc, taken);
     status.code()
 }
 
@@ -133,7 +149,7 @@ pub extern "C" fn jschema_finish(alloc: Global, handle: &mut Handle) -> u32
         return Status::Misused.code();
     };
     let status = taken.session.finish_documents(alloc);
-    handle.put_back(alloc, taken);
+    handle.put_taken(alloc, taken);
     status.code()
 }
 
@@ -146,7 +162,7 @@ pub extern "C" fn jschema_places(alloc: Global, handle: &mut Handle) -> u32
         return Status::Misused.code();
     };
     let status = taken.session.list(alloc);
-    handle.put_back(alloc, taken);
+    handle.put_taken(alloc, taken);
     status.code()
 }
 
@@ -166,7 +182,7 @@ pub extern "C" fn jschema_entry(
         return Status::Misused.code();
     };
     let status = taken.session.number_entry(alloc, uri, number);
-    handle.put_back(alloc, taken);
+    handle.put_taken(alloc, taken);
     status.code()
 }
 
@@ -181,7 +197,7 @@ pub extern "C" fn jschema_share(alloc: Global, handle: &mut Handle, other: &mut 
         return Status::Misused.code();
     };
     let made = taken.session.share_schemas(alloc);
-    handle.put_back(alloc, taken);
+    handle.put_taken(alloc, taken);
     let status = match made {
         Ok(Some(shared)) => put_shared(alloc, shared, other),
         Ok(None) => Status::Misused,
@@ -206,7 +222,7 @@ pub extern "C" fn jschema_check(
         return Status::Misused.code();
     };
     let status = taken.session.check_instance(alloc, entry, instance, format);
-    handle.put_back(alloc, taken);
+    handle.put_taken(alloc, taken);
     status.code()
 }
 
@@ -221,8 +237,8 @@ pub extern "C" fn jschema_text(alloc: Global, handle: &mut Handle, out: &mut [u8
     let Some(taken) = handle.take_session(alloc) else {
         return 0;
     };
-    let whole = copy_text(taken.session.said.text(), out);
-    handle.put_back(alloc, taken);
+    let whole = copy_fitting(taken.session.said.text(), out);
+    handle.put_taken(alloc, taken);
     whole
 }
 
@@ -239,8 +255,8 @@ pub extern "C" fn jschema_refusal(
     place_length: &mut usize,
 ) -> u32
     ensures tells { AnswersNumber result (TellsRefusal (refusal_in handle.old.value)
-        (room kind.old subject.old document.old place.old place_length.old)
-        (room kind.new subject.new document.new place.new place_length.new)) }
+        (refusal_room kind.old subject.old document.old place.old place_length.old)
+        (refusal_room kind.new subject.new document.new place.new place_length.new)) }
     ensures stays { handle.new.value ≡ handle.old.value }
 {
     let Some(taken) = handle.take_session(alloc) else {
@@ -249,7 +265,7 @@ pub extern "C" fn jschema_refusal(
     let status = taken
         .session
         .tell_refusal(kind, subject, document, place, place_length);
-    handle.put_back(alloc, taken);
+    handle.put_taken(alloc, taken);
     status.code()
 }
 

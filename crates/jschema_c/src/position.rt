@@ -25,7 +25,7 @@ pub struct Position {
     pub name_column: usize,
 }
 
-const NOWHERE: usize = usize::MAX;
+const ABSENT: usize = usize::MAX;
 
 /// Finds the values at the pointers, whose texts stand in `pointers` one after another, each up to its end.
 pub(crate) fn locate(
@@ -119,10 +119,10 @@ fn position_of(found: Option<Spots>) -> Position
 {
     let (value, end, name) = match found {
         Some(spots) => (Some(spots.value), spots.end, spots.name),
-        None => (None, NOWHERE, None),
+        None => (None, ABSENT, None),
     };
-    let value = spot_or_nowhere(value);
-    let name = spot_or_nowhere(name);
+    let value = spot_or_absent(value);
+    let name = spot_or_absent(name);
     Position {
         offset: value.offset,
         line: value.line,
@@ -134,15 +134,15 @@ fn position_of(found: Option<Spots>) -> Position
     }
 }
 
-fn spot_or_nowhere(spot: Option<Spot>) -> Spot
+fn spot_or_absent(spot: Option<Spot>) -> Spot
     ensures { spot_seen result ≡ spot_told (option_map spot_seen spot) }
 {
     match spot {
         Some(spot) => spot,
         None => Spot {
-            offset: NOWHERE,
-            line: NOWHERE,
-            column: NOWHERE,
+            offset: ABSENT,
+            line: ABSENT,
+            column: ABSENT,
         },
     }
 }

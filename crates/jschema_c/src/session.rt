@@ -3,18 +3,19 @@ ghost use Rattle.std.specs.Prelude.{◌≡◌, [], None, true, false, IfOk, IfSo
 ghost use Rattle.std.specs.Str.{IsUtf8};
 ghost use Rattle.jschema_c.specs.Exports.{IsNew, SessionAdds, SessionFinishes, SessionLists, SessionEnters};
 ghost use Rattle.jschema_c.specs.Exports.{IsSharedBy, SessionChecks, SessionLimits, SessionTraces};
-ghost use Rattle.jschema_c.specs.Exports.{SessionUpgrades, TellsRefusal, room};
-ghost use Rattle.jschema_c.specs.Said.{text_in};
+ghost use Rattle.jschema_c.specs.Exports.{SessionShows, SessionUpgrades, TellsRefusal, refusal_room};
+ghost use Rattle.jschema_c.specs.LastCall.{text_in};
 ghost use Rattle.jschema_c.specs.Session.{finished_in, IsFinished};
 ghost use Rattle.jschema_c.specs.Session.{Adds, Finishes, IsUriText, has_zero, Lists, Enters, Checks, Judges};
 ghost use Rattle.js_bundle.specs.Schemas.{is_place, place_at};
 ghost use Rattle.js_output.specs.Outcome.{InstanceOutcomeWithin};
-ghost use Rattle.js_tree.specs.declared.forms.Format.TheVariants.{Flag};
+ghost use Rattle.js_tree.specs.declared.formats.Format.TheVariants.{Flag};
 
-use crate::said::{Said, copy_text};
+use crate::last_call::{LastCall, copy_fitting};
+use crate::showing::show_text;
 use crate::status::{Status, format_numbered};
 use crate::tracing::traced;
-use crate::upgrading::upgraded;
+use crate::upgrading::upgrade_phase;
 use js_bundle::{Bundle, Place, Schemas};
 use js_output::{Fault, Limits, Sink, judge_within, list_places};
 use js_tree::Format;
@@ -41,7 +42,7 @@ pub struct Session {
     pub phase: Phase,
     pub limits: Limits,
     pub entries: Vec<Place, Global>,
-    pub said: Said,
+    pub said: LastCall,
 }
 
 impl Session {
@@ -53,7 +54,7 @@ impl Session {
             phase: Phase::Adding(Bundle::new(alloc)),
             limits: Limits::standard(),
             entries: Vec::new(alloc),
-            said: Said::nothing(alloc),
+            said: LastCall::new(alloc),
         }
     }
 
@@ -61,7 +62,7 @@ impl Session {
     pub(crate) fn set_limits(&mut self, applications: usize, nodes: usize) -> Status
         ensures { SessionLimits applications nodes self.old self.new result }
     {
-        self.said.clear();
+        self.said.reset();
         match Limits::at_most(applications, nodes) {
             Some(limits) => {
                 self.limits = limits;
@@ -72,7 +73,7 @@ impl Session {
     }
 
     /// Adds a document.
-    pub(crate) fn add_document(&mut self, alloc: Global, uri: &[u8], document: &[u8]) -> Status
+    pub(crate) fn append_document(&mut self, alloc: Global, uri: &[u8], document: &[u8]) -> Status
         ensures { SessionAdds uri.now document.now self.old self.new result }
     {
         let came = added(&mut self.phase, uri, document);
@@ -83,8 +84,16 @@ impl Session {
     pub(crate) fn upgrade_documents(&mut self, alloc: Global, dialect: &[u8]) -> Status
         ensures { SessionUpgrades dialect.now self.old self.new result }
     {
-        let came = upgraded(alloc, &mut self.phase, dialect);
+        let came = upgrade_phase(alloc, &mut self.phase, dialect);
         self.said.answer(alloc, came)
+    }
+
+    /// Shows the document with this number as the text.
+    pub(crate) fn show_document(&mut self, alloc: Global, number: usize) -> Status
+        ensures { SessionShows number self.old self.new result }
+    {
+        let came = show_text(alloc, &self.phase, number, &mut self.said);
+        self.said.conclude(alloc, came)
     }
 
     /// Lists where parts of an upgraded document come from as the text.
@@ -99,7 +108,7 @@ impl Session {
         ensures { SessionTraces dialect.now document.now pointers.now ends.now self.old self.new result }
     {
         let came = traced(alloc, dialect, document, pointers, ends, &mut self.said);
-        self.said.finish(alloc, came)
+        self.said.conclude(alloc, came)
     }
 
     /// Finishes the documents.
@@ -115,7 +124,7 @@ impl Session {
         ensures { SessionLists self.old self.new result }
     {
         let came = listed(alloc, &self.phase, &mut self.said);
-        self.said.finish(alloc, came)
+        self.said.conclude(alloc, came)
     }
 
     /// Looks an entry up, and numbers it.
@@ -144,7 +153,7 @@ impl Session {
             phase: Phase::Finished(schemas.clone()?),
             limits: self.limits,
             entries,
-            said: Said::nothing(alloc),
+            said: LastCall::new(alloc),
         }))
     }
 
@@ -158,10 +167,10 @@ impl Session {
     ) -> Status
         ensures { SessionChecks entry instance.now format self.old self.new result }
     {
-        let mut said = replace(&mut self.said, Said::nothing(alloc));
+        let mut said = replace(&mut self.said, LastCall::new(alloc));
         let came = self.checked(alloc, entry, instance, format, &mut said);
         self.said = said;
-        self.said.finish(alloc, came)
+        self.said.conclude(alloc, came)
     }
 
     /// Copies the parts of what the last call refused.
@@ -174,8 +183,8 @@ impl Session {
         place_length: &mut usize,
     ) -> Status
         ensures { TellsRefusal self.now.said.refusal
-            (room kind.old subject.old document.old place.old place_length.old)
-            (room kind.new subject.new document.new place.new place_length.new) result }
+            (refusal_room kind.old subject.old document.old place.old place_length.old)
+            (refusal_room kind.new subject.new document.new place.new place_length.new) result }
     {
         let Some(parts) = &self.said.refusal else {
             return Status::Misused;
@@ -183,7 +192,7 @@ impl Session {
         *kind = parts.kind;
         *subject = parts.subject;
         *document = parts.document;
-        *place_length = copy_text(parts.place.as_slice(), place);
+        *place_length = copy_fitting(parts.place.as_slice(), place);
         Status::Done
     }
 
@@ -194,13 +203,13 @@ impl Session {
         entry: usize,
         instance: &[u8],
         format: u32,
-        said: &mut Said,
+        said: &mut LastCall,
     ) -> Result<Status, Fault>
         ensures checks { Checks self.now.phase self.now.limits self.now.entries.items entry instance.now format
             (text_in said.new) result }
         ensures none { said.new.refusal ≡ None }
     {
-        said.clear();
+        said.reset();
         let Phase::Finished(schemas) = &self.phase else {
             return Ok(Status::Misused);
         };
@@ -278,11 +287,11 @@ fn finished(alloc: Global, phase: &mut Phase) -> Result<Status, Fault>
     }
 }
 
-fn listed(alloc: Global, phase: &Phase, said: &mut Said) -> Result<Status, Fault>
+fn listed(alloc: Global, phase: &Phase, said: &mut LastCall) -> Result<Status, Fault>
     ensures lists { Lists phase.now (text_in said.new) result }
     ensures none { said.new.refusal ≡ None }
 {
-    said.clear();
+    said.reset();
     let Phase::Finished(schemas) = phase else {
         return Ok(Status::Misused);
     };
@@ -332,7 +341,7 @@ fn judged(
     instance: &[u8],
     format: Format,
     limits: Limits,
-    said: &mut Said,
+    said: &mut LastCall,
 ) -> Result<Status, Fault>
     requires place { is_place schemas.now place ≡ true }
     requires verdict { said.old.verdict ≡ None }
@@ -359,7 +368,7 @@ fn found(
     place: Place,
     instance: &[u8],
     limits: Limits,
-    said: &mut Said,
+    said: &mut LastCall,
 ) -> Result<Status, Fault>
     requires place { is_place schemas.now place ≡ true }
     requires none { said.old.refusal ≡ None }

@@ -2,7 +2,7 @@
 ghost use Rattle.std.specs.Thread.{IsSend, IsSync};
 ghost use Rattle.jschema_c.specs.contracts.session.Session as Sessions;
 
-use crate::said::Said;
+use crate::last_call::LastCall;
 use js_bundle::sharing_laws::schemas_cross;
 use js_bundle::{Bundle, Place};
 use js_output::Limits;
@@ -16,7 +16,7 @@ pub fn sessions_cross()
     crosses::<Bundle>();
     crosses::<Limits>();
     crosses::<Vec<Place>>();
-    crosses::<Said>();
+    crosses::<LastCall>();
 }
 
 // What is asked, as a fact.

@@ -1,22 +1,18 @@
 //! Where parts of an upgraded document come from, as C sees it.
-ghost use Rattle.std.specs.Prelude.{◌≡◌, ◌++◌, ◌∷◌, [], None, IfErr, IfOk, Ok, map, option_map};
+ghost use Rattle.std.specs.Prelude.{◌≡◌, [], None, IfErr, IfOk, Ok, map, option_map};
 ghost use Rattle.std.specs.Prelude.{string_bytes};
-ghost use Rattle.js_doc.specs.Compact.{compact};
 ghost use Rattle.js_doc.specs.Reading.{IsReadAs};
 ghost use Rattle.js_doc.specs.Seen.{value_of};
-ghost use Rattle.js_bundle.specs.Adding.{refusal_of_read};
-ghost use Rattle.jschema_c.specs.Said.{text_in};
+ghost use Rattle.jschema_c.specs.LastCall.{text_in};
 ghost use Rattle.jschema_c.specs.Tracing.{RefusesOriginal, Traces, origin_told, origins_text, origins_told};
-ghost use Rattle.jschema_c.specs.Tracing.{unread};
 
+use crate::last_call::LastCall;
 use crate::position::parse_all;
-use crate::said::Said;
 use crate::session::LONGEST_DOCUMENT;
 use crate::status::Status;
 use crate::upgrading::assumed_in;
-use js_bundle::{Refusal, RefusalKind};
-use js_doc::{Doc, Items, Memory, Pointer, ReadFault, Text, put_text, read};
-use js_output::Fault;
+use js_doc::{Doc, Items, Memory, Pointer, Text, read};
+use js_output::{Fault, unread_document, value_line};
 use js_upgrade::{Dialect, original};
 use std::alloc::Global;
 
@@ -28,12 +24,12 @@ pub(crate) fn traced(
     document: &[u8],
     pointers: &[u8],
     ends: &[usize],
-    said: &mut Said,
+    said: &mut LastCall,
 ) -> Result<Status, Fault>
     ensures traces { Traces uri.now document.now pointers.now ends.now (text_in said.new) result }
     ensures none { said.new.refusal ≡ None }
 {
-    said.clear();
+    said.reset();
     let Some(assumed) = assumed_in(uri) else {
         return Ok(Status::Misused);
     };
@@ -55,25 +51,7 @@ fn root_of(alloc: Global, document: &[u8]) -> Result<Doc, Fault>
     }
     match read(alloc, document) {
         Ok(root) => Ok(root),
-        Err(fault) => Err(unread(alloc, fault)),
-    }
-}
-
-fn unread(alloc: Global, fault: ReadFault) -> Fault
-    ensures { result ≡ unread fault }
-{
-    match fault {
-        ReadFault::Memory => Fault::Memory,
-        ReadFault::NotJson => Fault::Refused(Refusal {
-            document: 0,
-            place: Pointer::new(alloc),
-            kind: RefusalKind::NotJson,
-        }),
-        ReadFault::NotWhole(place) => Fault::Refused(Refusal {
-            document: 0,
-            place,
-            kind: RefusalKind::NotWhole,
-        }),
+        Err(fault) => Err(unread_document(alloc, 0, fault)),
     }
 }
 
@@ -87,10 +65,7 @@ fn origins_text(
     ensures { IfOk result (λ s. string_bytes s ≡ origins_text assumed (value_of root.now) pointers.now) }
 {
     let origins = origins(alloc, assumed, root, pointers)?;
-    let mut text = String::new(alloc);
-    put_text(&Doc::List(Items::new(origins)), &mut text)?;
-    text.push('\n')?;
-    Ok(text)
+    value_line(alloc, &Doc::List(Items::new(origins)))
 }
 
 fn origins(

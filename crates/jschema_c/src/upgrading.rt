@@ -2,21 +2,21 @@
 ghost use Rattle.std.specs.Prelude.{◌≡◌, None, Some, IfErr, IfNone, IfOk, IfSome, drop, map};
 ghost use Rattle.std.specs.Str.{IsUtf8};
 ghost use Rattle.js_doc.specs.Seen.{value_of};
-ghost use Rattle.js_places.specs.Seen.{document_of};
+ghost use Rattle.js_bundle.specs.Seen.{document_of};
 ghost use Rattle.js_upgrade.specs.Seen.{source_of};
-ghost use Rattle.jschema_c.specs.Upgrading.{AreUpgraded, RefusesSources, Upgrades, assumed_in, kind_of, refusal_of};
-ghost use Rattle.jschema_c.specs.Upgrading.{source, sources, with_roots};
+ghost use Rattle.jschema_c.specs.Upgrading.{AreUpgraded, RefusesSources, Upgrades, assumed_in};
+ghost use Rattle.jschema_c.specs.Upgrading.{session_refusal, session_refusal_kind, source, sources, with_roots};
 
 use crate::session::Phase;
 use crate::status::Status;
 use js_bundle::{Bundle, Document, Refusal, RefusalKind};
 use js_doc::{Doc, Memory};
 use js_output::Fault;
-use js_upgrade::{Dialect, Source, UpgradeFault, UpgradeFaultKind, upgrade_all};
+use js_upgrade::{Dialect, SourceDocument, UpgradeFault, UpgradeFaultKind, upgrade_all};
 use std::alloc::Global;
 
 /// Upgrades the documents. One that names no dialect is of the one whose URI this is, or of 2020-12 if it is empty.
-pub(crate) fn upgraded(alloc: Global, phase: &mut Phase, uri: &[u8]) -> Result<Status, Fault>
+pub(crate) fn upgrade_phase(alloc: Global, phase: &mut Phase, uri: &[u8]) -> Result<Status, Fault>
     ensures { Upgrades uri.now phase.old phase.new result }
 {
     let Phase::Adding(bundle) = phase else {
@@ -39,7 +39,7 @@ pub(crate) fn assumed_in(uri: &[u8]) -> Option<Dialect>
         return Some(Dialect::Draft2020);
     }
     match str::from_utf8(uri) {
-        Ok(uri) => Dialect::named(uri),
+        Ok(uri) => Dialect::of_uri(uri),
         Err(_) => None,
     }
 }
@@ -52,11 +52,15 @@ fn upgraded_bundle(alloc: Global, assumed: Dialect, bundle: &Bundle) -> Result<B
     let sources = sources(alloc, assumed, documents)?;
     match upgrade_all(alloc, sources.as_slice()) {
         Ok(roots) => Ok(with_roots(alloc, documents, roots)?),
-        Err(fault) => Err(Fault::from(refusal_of(fault))),
+        Err(fault) => Err(Fault::from(session_refusal(fault))),
     }
 }
 
-fn sources(alloc: Global, assumed: Dialect, documents: &[Document]) -> Result<Vec<Source>, Memory>
+fn sources(
+    alloc: Global,
+    assumed: Dialect,
+    documents: &[Document],
+) -> Result<Vec<SourceDocument>, Memory>
     ensures { IfOk result (λ v. map source_of v.items ≡ sources assumed (map document_of documents.now)) }
 {
     let mut sources = Vec::with_capacity(alloc, documents.len())?;
@@ -66,12 +70,12 @@ fn sources(alloc: Global, assumed: Dialect, documents: &[Document]) -> Result<Ve
     Ok(sources)
 }
 
-fn source(alloc: Global, assumed: Dialect, document: &Document) -> Result<Source, Memory>
+fn source(alloc: Global, assumed: Dialect, document: &Document) -> Result<SourceDocument, Memory>
     ensures { IfOk result (λ s. source_of s ≡ source assumed (document_of document.now)) }
 {
     let uri = document.uri.clone()?;
     let root = document.root.copy(alloc)?;
-    Ok(Source { uri, assumed, root })
+    Ok(SourceDocument { uri, assumed, root })
 }
 
 fn with_roots(alloc: Global, documents: &[Document], roots: Vec<Doc>) -> Result<Bundle, Memory>
@@ -89,8 +93,8 @@ fn with_roots(alloc: Global, documents: &[Document], roots: Vec<Doc>) -> Result<
     Ok(bundle)
 }
 
-fn refusal_of(fault: UpgradeFault) -> Refusal
-    ensures { result ≡ refusal_of fault }
+fn session_refusal(fault: UpgradeFault) -> Refusal
+    ensures { result ≡ session_refusal fault }
 {
     let UpgradeFault {
         document,
@@ -100,12 +104,12 @@ fn refusal_of(fault: UpgradeFault) -> Refusal
     Refusal {
         document,
         place,
-        kind: kind_of(kind),
+        kind: session_refusal_kind(kind),
     }
 }
 
-fn kind_of(kind: UpgradeFaultKind) -> RefusalKind
-    ensures { result ≡ kind_of kind }
+fn session_refusal_kind(kind: UpgradeFaultKind) -> RefusalKind
+    ensures { result ≡ session_refusal_kind kind }
 {
     match kind {
         UpgradeFaultKind::Memory => RefusalKind::Memory,

@@ -1,30 +1,23 @@
 -- What the code's values are seen as.
 use Rattle.std.specs.Prelude.{◌≡◌, ℕ, List, [], ◌∷◌, ◌++◌, map, option_map, Result, Err, ⊤}
-use Rattle.js_bundle.specs.Adding.{refusal_of_read}
 use Rattle.js_bundle.specs.declared.refusal.Refusal.{Refusal}
-use Rattle.js_doc.specs.declared.reading.ReadFault.{ReadFault}
-use Rattle.js_doc.specs.declared.reading.ReadFault.TheVariants as read
-use Rattle.js_command.specs.Words.{DocumentPairs}
+use Rattle.js_command.specs.Words.{pairs_seen}
 use Rattle.js_output.specs.Documents.{DocumentTexts}
 use Rattle.js_output.specs.declared.fault.Fault.{Fault}
 use Rattle.js_output.specs.declared.fault.Fault.TheVariants as fault
 use Rattle.js_upgrade.specs.declared.fault.UpgradeFault.{UpgradeFault}
 use Rattle.js_upgrade.specs.declared.fault.UpgradeFaultKind.{UpgradeFaultKind}
 use Rattle.js_upgrade.specs.declared.fault.UpgradeFaultKind.TheVariants as upgrade
-use Rattle.js_upgrade_command.specs.Upgraded.{refusal_of}
+use Rattle.js_upgrade_command.specs.Upgraded.{reported_refusal}
 use Rattle.js_output.specs.Line.{failed_memory}
-use Rattle.js_upgrade_command.specs.Words.{Request, Said, usage_line}
-use Rattle.js_upgrade_command.specs.declared.documents.Taken.{Taken}
-use Rattle.js_upgrade_command.specs.declared.request.Request as rust_request
-use Rattle.js_upgrade_command.specs.declared.words.DocumentFile.{DocumentFile}
-use Rattle.js_upgrade_command.specs.declared.words.Misuse.{Misuse}
-use Rattle.js_upgrade_command.specs.declared.words.Misuse.TheVariants as misuse
-use Rattle.js_upgrade_command.specs.declared.words.Said as rust
+use Rattle.js_upgrade_command.specs.Words.{UpgradeRequest, SaidSoFar, upgrade_usage_line}
+use Rattle.js_upgrade_command.specs.declared.documents.DocumentText.{DocumentText}
+use Rattle.js_upgrade_command.specs.declared.request.UpgradeRequest as rust_request
+use Rattle.js_upgrade_command.specs.declared.words.UpgradeMisuse.{UpgradeMisuse}
+use Rattle.js_upgrade_command.specs.declared.words.UpgradeMisuse.TheVariants as misuse
+use Rattle.js_upgrade_command.specs.declared.words.SaidSoFar as rust
 
-abbrev pub pairs_seen : List DocumentFile → DocumentPairs
-pairs_seen ds = map (λ d. (d.uri.now, d.file.now)) ds
-
-abbrev pub said_seen : rust.Said → Said
+abbrev pub said_seen : rust.SaidSoFar → SaidSoFar
 said_seen s = record {
   waiting = s.waiting;
   assumed = s.assumed;
@@ -33,50 +26,45 @@ said_seen s = record {
   documents = pairs_seen s.documents.items;
 }
 
-abbrev pub request_seen : rust_request.Request → Request
-request_seen r = record {
+abbrev pub upgrade_request_seen : rust_request.UpgradeRequest → UpgradeRequest
+upgrade_request_seen r = record {
   assumed = r.assumed;
   into = option_map (λ w. w.now) r.into;
   documents = pairs_seen r.documents.items;
 }
 
 -- why the words ask for nothing; lack of memory can come at any time
-abbrev pub IsMisuse : {A : Type 0} → Result A Misuse → Misuse → Type 0
-IsMisuse asked misuse.Memory = ⊤
-IsMisuse asked m = asked ≡ Err m
+abbrev pub IsUpgradeMisuse : {A : Type 0} → Result A UpgradeMisuse → UpgradeMisuse → Type 0
+IsUpgradeMisuse asked misuse.Memory = ⊤
+IsUpgradeMisuse asked m = asked ≡ Err m
 
 -- ---- documents whose files were taken
 
-abbrev pub taken_seen : Taken → List ℕ × List ℕ
+abbrev pub taken_seen : DocumentText → List ℕ × List ℕ
 taken_seen d = (d.uri.now, d.text.items)
 
-abbrev pub texts_seen : List Taken → DocumentTexts
+abbrev pub texts_seen : List DocumentText → DocumentTexts
 texts_seen ds = map taken_seen ds
 
 -- ---- faults
 
 -- why nothing is found; lack of memory can come at any time
-abbrev pub IsRefusal : {A : Type 0} → Result A Refusal → Fault → Type 0
-IsRefusal found fault.Memory = ⊤
-IsRefusal found (fault.Refused r) = found ≡ Err r
-IsRefusal found _ = ⊥
-
--- of a text that isn't read
-abbrev pub unread : ℕ → ReadFault → Fault
-unread number read.Memory = fault.Memory
-unread number f = fault.Refused (refusal_of_read number f)
+abbrev pub RefusesWith : {A : Type 0} → Result A Refusal → Fault → Type 0
+RefusesWith found fault.Memory = ⊤
+RefusesWith found (fault.Refused r) = found ≡ Err r
+RefusesWith found _ = ⊥
 
 -- of a document that isn't upgraded
-abbrev pub fault_of : UpgradeFaultKind → UpgradeFault → Fault
-fault_of upgrade.Memory f = fault.Memory
-fault_of _ f = fault.Refused (refusal_of f)
+abbrev pub reported_fault : UpgradeFaultKind → UpgradeFault → Fault
+reported_fault upgrade.Memory f = fault.Memory
+reported_fault _ f = fault.Refused (reported_refusal f)
 
 -- of misused words
-abbrev pub misuse_status : Misuse → ℕ
-misuse_status misuse.Memory = 4
-misuse_status _ = 2
+abbrev pub upgrade_misuse_status : UpgradeMisuse → ℕ
+upgrade_misuse_status misuse.Memory = 4
+upgrade_misuse_status _ = 2
 
 -- what is written of them
-abbrev pub misuse_text : Misuse → List ℕ
+abbrev pub misuse_text : UpgradeMisuse → List ℕ
 misuse_text misuse.Memory = failed_memory ++ 10 ∷ []
-misuse_text m = usage_line m
+misuse_text m = upgrade_usage_line m

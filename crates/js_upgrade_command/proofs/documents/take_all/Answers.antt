@@ -1,5 +1,5 @@
 use Rattle.js_upgrade_command.specs.code.Seen.{texts_seen}
-use Rattle.js_upgrade_command.proofs.Taking.{holds_all}
+use Rattle.js_command.proofs.Holding.{holds_all}
 use Rattle.js_upgrade_command.proofs.documents.take_all.Goals as goal
 
 -- no document is left

@@ -1,6 +1,6 @@
 use Rattle.std.proofs.Common.{◌≡◌, drop}
 use Rattle.js_upgrade_command.specs.Names.{are_apart}
-use Rattle.js_upgrade_command.specs.code.Seen.{pairs_seen}
+use Rattle.js_command.specs.Words.{pairs_seen}
 use Rattle.js_upgrade_command.proofs.names.are_apart.Given as goal
 
 -- those left decide

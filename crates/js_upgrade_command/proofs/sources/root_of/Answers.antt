@@ -7,4 +7,4 @@ returns-in-Ok-clause-ok c = root_there c.args.number c.args.text.now (value_of c
 
 pub returns-in-Err-clause-err : goal.returns-in-Err-clause-err
 returns-in-Err-clause-err c =
-    rw c.unread.ensures (root_unread c.args.number c.args.text.now c.in-Err.fault c.in-Err.ensures.err)
+    rw c.unread_document.ensures (root_unread c.args.number c.args.text.now c.in-Err.fault c.in-Err.ensures.err)

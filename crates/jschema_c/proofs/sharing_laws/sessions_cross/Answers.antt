@@ -11,8 +11,8 @@ use Rattle.js_assert.proofs.Crossing.{Law, sending, sharing}
 use Rattle.js_bundle.specs.contracts.bundle.Bundle as Bundle
 use Rattle.js_bundle.specs.contracts.place.Place as Place
 use Rattle.js_bundle.specs.contracts.schemas.Schemas as Schemas
-use Rattle.js_walk.specs.contracts.walking.limits.Limits as Limits
-use Rattle.jschema_c.specs.contracts.said.Said as Said
+use Rattle.js_eval.specs.contracts.evaluation.limits.Limits as Limits
+use Rattle.jschema_c.specs.contracts.last_call.LastCall as LastCall
 use Rattle.jschema_c.specs.contracts.session.Phase as Phase
 use Rattle.jschema_c.specs.contracts.session.Session as Session
 use Rattle.jschema_c.proofs.sharing_laws.sessions_cross.Goals as goal
@@ -23,7 +23,7 @@ record SessionParts (L : Law) : Type 0 where
   schemas : L.Holds (Arc.the_row Schemas.the_row Global.the_row ghosts)
   limits : L.Holds Limits.the_row
   entries : L.Holds (Vec.the_row Place.the_row Global.the_row ghosts)
-  said : L.Holds Said.the_row
+  said : L.Holds LastCall.the_row
 
 session : (L : Law) → SessionParts L → L.Holds Session.the_row
 session L parts =

@@ -1,5 +1,5 @@
 use Rattle.std.proofs.Common.{◌≡◌, ◌++◌, map, drop}
-use Rattle.js_places.specs.Seen.{document_of}
+use Rattle.js_bundle.specs.Seen.{document_of}
 use Rattle.js_upgrade.specs.Seen.{source_of}
 use Rattle.jschema_c.specs.Upgrading.{source, sources}
 use Rattle.jschema_c.proofs.upgrading.sources.Given as goal

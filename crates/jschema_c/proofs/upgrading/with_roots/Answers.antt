@@ -1,7 +1,7 @@
 use Rattle.std.proofs.Common.{◌≡◌, [], ◌++◌, map, drop, ap, sym, ◌∙◌}
 use Rattle.std.proofs.lemmas.List.{append-nil, nil_from_length}
 use Rattle.js_doc.specs.Seen.{value_of}
-use Rattle.js_places.specs.Seen.{document_of}
+use Rattle.js_bundle.specs.Seen.{document_of}
 use Rattle.jschema_c.specs.Upgrading.{with_roots}
 use Rattle.jschema_c.proofs.UpgradedRoots.{none_left}
 use Rattle.jschema_c.proofs.upgrading.with_roots.Goals as goal

@@ -1,6 +1,6 @@
 use Rattle.std.proofs.Common.{◌≡◌, ◌++◌, map, drop}
 use Rattle.js_doc.specs.Seen.{value_of}
-use Rattle.js_places.specs.Seen.{document_of}
+use Rattle.js_bundle.specs.Seen.{document_of}
 use Rattle.jschema_c.specs.Upgrading.{with_roots}
 use Rattle.jschema_c.proofs.upgrading.with_roots.Given as goal
 

@@ -2,11 +2,11 @@ use Rattle.std.proofs.Common.{inl, inr, refl, arith}
 use Rattle.js_command.specs.Words.{words_of}
 use Rattle.js_output.specs.Line.{failed_memory}
 use Rattle.js_upgrade_command.specs.Stop.{stop_line}
-use Rattle.js_upgrade_command.specs.Words.{request_of}
-use Rattle.js_upgrade_command.specs.code.Seen.{request_seen}
+use Rattle.js_upgrade_command.specs.Words.{upgrade_request_of}
+use Rattle.js_upgrade_command.specs.code.Seen.{upgrade_request_seen}
 use Rattle.js_upgrade_command.proofs.Ending.{misuse_above, misuse_asked, misuse_named, misuse_nonzero, misused_ends}
 use Rattle.js_upgrade_command.proofs.Ending.{stop_above, stop_named}
-use Rattle.js_upgrade_command.proofs.program.command.Goals as goal
+use Rattle.js_upgrade_command.proofs.program.upgrade_command.Goals as goal
 
 -- ---- the words ask for nothing
 
@@ -28,13 +28,13 @@ returns-in-Err-clause-quiet g c =
 
 pub returns-in-Err-clause-misused : goal.returns-in-Err-clause-misused
 returns-in-Err-clause-misused g c =
-    misused_ends (request_of (words_of c.args.words.now)) c.in-Err.misuse c.report_misuse.result
+    misused_ends (upgrade_request_of (words_of c.args.words.now)) c.in-Err.misuse c.report_misuse.result
     c.report_misuse.ensures.status
 
 pub returns-in-Err-clause-usage : goal.returns-in-Err-clause-usage
 returns-in-Err-clause-usage g c two = (
   c.in-Err.misuse,
-  misuse_asked (request_of (words_of c.args.words.now)) c.in-Err.misuse c.report_misuse.result
+  misuse_asked (upgrade_request_of (words_of c.args.words.now)) c.in-Err.misuse c.report_misuse.result
       c.report_misuse.ensures.status c.in-Err.ensures.err two,
   c.report_misuse.ensures.usage two,
 )

@@ -2,7 +2,7 @@ use Rattle.std.proofs.Common.{◌≡◌, drop}
 use Rattle.js_command.specs.Words.{words_of}
 use Rattle.js_upgrade_command.specs.Words.{nothing_said, words_said}
 use Rattle.js_upgrade_command.specs.code.Seen.{said_seen}
-use Rattle.js_upgrade_command.proofs.request.request_of.Given as goal
+use Rattle.js_upgrade_command.proofs.request.upgrade_request_of.Given as goal
 
 -- what is left is said after what was said
 abbrev pub invariant-loop-word : goal.invariant-loop-word

@@ -1,6 +1,6 @@
 //! What a call leaves in its handle: a text, and the parts of what it refused.
 ghost use Rattle.std.specs.Prelude.{◌≡◌, [], None, IfSome, length};
-ghost use Rattle.jschema_c.specs.Said.{IsSilent, Says, SaysFault, copied, text_in};
+ghost use Rattle.jschema_c.specs.LastCall.{IsSilent, Says, SaysFault, copied, text_in};
 ghost use Rattle.jschema_c.specs.declared.status.Status.TheVariants as status;
 
 use crate::refusal::{RefusalParts, parts_of};
@@ -10,7 +10,7 @@ use std::alloc::Global;
 
 /// What the last call left.
 #[derive(Drop)]
-pub struct Said {
+pub struct LastCall {
     /// The verdict of a check in the format flag. Its output is the text, which is written only when it is asked for.
     pub verdict: Option<bool>,
     /// The output of another check, the list of places, the line of a refusal, or nothing.
@@ -19,12 +19,12 @@ pub struct Said {
     pub refusal: Option<RefusalParts>,
 }
 
-impl Said {
+impl LastCall {
     /// No text, and no refusal.
-    pub(crate) fn nothing(alloc: Global) -> Said
+    pub(crate) fn new(alloc: Global) -> LastCall
         ensures { IsSilent result }
     {
-        Said {
+        LastCall {
             verdict: None,
             text: Vec::new(alloc),
             refusal: None,
@@ -32,7 +32,7 @@ impl Said {
     }
 
     /// Forgets the last call.
-    pub(crate) fn clear(&mut self)
+    pub(crate) fn reset(&mut self)
         ensures silent { IsSilent self.new }
         ensures verdict { self.new.verdict ≡ None }
         ensures empty { self.new.text.items ≡ [] }
@@ -57,12 +57,12 @@ impl Said {
     pub(crate) fn answer(&mut self, alloc: Global, came: Result<Status, Fault>) -> Status
         ensures { Says [] came result self.new }
     {
-        self.clear();
-        self.finish(alloc, came)
+        self.reset();
+        self.conclude(alloc, came)
     }
 
     /// Says what a call came to that has given its text and refused nothing, and returns its status.
-    pub(crate) fn finish(&mut self, alloc: Global, came: Result<Status, Fault>) -> Status
+    pub(crate) fn conclude(&mut self, alloc: Global, came: Result<Status, Fault>) -> Status
         requires { self.old.refusal ≡ None }
         ensures { Says (text_in self.old) came result self.new }
     {
@@ -82,7 +82,7 @@ impl Said {
                 Status::Refused
             }
             None => {
-                self.clear();
+                self.reset();
                 Status::Failed
             }
         }
@@ -90,12 +90,12 @@ impl Said {
 }
 
 // What is said of a refusal. `None` for another fault, and if memory runs out.
-fn refused(alloc: Global, fault: &Fault) -> Option<Said>
+fn refused(alloc: Global, fault: &Fault) -> Option<LastCall>
     ensures { IfSome result (SaysFault fault.now status.Refused) }
 {
     let refusal = parts_of(alloc, fault)?;
     let text = refusal_line(alloc, fault).ok()?.into_bytes();
-    Some(Said {
+    Some(LastCall {
         verdict: None,
         text,
         refusal: Some(refusal),
@@ -103,7 +103,7 @@ fn refused(alloc: Global, fault: &Fault) -> Option<Said>
 }
 
 /// Copies as many bytes of a text as fit, and returns its whole length.
-pub(crate) fn copy_text(text: &[u8], out: &mut [u8]) -> usize
+pub(crate) fn copy_fitting(text: &[u8], out: &mut [u8]) -> usize
     ensures whole { result ≡ length text.now }
     ensures copied { out.new ≡ copied text.now out.old }
 {

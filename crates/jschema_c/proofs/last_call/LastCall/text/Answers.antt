@@ -1,7 +1,7 @@
 use Rattle.std.proofs.Common.{◌≡◌, [], ◌∷◌, ◌++◌, Some, true, false, ap, sym, ◌∙◌}
 use Rattle.js_tree.proofs.FlagText.{valid_text, invalid_text}
-use Rattle.jschema_c.specs.Said.{verdict_or}
-use Rattle.jschema_c.proofs.said.Said.text.Goals as goal
+use Rattle.jschema_c.specs.LastCall.{verdict_or}
+use Rattle.jschema_c.proofs.last_call.LastCall.text.Goals as goal
 
 pub returns-in-Some-true : goal.returns-in-Some-true
 returns-in-Some-true c =
