@@ -44,6 +44,19 @@ export interface Upgrading {
   readonly upgrade?: boolean;
 }
 
+/** The text of each document, upgraded to 2020-12, by its URI: they are upgraded together. Throws `Refused`. */
+export function upgrade(
+  documents: Documents, options?: { defaultDialect?: Dialect; module?: Module },
+): Promise<Record<string, string>>;
+
+/** What is rewritten before the validator gets it. That it says the same then is tested, and not proved. */
+export interface Rewriting {
+  /** With `ecma` patterns are those of ECMA-262, look-around too where it can be rewritten exactly. */
+  readonly patterns?: "ecma";
+  /** With `exact` schemas may have fractions, and `1.0` is the integer 1; with `texts` also those in annotations. */
+  readonly numbers?: "exact" | "texts";
+}
+
 /** A place in a text: an index into the string; lines, and characters within the line, from 1. */
 export interface Position {
   readonly offset: number;
@@ -78,7 +91,7 @@ export interface Answer {
 export class Schemas {
   private constructor();
   /** Reads and checks documents. Throws `RangeError` for limits and dialects that there can't be. */
-  static create(documents: Documents, options?: { module?: Module } & Limits & Upgrading): Promise<Schemas>;
+  static create(documents: Documents, options?: { module?: Module } & Limits & Upgrading & Rewriting): Promise<Schemas>;
   /** The absolute location of every schema: what can be an entry, or be referred to. */
   places(): string[];
   /** Whether an instance is valid. This is the quickest call. */
@@ -91,8 +104,12 @@ export class Schemas {
   outputText(entry: string, instance: Instance, format?: Format): string;
   /** The verdict and the output, by one check. */
   check(entry: string, instance: Instance, format?: Format): Answer;
-  /** An absolute location of an output in the documents that were passed in, which may be of older drafts. */
+  /** The errors as a tree: the `detailed` output, with the keywords of the documents where they were rewritten. */
+  tree(entry: string, instance: Instance): Output;
+  /** An absolute location of an output in the documents, which may have been rewritten, or upgraded. */
   originalLocation(absoluteKeywordLocation: string): string;
+  /** That of a schema as it was before it was rewritten; undefined for one that the documents didn't have. */
+  writtenSchema(absoluteKeywordLocation: string): string | undefined;
   /** Where the values of an instance stand in its text. */
   positions(instance: Instance): Text;
   /** Frees what the schemas hold. Afterwards only `close` may be called. */
@@ -198,5 +215,5 @@ export interface Validate {
 /** ajv's word: a function for a schema, with other documents by their URIs. */
 export function compile(
   schema: boolean | object,
-  options?: { schemas?: Readonly<Record<string, boolean | object>>; module?: Module } & Upgrading,
+  options?: { schemas?: Readonly<Record<string, boolean | object>>; module?: Module } & Upgrading & Rewriting,
 ): Promise<Validate>;

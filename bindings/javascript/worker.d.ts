@@ -1,5 +1,5 @@
 import type {
-  Answer, Documents, Format, Instance, Limits, Module, Output, Text, Upgrading, ValidationError,
+  Answer, Documents, Format, Instance, Limits, Module, Output, Rewriting, Text, Upgrading, ValidationError,
 } from "./index.js";
 
 /** Schemas in a worker. Each call waits for those before it; at its time limit it is answered with `Stopped`. */
@@ -8,7 +8,7 @@ export class WorkerSchemas {
   /** `seconds` limits each later call (10 without it). */
   static create(
     documents: Documents,
-    options?: { seconds?: number; module?: Module } & Limits & Upgrading,
+    options?: { seconds?: number; module?: Module } & Limits & Upgrading & Rewriting,
   ): Promise<WorkerSchemas>;
   places(): Promise<string[]>;
   isValid(entry: string, instance: Instance): Promise<boolean>;
@@ -18,6 +18,7 @@ export class WorkerSchemas {
   check(entry: string, instance: Instance, format?: Format): Promise<Answer>;
   positions(instance: Instance): Promise<Text>;
   originalLocation(absoluteKeywordLocation: string): Promise<string>;
+  writtenSchema(absoluteKeywordLocation: string): Promise<string | undefined>;
   /** Ends the worker. */
   close(): void;
 }

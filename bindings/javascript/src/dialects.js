@@ -1,4 +1,5 @@
 /** The dialects, from draft-03 to draft 2020-12. */
+import { Numeral } from "./numerals.js";
 
 export const DRAFTS = Object.freeze(["draft-03", "draft-04", "draft-06", "draft-07", "2019-09", "2020-12"]);
 export const FOUR = 1, SIX = 2, NINETEEN = 4, LATEST = 5;
@@ -44,5 +45,5 @@ export function hides(schema, dialect) {
 
 /** Whether a value of JSON is an object. */
 export function isObject(value) {
-  return typeof value === "object" && value !== null && !Array.isArray(value);
+  return typeof value === "object" && value !== null && !Array.isArray(value) && !(value instanceof Numeral);
 }

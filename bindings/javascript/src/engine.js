@@ -121,6 +121,12 @@ export class Instance {
     this.#expectDone(handle, this.#call("jschema_upgrade", handle, this.#at, length));
   }
 
+  /** The text of a document as it is now, by its number. */
+  document(handle, number) {
+    this.#expectDone(handle, this.#call("jschema_document", handle, number));
+    return this.#text(handle);
+  }
+
   finish(handle) {
     this.#expectDone(handle, this.#call("jschema_finish", handle));
   }

@@ -4,4 +4,5 @@ export { FORMATS } from "./engine.js";
 export { OutOfMemory, Refused, Stopped, ValidationError } from "./errors.js";
 export { Text } from "./positions.js";
 export { Schemas } from "./schemas.js";
+export { upgrade } from "./upgrade.js";
 export { textOf } from "./values.js";

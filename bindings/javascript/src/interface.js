@@ -64,4 +64,26 @@ export const MEANINGS = Object.freeze({
   Unresolved: "no schema has this URI; give its document too",
   UriTooLong: "a URI of more than 65,536 bytes",
 });
+
+/**
+ * What is rewritten for the validator: of each option the name of the argument, and words with their meanings. The
+ * first is the default, and the last leaves everything to the validator.
+ */
+export const REWRITING = Object.freeze({
+  patterns: {
+    argument: "SYNTAX",
+    words: {
+      ecma: "patterns are those of ECMA-262, look-around too where it can be rewritten exactly",
+      regex: "patterns are those of the validator, the crate regex",
+    },
+  },
+  numbers: {
+    argument: "RANGE",
+    words: {
+      exact: "schemas may have fractions, and 1.0 is the integer 1",
+      texts: "the same, and fractions in the annotations of a schema become texts",
+      whole: "numbers are those of the validator, whole ones from -2^63 to 2^64 - 1",
+    },
+  },
+});
 // interface: end

@@ -1,6 +1,6 @@
 /** What a keyword of an upgraded schema comes from in the schema that it was (crates/js_upgrade/specs). */
 import { FOUR, LATEST, NINETEEN, SIX, dialectNamed, hides, identifier, isObject } from "./dialects.js";
-import { LISTS, OBJECTS } from "./locations.js";
+import { LISTS, OBJECTS, steps } from "./locations.js";
 
 // What a value is: a schema, a list or an object of schemas, or neither.
 const SCHEMA = 0, SEVERAL = 1, VALUE = 2;
@@ -24,15 +24,19 @@ const INDEX = /^(?:0|[1-9][0-9]*)$/;
  * @returns {string[] | undefined}
  */
 export function originalOf(value, tokens, dialect) {
-  const found = [], left = [...tokens];
+  const found = copiedAt(value, tokens, dialect), left = tokens.slice(found.length > 0 ? 2 : 0);
   let holding = SCHEMA;
+  for (const token of found) {
+    if (!has(value, token)) return undefined;
+    value = value[token];
+  }
   while (left.length > 0) {
     // (The name of a type, of which the upgrade made a schema.)
     if (holding === SCHEMA && typeof value === "string") break;
-    let steps = [left.shift()];
+    let way = [left.shift()];
     if (holding === SCHEMA && isObject(value)) {
       dialect = ownDialect(value, dialect);
-      let [token] = steps, keyword = originOf(value, token, dialect);
+      let [token] = way, keyword = originOf(value, token, dialect);
       if (keyword === "contains" && token !== keyword) {
         // (It stands with its limits in an item, behind two `not`s.)
         left.splice(0, 3);
@@ -41,17 +45,25 @@ export function originalOf(value, tokens, dialect) {
       if (!Object.hasOwn(value, keyword)) return undefined;
       const { kind, below } = held(value[keyword], token, keyword, left);
       holding = kind;
-      steps = [keyword, ...below];
+      way = [keyword, ...below];
     } else {
       holding = holding === SEVERAL ? SCHEMA : VALUE;
     }
-    for (const step of steps) {
+    for (const step of way) {
       if (!has(value, step)) return undefined;
       value = value[step];
     }
-    found.push(...steps);
+    found.push(...way);
   }
   return found;
+}
+
+/** The place of what is copied, if the first two tokens lead to a copy among the definitions of a document. */
+function copiedAt(root, [keyword, name], dialect) {
+  if (dialect === LATEST || keyword !== "$defs" || name === undefined || !isObject(root)) return [];
+  if (has(root[dialect === NINETEEN ? "$defs" : "definitions"], name)) return [];
+  if (name.startsWith("/")) return steps(name);
+  return has(root.$defs, name) ? ["$defs", name] : [];
 }
 
 /** The dialect of a schema: what it names beside an identifier of that dialect, or the one around it. */

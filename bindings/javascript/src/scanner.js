@@ -5,6 +5,8 @@
  *
  * Accepts what the validator reads as JSON: RFC 8259, no byte order mark, no lone surrogate, no number beyond a
  * double's range, at most 127 arrays and objects in one another. Numbers needn't be whole here.
+ *
+ * `JSON.parse` accepts more, and so does a scan that is lenient: lone surrogates, and any number.
  */
 import { DEEPEST } from "./limits.js";
 
@@ -33,15 +35,20 @@ class Node {
   }
 }
 
-/** The value of a text. Of members with the same name the last counts. Throws `NotJson`. */
-export function scan(text, deepest = DEEPEST) {
-  return new Scanner(text, deepest).run();
+/**
+ * The value of a text. Of members with the same name the last counts. Throws `NotJson`.
+ *
+ * @param {string} text @param {{ deepest?: number, isLenient?: boolean }} [options]
+ */
+export function scan(text, { deepest = DEEPEST, isLenient = false } = {}) {
+  return new Scanner(text, deepest, isLenient).run();
 }
 
 class Scanner {
-  constructor(text, deepest) {
+  constructor(text, deepest, isLenient) {
     this.text = text;
     this.deepest = deepest;
+    this.isLenient = isLenient;
     this.at = 0;
     // The arrays and objects that are open.
     this.holders = [];
@@ -90,8 +97,9 @@ class Scanner {
     for (const kind of [NUMBER, WORD]) {
       kind.lastIndex = begin;
       if (kind.test(this.text)) {
-        const isFinite = kind === WORD || Number.isFinite(Number(this.text.slice(begin, kind.lastIndex)));
-        if (!isFinite) break;
+        const isTaken = kind === WORD || this.isLenient
+          || Number.isFinite(Number(this.text.slice(begin, kind.lastIndex)));
+        if (!isTaken) break;
         this.at = kind.lastIndex;
         return;
       }
@@ -120,7 +128,7 @@ class Scanner {
     this.at += 1;
     const token = text.slice(begin, this.at);
     const read = isPlain ? token.slice(1, -1) : JSON.parse(token);
-    if (/\p{Surrogate}/u.test(read)) throw new NotJson(begin);
+    if (!this.isLenient && /\p{Surrogate}/u.test(read)) throw new NotJson(begin);
     return read;
   }
 

@@ -1,12 +1,13 @@
 /** Schema documents, and what can be asked of them. */
-import { FORMATS, encoded, load, sharedEngine } from "./engine.js";
-import { Refused, ValidationError } from "./errors.js";
-import { LARGEST_TEXT, STANDARD_LIMITS, limitsOf } from "./limits.js";
+import { Documents, isUriText } from "./documents.js";
+import { FORMATS, load, sharedEngine } from "./engine.js";
+import { Refused } from "./errors.js";
+import { STANDARD_LIMITS, limitsOf } from "./limits.js";
 import { explain } from "./meanings.js";
 import { parse } from "./outputs.js";
 import { Text } from "./positions.js";
-import { Originals, explainUpgraded, upgradeOf, uriOf } from "./upgrading.js";
-import { isWellFormed, textOf } from "./values.js";
+import { uriOf } from "./upgrading.js";
+import { textOf } from "./values.js";
 
 /** Frees the handles of schemas that were forgotten. */
 const forgotten = new FinalizationRegistry(({ instance, handle }) => {
@@ -25,21 +26,18 @@ const forgotten = new FinalizationRegistry(({ instance, handle }) => {
  */
 export class Schemas {
   #engine;
+  /** @type {Documents | undefined} */
   #documents;
   #limits;
-  #assumed;
-  #originals;
   #instance;
   #handle;
   #entries;
 
   /** Use `Schemas.create`. */
-  constructor(engine, documents, limits = STANDARD_LIMITS, assumed = undefined) {
+  constructor(engine, documents, limits = STANDARD_LIMITS) {
     this.#engine = engine;
     this.#documents = documents;
     this.#limits = limits;
-    this.#assumed = assumed;
-    this.#originals = new Originals(documents, assumed);
     this.#begin();
   }
 
@@ -48,48 +46,62 @@ export class Schemas {
    *
    * @param {Record<string, string | Uint8Array> | Iterable<[string, string | Uint8Array]>} documents the text of each,
    *     by its absolute URI
-   * @param {{ module?: unknown, applications?: number, nodes?: number, defaultDialect?: string, upgrade?: boolean }}
-   *     [options] the WebAssembly module, where it isn't the package's own file; how many schema applications may be
-   *     nested, and how many nodes a result may have; the dialect of documents that name none; whether documents of
-   *     older drafts are upgraded
+   * @param {{ module?: unknown, applications?: number, nodes?: number, defaultDialect?: string, upgrade?: boolean,
+   *     patterns?: "ecma", numbers?: "exact" | "texts" }} [options] the WebAssembly module, where it isn't the
+   *     package's own file; how many schema applications may be nested, and how many nodes a result may have; the
+   *     dialect of documents that name none; whether documents of older drafts are upgraded; and what is rewritten:
+   *     with `ecma` patterns are those of ECMA-262, look-around too where it can be rewritten exactly, with `exact`
+   *     schemas may have fractions, and `1.0` is the integer 1 (with `texts` fractions in annotations become texts)
    */
   static async create(documents, options = {}) {
     const limits = limitsOf(options);
     const engine = await (options.module === undefined ? sharedEngine() : load(options.module));
-    const pairs = pairsOf(documents);
-    return new Schemas(engine, pairs, limits, upgradeOf(options, pairs));
+    return new Schemas(engine, await Documents.create(documents, options), limits);
   }
 
   /** The absolute location of every schema: what can be an entry, or be referred to. */
   places() {
     const handle = this.#open();
-    return this.#instance.places(handle);
+    return this.#instance.places(handle).map((it) => this.writtenSchema(it)).filter((it) => it !== undefined);
   }
 
   /** Whether an instance is valid. No output is made, so this is the quickest call. */
   isValid(entry, instance) {
-    const text = textOf(instance);
-    return this.#asked(entry, text, (handle) => this.#instance.verdict(handle, this.#number(entry), text, "flag"));
+    return this.#asked(entry, this.#textOf(instance), (handle, text) =>
+      this.#instance.verdict(handle, this.#number(entry), text, "flag"));
   }
 
   /** The errors of the `basic` output, in its order; none for a valid instance. */
   errors(entry, instance) {
-    const text = textOf(instance);
+    const text = this.#textOf(instance);
     const { valid, output } = this.check(entry, text, "basic");
-    return valid ? [] : errorsOf(output, this.positions(text), this.#originals);
+    return valid ? [] : this.#documents.errors(output, this.positions(text));
   }
 
   /**
-   * An absolute location of an output in the documents that were passed in. It is another one where documents of older
-   * drafts were upgraded; where nothing in them becomes the keyword, it stays.
+   * An absolute location of an output in the documents that were passed in. It is another one where these were
+   * rewritten, or upgraded from an older draft; where nothing in them becomes the keyword, it stays.
    */
   originalLocation(absoluteKeywordLocation) {
-    return this.#originals.location(absoluteKeywordLocation);
+    return this.#opened.location(absoluteKeywordLocation);
+  }
+
+  /**
+   * The absolute location of a schema in an output as it was before it was rewritten, which is another one below
+   * `patternProperties`. Undefined for a schema that the documents didn't have: a pattern became it.
+   */
+  writtenSchema(absoluteKeywordLocation) {
+    return this.#opened.writtenSchema(absoluteKeywordLocation);
+  }
+
+  /** The errors of an instance as a tree: its `detailed` output, parsed, with the keywords of the documents. */
+  tree(entry, instance) {
+    return this.#opened.tree(this.outputText(entry, instance, "detailed"));
   }
 
   /** Where the values of an instance stand in its text. */
   positions(instance) {
-    return new Text(textOf(instance), this.#engine);
+    return new Text(this.#textOf(instance), this.#engine);
   }
 
   /** The output in a format, parsed. An integer beyond 2^53 in it is a bigint. */
@@ -105,8 +117,8 @@ export class Schemas {
   /** The verdict and the output in a format, by one check. */
   check(entry, instance, format = "basic") {
     if (!FORMATS.includes(format)) throw new RangeError(`no format ${format}: it is one of ${FORMATS.join(", ")}`);
-    const text = textOf(instance);
-    return this.#asked(entry, text, (handle) => this.#instance.check(handle, this.#number(entry), text, format));
+    return this.#asked(entry, this.#textOf(instance), (handle, text) =>
+      this.#instance.check(handle, this.#number(entry), text, format));
   }
 
   /** Frees what the schemas hold. Afterwards only `close` may be called. */
@@ -130,25 +142,29 @@ export class Schemas {
     let isUpgraded = false;
     try {
       instance.limit(handle, this.#limits);
-      for (const { uri, bytes } of this.#documents) instance.add(handle, uri, bytes);
-      if (this.#assumed !== undefined) {
-        instance.upgrade(handle, uriOf(this.#assumed));
+      for (const { uri, bytes } of this.#documents.given) instance.add(handle, uri, bytes);
+      if (this.#documents.assumed !== undefined) {
+        instance.upgrade(handle, uriOf(this.#documents.assumed));
         isUpgraded = true;
       }
       instance.finish(handle);
     } catch (error) {
       this.#release();
-      if (!(error instanceof Refused) || error.index === undefined) throw error;
-      const { uri, bytes } = this.#documents[error.index];
-      if (isUpgraded) explainUpgraded(error, bytes, this.#assumed);
-      throw explain(error.of(bytes, uri, this.#engine), bytes, uri);
+      if (!(error instanceof Refused)) throw error;
+      if (isUpgraded) this.#documents.explainUpgraded(error);
+      throw this.#documents.refusal(error, this.#engine);
     }
+  }
+
+  /** The documents, until they are closed. */
+  get #opened() {
+    if (this.#documents === undefined) throw new TypeError("these Schemas are closed");
+    return this.#documents;
   }
 
   /** The handle, in an instance that hasn't stopped. */
   #open() {
-    if (this.#documents === undefined) throw new TypeError("these Schemas are closed");
-    if (this.#instance.hasStopped) {
+    if (this.#opened && this.#instance.hasStopped) {
       forgotten.unregister(this);
       this.#begin();
     }
@@ -159,19 +175,36 @@ export class Schemas {
   #asked(entry, text, ask) {
     const handle = this.#open();
     try {
-      return ask(handle);
+      return ask(handle, text);
     } catch (error) {
       if (!(error instanceof Refused)) throw error;
-      const about = error.subject === "entry" ? error : error.of(text, undefined, this.#engine);
-      throw explain(about, text, entry, this.#limits);
+      return this.#askedAgain(error, entry, text, (given) => ask(handle, given));
     }
+  }
+
+  /** What it returns about one that was refused, with its numbers rewritten: then it may not be. */
+  #askedAgain(refused, entry, text, ask) {
+    const rewritten = this.#documents.instance(text);
+    let last = refused;
+    try {
+      if (rewritten !== text) return ask(rewritten);
+    } catch (error) {
+      if (!(error instanceof Refused)) throw error;
+      last = error;
+    }
+    const about = last.subject === "entry" ? last : last.of(text, undefined, this.#engine);
+    throw explain(about, text, entry, this.#limits);
+  }
+
+  #textOf(instance) {
+    return textOf(instance, this.#documents?.hasExactNumbers);
   }
 
   #number(entry) {
     let number = this.#entries.get(entry);
     if (number === undefined) {
       if (!isUriText(entry)) throw new Refused("entry", "BadUri");
-      number = this.#instance.entry(this.#handle, entry);
+      number = this.#instance.entry(this.#handle, this.#documents.entry(entry));
       this.#entries.set(entry, number);
     }
     return number;
@@ -181,39 +214,4 @@ export class Schemas {
 // (Node has it from 18.18 on; not yet every browser.)
 if (Symbol.dispose !== undefined) {
   Object.defineProperty(Schemas.prototype, Symbol.dispose, { value: Schemas.prototype.close });
-}
-
-/**
- * The errors in a `basic` output of an invalid instance. `text` says where its values stand, and `originals` where the
- * keywords do.
- */
-export function errorsOf(output, text, originals) {
-  const units = parse(output).errors;
-  text.expect(units.map((unit) => unit.instanceLocation));
-  return units.map((unit) =>
-    new ValidationError(unit, text, originals.location(unit.absoluteKeywordLocation)));
-}
-
-/** Each document with its URI and its bytes. What is refused here is refused before the module is asked. */
-export function pairsOf(documents) {
-  const pairs = typeof documents[Symbol.iterator] === "function" ? [...documents] : Object.entries(documents);
-  return pairs.map(([uri, document], index) => {
-    if (typeof uri !== "string") throw new TypeError("the URI of a document is a string");
-    const bytes = bytesOf(uri, document);
-    if (!isUriText(uri)) throw new Refused("document", "BadUri", "", index).of(bytes, uri);
-    if (bytes.length > LARGEST_TEXT) throw new Refused("input", "InputTooLarge", undefined, index).of(bytes, uri);
-    return { uri, bytes };
-  });
-}
-
-/** A document's bytes, which the caller can't change. */
-function bytesOf(uri, document) {
-  const text = typeof document === "string" || document instanceof Uint8Array ? textOf(document) : undefined;
-  if (text === undefined) throw new TypeError(`the document ${uri} is a JSON text: a string or a Uint8Array`);
-  return typeof text === "string" ? encoded(text) : text.slice();
-}
-
-/** Whether the module can be asked about a URI: it has no zero byte and no lone surrogate. */
-function isUriText(uri) {
-  return isWellFormed(uri) && !uri.includes("\0");
 }

@@ -9,10 +9,11 @@ const LEAST = -(2n ** 63n), GREATEST = 2n ** 64n - 1n;
 
 /**
  * The JSON text of an instance. A string or a Uint8Array is a text; every other value is written, never rounded.
+ * Where numbers are exact, `-0` is 0.
  *
  * Throws `Refused` for what has no verdict, and `TypeError` for a value that JSON doesn't have.
  */
-export function textOf(instance) {
+export function textOf(instance, isExact = false) {
   if (typeof instance === "string") {
     if (!isWellFormed(instance)) throw new Refused("instance", "NotJson", "").of(instance);
     return instance;
@@ -20,12 +21,15 @@ export function textOf(instance) {
   if (instance instanceof Uint8Array) return instance;
   if (ArrayBuffer.isView(instance)) return new Uint8Array(instance.buffer, instance.byteOffset, instance.byteLength);
   if (instance instanceof ArrayBuffer) return new Uint8Array(instance);
-  return written(instance);
+  return written(instance, { isExact });
 }
 
-/** The JSON text of a value: a string is a string here. */
-export function written(value) {
-  return new Writer().text(value);
+/**
+ * The JSON text of a value: a string is a string here. `isExact` says that `-0` is 0, and `hasFractions` that fractions
+ * are written too.
+ */
+export function written(value, { isExact = false, hasFractions = false } = {}) {
+  return new Writer(isExact, hasFractions).text(value);
 }
 
 /** Writes one value. */
@@ -33,6 +37,13 @@ class Writer {
   // The names and indices that lead to where it is, and the arrays and objects around it.
   #tokens = [];
   #holders = [];
+  #isExact;
+  #hasFractions;
+
+  constructor(isExact, hasFractions) {
+    this.#isExact = isExact;
+    this.#hasFractions = hasFractions;
+  }
 
   text(value) {
     switch (typeof value) {
@@ -56,6 +67,7 @@ class Writer {
     // (The text -0 is refused too: it isn't an integer's.)
     if (Number.isSafeInteger(value) && !Object.is(value, -0)) return String(value);
     if (!Number.isFinite(value)) throw this.#noJson(String(value));
+    if (this.#isExact && value === 0 || this.#hasFractions && !Number.isInteger(value)) return String(value);
     if (value === 0 || !Number.isInteger(value)) throw new Refused("instance", "NotWhole", this.#pointer);
     throw new TypeError(`${value} may have been rounded: use a bigint: look at ${this.#where}`);
   }

@@ -1,35 +1,31 @@
 /** Checks off the main thread, with a time limit. */
+import { Documents } from "./documents.js";
 import { sharedEngine, load } from "./engine.js";
 import { OutOfMemory, Refused, Stopped } from "./errors.js";
 import { limitsOf } from "./limits.js";
 import { explain } from "./meanings.js";
 import { parse } from "./outputs.js";
 import { Text } from "./positions.js";
-import { errorsOf, pairsOf } from "./schemas.js";
-import { Originals, upgradeOf } from "./upgrading.js";
 import { textOf } from "./values.js";
 
 const SECONDS = 10;
 
 /** Schemas in a worker. Each call waits for those before it; at its time limit the worker is ended and begun anew. */
 export class WorkerSchemas {
-  #pairs;
+  /** @type {Documents | undefined} */
+  #documents;
   // Compiles nothing anew, and finds positions here, where they are asked for.
   #engine;
   #limits;
-  #assumed;
-  #originals;
   #milliseconds;
   #worker;
   #last = Promise.resolve();
 
   /** Use `WorkerSchemas.create`. */
-  constructor(pairs, engine, limits, assumed, seconds) {
-    this.#pairs = pairs;
+  constructor(documents, engine, limits, seconds) {
+    this.#documents = documents;
     this.#engine = engine;
     this.#limits = limits;
-    this.#assumed = assumed;
-    this.#originals = new Originals(pairs, assumed);
     this.#milliseconds = seconds * 1000;
   }
 
@@ -37,25 +33,25 @@ export class WorkerSchemas {
   static async create(documents, { seconds = SECONDS, module, ...options } = {}) {
     const limits = limitsOf(options);
     const engine = await (module === undefined ? sharedEngine() : load(module));
-    const pairs = pairsOf(documents);
-    const made = new WorkerSchemas(pairs, engine, limits, upgradeOf(options, pairs), seconds);
+    const made = new WorkerSchemas(await Documents.create(documents, options), engine, limits, seconds);
     await made.#inTurn(() => made.#begin());
     return made;
   }
 
   /** The absolute location of every schema. */
-  places() {
-    return this.#ask({ call: "places" });
+  async places() {
+    const documents = this.#opened, found = await this.#ask({ call: "places" });
+    return found.map((it) => documents.writtenSchema(it)).filter((it) => it !== undefined);
   }
 
   async isValid(entry, instance) {
-    return (await this.#check(entry, textOf(instance), "flag")).valid;
+    return (await this.#check(entry, this.#textOf(instance), "flag")).valid;
   }
 
   async errors(entry, instance) {
-    const text = textOf(instance);
+    const text = this.#textOf(instance), documents = this.#opened;
     const { valid, output } = await this.#check(entry, text, "basic");
-    return valid ? [] : errorsOf(output, new Text(text, this.#engine), this.#originals);
+    return valid ? [] : documents.errors(output, new Text(text, this.#engine));
   }
 
   async output(entry, instance, format = "basic") {
@@ -63,31 +59,35 @@ export class WorkerSchemas {
   }
 
   async outputText(entry, instance, format = "basic") {
-    return (await this.#check(entry, textOf(instance), format)).output;
+    return (await this.#check(entry, this.#textOf(instance), format)).output;
   }
 
   async check(entry, instance, format = "basic") {
-    return this.#check(entry, textOf(instance), format);
+    return this.#check(entry, this.#textOf(instance), format);
   }
 
   async positions(instance) {
-    return new Text(textOf(instance), this.#engine);
+    return new Text(this.#textOf(instance), this.#engine);
   }
 
   async originalLocation(absoluteKeywordLocation) {
-    return this.#originals.location(absoluteKeywordLocation);
+    return this.#opened.location(absoluteKeywordLocation);
+  }
+
+  async writtenSchema(absoluteKeywordLocation) {
+    return this.#opened.writtenSchema(absoluteKeywordLocation);
   }
 
   /** Ends the worker. What is waiting is answered with `Stopped`. */
   close() {
-    this.#pairs = undefined;
+    this.#documents = undefined;
     this.#worker?.end();
     this.#worker = undefined;
   }
 
   async #check(entry, text, format) {
     try {
-      return await this.#ask({ call: "check", entry, text, format });
+      return await this.#judged(entry, text, format);
     } catch (error) {
       if (!(error instanceof Refused)) throw error;
       const about = error.subject === "entry" ? error : error.of(text, undefined, this.#engine);
@@ -95,10 +95,32 @@ export class WorkerSchemas {
     }
   }
 
+  /** The answer; of an instance that is refused, with its numbers rewritten. */
+  async #judged(entry, text, format) {
+    const documents = this.#opened;
+    const message = { call: "check", entry: documents.entry(entry), text, format };
+    try {
+      return await this.#ask(message);
+    } catch (error) {
+      const rewritten = error instanceof Refused ? documents.instance(text) : text;
+      if (rewritten === text) throw error;
+      return this.#ask({ ...message, text: rewritten });
+    }
+  }
+
+  #textOf(instance) {
+    return textOf(instance, this.#documents?.hasExactNumbers);
+  }
+
+  /** The documents, until they are closed. */
+  get #opened() {
+    if (this.#documents === undefined) throw new TypeError("these schemas are closed");
+    return this.#documents;
+  }
+
   #ask(message) {
     return this.#inTurn(async () => {
-      if (this.#pairs === undefined) throw new TypeError("these schemas are closed");
-      if (this.#worker === undefined) await this.#begin();
+      if (this.#opened && this.#worker === undefined) await this.#begin();
       return this.#limited(message);
     });
   }
@@ -114,14 +136,12 @@ export class WorkerSchemas {
   async #begin() {
     const worker = this.#worker = await Conversation.begin();
     try {
-      const [{ module }, pairs, limits, assumed] = [this.#engine, this.#pairs, this.#limits, this.#assumed];
-      await worker.ask({ call: "create", module, pairs, limits, assumed });
+      const { given, assumed } = this.#documents;
+      await worker.ask({ call: "create", module: this.#engine.module, given, limits: this.#limits, assumed });
     } catch (error) {
       worker.end();
       this.#worker = undefined;
-      if (!(error instanceof Refused) || error.index === undefined) throw error;
-      const { uri, bytes } = this.#pairs[error.index];
-      throw explain(error.of(bytes, uri, this.#engine), bytes, uri);
+      throw error instanceof Refused && this.#documents ? this.#documents.refusal(error, this.#engine) : error;
     }
   }
 

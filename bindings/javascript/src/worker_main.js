@@ -1,4 +1,5 @@
 /** What runs in a worker: schemas that are asked by messages. */
+import { Documents } from "./documents.js";
 import { Engine } from "./engine.js";
 import { Refused } from "./errors.js";
 import { Schemas } from "./schemas.js";
@@ -7,8 +8,8 @@ import { Schemas } from "./schemas.js";
 let schemas;
 
 const CALLS = {
-  create({ module, pairs, limits, assumed }) {
-    schemas = new Schemas(new Engine(module), pairs, limits, assumed);
+  create({ module, given, limits, assumed }) {
+    schemas = new Schemas(new Engine(module), new Documents(given, assumed), limits);
   },
   places() {
     return schemas.places();

@@ -5,10 +5,10 @@
 CASES are those that cases.py writes. Of the states of the page pictures go into the folder SCREENSHOTS. It needs
 Chromium, its driver and Python's selenium. Where Firefox is installed, it takes part with most rows, and in short.
 """
+import contextlib
 import json
 import os
 import shutil
-import subprocess
 import sys
 import tempfile
 import time
@@ -16,8 +16,8 @@ import unittest
 from pathlib import Path
 
 sys.dont_write_bytecode = True
-from browsers import (CONTRAST, CUT, GIVEN, HOME, KEY_PRESS, MANY, MANY_SCHEMA, PAGE, PASTE, SECONDS,  # noqa: E402
-                      WIDER, address, chromium, ended, milliseconds_to, served, wait_for_verdict)
+from browsers import (BUILT, CONTRAST, CUT, GIVEN, KEY_PRESS, MANY, MANY_SCHEMA, PAGE, PASTE, SECONDS,  # noqa: E402
+                      WIDER, address, built, chromium, ended, milliseconds_to, served, wait_for_verdict)
 from other_browser_tests import InFirefox, Rows  # noqa: E402, F401
 
 from selenium.webdriver.common.by import By  # noqa: E402
@@ -39,6 +39,8 @@ class Page(unittest.TestCase):
         ended(cls.server)
 
     def setUp(self):
+        # (What other tests made the browser report is taken.)
+        self.faults()
         self.open(address(self.server))
 
     # ---- words for what is done
@@ -47,6 +49,8 @@ class Page(unittest.TestCase):
         self.driver.get("about:blank")
         self.driver.get(url)
         wait_for_verdict(self.driver)
+        # (What is underlined is drawn with the next frame.)
+        self.driver.execute_async_script("const [end] = arguments; requestAnimationFrame(() => setTimeout(end));")
 
     def until(self, is_so, what=None):
         WebDriverWait(self.driver, SECONDS, 0.05).until(lambda _: is_so(), what or "")
@@ -110,6 +114,16 @@ class Page(unittest.TestCase):
             self.assertEqual(self.texts("#instance-editor .underlined"), ["-1"])
             self.assertIn("https://example.com/person",
                           [it.get_attribute("value") for it in self.all("#entries option")])
+        finally:
+            ended(server)
+
+    def test_without_the_module(self):
+        server = served(Path("/nowhere"))
+        try:
+            self.open(address(server))
+            self.until(lambda: self.find("#schema-text").is_displayed())
+            self.assertIn("The validator can't be loaded", self.verdict())
+            self.assertEqual(self.texts("#instance-editor .line")[0], '{"name": "Ada", "age": -1}')
         finally:
             ended(server)
 
@@ -392,25 +406,49 @@ class Page(unittest.TestCase):
         self.assertLess(took, 2000)
         print(f"a key press in {len(MANY):,} characters: {took:.0f} ms until the verdict is shown")
 
-    def test_one_file(self):
+    # ---- what is published
+
+    @contextlib.contextmanager
+    def built(self):
+        """A folder with what tools/build-playground makes, and its files by the paths under which they are served."""
         if shutil.which("esbuild") is None:
-            self.skipTest("the playground in one file: esbuild isn't installed")
+            self.skipTest("the playground as it is published: esbuild isn't installed")
         with tempfile.TemporaryDirectory() as folder:
-            file = Path(folder, "playground.html")
-            build = HOME / "tools" / "build-playground"
-            subprocess.run([build, "--module", GIVEN["module"], "--out", file], check=True, stdout=subprocess.DEVNULL)
-            self.open(file.as_uri())
-            self.expect_verdict("✗ Invalid: 1 error")
-            self.write("#instance-text", '{"name": "Ada"}')
-            self.expect_verdict("✓ Valid")
-            said = self.driver.execute_async_script(
-                f"const end = arguments[0]; fetch('{self.server.url}/').then(() => end('sent'), () => end('refused'))")
-            self.assertEqual(said, "refused")
-            self.find("#share").click()
-            self.until(lambda: "link" in self.find("#notice").text)
-            link = self.driver.current_url
-            self.open(link)
-            self.assertEqual(self.find("#instance-text").get_property("value"), '{"name": "Ada"}')
+            yield Path(folder), built(GIVEN["module"], folder)
+
+    def judge_use(self):
+        """The page checks what is typed, sends nothing, and comes back from its link."""
+        self.expect_verdict("✗ Invalid: 1 error")
+        self.assertEqual(self.texts("#instance-editor .underlined"), ["-1"])
+        milliseconds_to(self.driver, "complete")
+        self.write("#instance-text", '{"name": "Ada"}')
+        self.expect_verdict("✓ Valid")
+        self.open_panel("tree")
+        self.until(lambda: self.all("[role=treeitem]"))
+        self.assertEqual(self.faults(), [])
+        said = self.driver.execute_async_script(
+            f"const end = arguments[0]; fetch('{self.server.url}/').then(() => end('sent'), () => end('refused'))")
+        self.assertEqual(said, "refused")
+        self.find("#share").click()
+        self.until(lambda: "link" in self.find("#notice").text)
+        self.open(self.driver.current_url)
+        self.assertEqual(self.find("#instance-text").get_property("value"), '{"name": "Ada"}')
+
+    def test_one_file(self):
+        with self.built() as (folder, _):
+            self.open((folder / "playground.html").as_uri())
+            self.judge_use()
+
+    def test_page_of_a_site(self):
+        with self.built() as (_, files):
+            server = served(GIVEN["module"], files)
+            try:
+                self.open(address(server, BUILT))
+                self.judge_use()
+                self.picture("published")
+                self.assertEqual({*server.asked}, {BUILT, f"{BUILT}jschema.wasm"})
+            finally:
+                ended(server)
 
 
 def main():

@@ -9,7 +9,7 @@ from pathlib import Path
 HERE = Path(__file__).resolve().parent
 HOME = HERE.parents[2]
 sys.path[:0] = [str(HOME), str(HOME / "tools")]
-from serving import PAGE, Handler, Server  # noqa: E402
+from serving import BUILT, MODULE, PAGE, Handler, Server, built_files  # noqa: E402, F401
 
 SECONDS = 60
 
@@ -31,17 +31,19 @@ area.value = arguments[1];
 area.dispatchEvent(new Event("input"));
 """
 
-# Milliseconds from a change of the instance until the frame that shows its verdict.
+# Milliseconds from a key press in the instance until the frame that shows its verdict. (A key press inserts into the
+# text as `execCommand` does. Were the text replaced, a browser would lay out all of it anew.)
 KEY_PRESS = """
 const end = arguments[0];
 const area = document.querySelector("#instance-text"), time = document.querySelector("#time");
+area.focus();
+area.setSelectionRange(1, 1);
 const begin = performance.now();
 new MutationObserver((_, observer) => {
   observer.disconnect();
   requestAnimationFrame(() => setTimeout(() => end(performance.now() - begin)));
 }).observe(time, { childList: true });
-area.setRangeText(" ", 1, 1);
-area.dispatchEvent(new Event("input"));
+document.execCommand("insertText", false, " ");
 """
 
 # Milliseconds from the beginning of the page until a mark that it sets. (To ask again and again would take the page's
@@ -137,6 +139,13 @@ def served(module, others=()):
     return server
 
 
+def built(module, folder):
+    """Builds the page in a folder: its files by the paths under which they are served."""
+    build = HOME / "tools" / "build-playground"
+    subprocess.run([build, "--module", module, "--out", folder], check=True, stdout=subprocess.DEVNULL)
+    return built_files(folder)
+
+
 def ended(server):
     server.shutdown()
     server.server_close()
@@ -168,6 +177,6 @@ def milliseconds_to(driver, mark):
     return driver.execute_async_script(MARKED, mark)
 
 
-def address(server):
-    """Where the playground is."""
-    return server.url + PAGE
+def address(server, page=PAGE):
+    """Where the playground is: its sources, or what was built of them."""
+    return server.url + page

@@ -1,5 +1,6 @@
 """The command on JSON files: the expectations of the Python package's command, on the command of this package."""
 import re
+import subprocess
 import unittest
 from pathlib import Path
 from unittest import mock
@@ -8,21 +9,11 @@ from this_command import NODE, PYTHON, SCRIPT, OnThisCommand, evaluated
 
 import test_command as expectations  # isort: skip
 import test_lookup as lookup  # isort: skip
+import test_originals as originals  # isort: skip
 import test_reports as reports  # isort: skip
 import test_upgrade as upgrade  # isort: skip
 
 PACKAGE = Path(__file__).resolve().parents[1] / "package.json"
-# What the Python package's command has, and this one hasn't.
-ELSEWHERE = (
-    ([], "name the command: validate\n"),
-    (["check"], "no command 'check': the only one is validate\n"),
-    (["lint", "schema.json"], "lint is a command of the Python package: this one is validate\n"),
-    ([*expectations.SOME, "--formats", "two.json"], "--formats is an option of the Python package's command\n"),
-    ([*expectations.SOME, "--patterns", "ecma", "two.json"], "--patterns ecma is of the Python package's command: "),
-    ([*expectations.SOME, "--patterns", "pcre", "two.json"], "argument --patterns: invalid choice: 'pcre' "),
-    ([*expectations.SOME, "--numbers", "exact", "two.json"], "--numbers exact is of the Python package's command: "),
-    ([*expectations.SOME, "--numbers=texts", "two.json"], "--numbers texts is of the Python package's command: "),
-)
 
 
 class Files(OnThisCommand, expectations.Files):
@@ -59,7 +50,7 @@ class Formats(OnThisCommand, expectations.Formats):
 
 
 class Misuse(OnThisCommand, expectations.Misuse):
-    OWN = ELSEWHERE
+    OWN = ()
 
 
 class Terminal(OnThisCommand, expectations.Terminal):
@@ -76,10 +67,14 @@ class Html(OnThisCommand, reports.Html):
         source = (PYTHON / "jschema" / "command" / "reports" / "html.py").read_text("utf-8")
         head = re.search(r'_HEAD = """(.*?)"""', source, re.S)[1]
         self.assertTrue(self.page("schema.json", "two.json")[0].startswith(head.format(title="Validation")))
+        out, _, _ = self.run_command("lint", "--format", "html", "schema.json", "bad.json")
+        self.assertTrue(out.startswith(head.format(title="Lint")))
+        for word in ("clean", "refused"):
+            self.assertIn(f'<span class="{word}">{word}</span>', out)
 
 
 class Sarif(OnThisCommand, reports.Sarif):
-    LINTS = ()
+    pass
 
 
 class Junit(OnThisCommand, reports.Junit):
@@ -116,26 +111,26 @@ class References(OnThisCommand, lookup.Commands):
     pass
 
 
-class Upgraded(OnThisCommand, upgrade.Command):
+class OfOlderDrafts(OnThisCommand):
     def setUp(self):
         # (It isn't the library that upgrades here.)
-        with mock.patch.object(upgrade, "find_library", return_value="the module"):
-            super().setUp()
+        for module in (upgrade, originals):
+            patch = mock.patch.object(module, "find_library", return_value="the module")
+            patch.start()
+            self.addCleanup(patch.stop)
+        super().setUp()
+
+
+class Upgraded(OfOlderDrafts, upgrade.Command):
+    pass
+
+
+class Originals(OfOlderDrafts, originals.Command):
+    pass
 
 
 class Elsewhere(OnThisCommand, expectations.Case):
-    """What the Python package's command reads: YAML and TOML, patterns of ECMA-262, numbers with fractions."""
-
-    def test_patterns_and_numbers(self):
-        """They are the validator's own, as those of that command with these options."""
-        self.write("ecma.json", '{"pattern": "^(?!a)"}')
-        self.write("fraction.json", '{"minimum": 0.5}')
-        refused = "not a regular expression of the Rust crate regex (/pattern; BadPattern)"
-        self.judge(["two.json"], "", f"ecma.json:1:13: refused: {refused}\n", 3, schema="ecma.json")
-        for words in ([], ["--patterns", "regex", "--numbers=whole"]):
-            out, said, status = self.run_command("validate", *words, "fraction.json", "two.json")
-            self.assertEqual((out, status), ("", 3))
-            self.assertIn("refused[NotWhole]", said)
+    """What the Python package's command reads, and this one doesn't: YAML and TOML."""
 
     def test_other_kinds(self):
         said = "isn't read here: the command of the Python package reads it (--input json takes the JSON files of a " \
@@ -147,12 +142,25 @@ class Elsewhere(OnThisCommand, expectations.Case):
                    "1 valid, 0 invalid, 2 failed\n", 4)
         self.judge(["--input", "json", "kinds"], "", "1 valid, 0 invalid\n", 0)
         self.judge(["two.json"], "", f"jschema: YAML {said}", 4, schema="kinds/b.yaml")
+        out, found, status = self.run_command("lint", "--format", "short", "kinds")
+        self.assertEqual((found.count("isn't read here"), status), (2, 4))
+        self.assertIn("kinds/a.json:1:2: note: no dialect knows the keyword `name`", out)
 
     def test_version(self):
         version = re.search('"version": "(.*)"', PACKAGE.read_text("utf-8"))[1]
         self.assertEqual(self.run_command("--version"),
                          (f"jschema {version}\nengine: the WebAssembly module, version {version}\n", "", 0))
-        self.assertEqual(self.run_command("validate", "--version"), self.run_command("--version"))
+        for command in ("validate", "lint"):
+            self.assertEqual(self.run_command(command, "--version"), self.run_command("--version"))
+
+    def test_commands_alone(self):
+        """Each command has a name of its own."""
+        for command, words in (("validate", "person.schema.json ada.json"), ("lint", "person.schema.json")):
+            done = subprocess.run([NODE, str(PACKAGE.parent / "bin" / f"{command}.js"), "--bad"], check=False,
+                                  stdout=subprocess.PIPE, stderr=subprocess.PIPE, encoding="utf-8")
+            self.assertEqual((done.stdout, done.returncode), ("", 2))
+            self.assertTrue(done.stderr.endswith(f"\nfor example: jschema-{command} {words}\n"), done.stderr)
+            self.assertIn(f"\nusage: jschema-{command} ", done.stderr)
 
 
 if __name__ == "__main__":

@@ -55,10 +55,11 @@ class Modelled {
     return new Uint8Array(this.calls.memory.buffer);
   }
 
-  /** What a call answered: where, or undefined where it was refused. (A pair comes through memory.) */
+  /** What a call answered: where, or undefined where it was refused. (A pair comes through memory; numbers of the
+   * library have 64 bits, addresses 32.) */
   told(call, ...words) {
     this.wasRefused = false;
-    call(BigInt(this.answer), ...words.map(BigInt));
+    call(this.answer, ...words);
     const view = new DataView(this.calls.memory.buffer);
     const ok = view.getBigUint64(this.answer, true), at = Number(view.getBigUint64(this.answer + 8, true));
     assert.ok(ok === 1n || ok === 0n);
@@ -93,14 +94,14 @@ class Modelled {
   }
 
   allocate(size) {
-    const at = this.told(this.calls.rattle_alloc, size, 8);
+    const at = this.told(this.calls.rattle_alloc, BigInt(size), 8n);
     if (at !== undefined) this.blocks.push(this.take(at, size));
   }
 
   resize(index, size) {
     const block = this.blocks[index];
     this.check(block);
-    const at = this.told(this.calls.rattle_realloc, block.at, block.size, size, 8);
+    const at = this.told(this.calls.rattle_realloc, block.at, BigInt(block.size), BigInt(size), 8n);
     if (at === undefined) {
       this.check(block);
       return;
@@ -116,7 +117,7 @@ class Modelled {
     if (last !== block) this.blocks[index] = last;
     this.check(block);
     this.drop(block);
-    this.calls.rattle_dealloc(BigInt(block.at));
+    this.calls.rattle_dealloc(block.at);
   }
 }
 

@@ -20,8 +20,7 @@ class Folders(Bounded, inputs.Folders):
 
 
 class Paths(Bounded, inputs.Paths):
-    # There is no lint.
-    test_lint_of_a_name_with_a_hyphen = None
+    pass
 
 
 class Bounds(Bounded, inputs.Bounds):

@@ -43,7 +43,7 @@ class InFirefox(unittest.TestCase):
     def judge(self, firefox, server):
         firefox.go(address(server))
         firefox.until(lambda: texts_of(firefox, "#verdict") == ["✗ Invalid: 1 error"])
-        self.assertEqual(texts_of(firefox, "#instance-editor .underlined"), ["-1"])
+        firefox.until(lambda: texts_of(firefox, "#instance-editor .underlined") == ["-1"])
         firefox.run("document.querySelector('#panel-condensing').click()")
         firefox.until(lambda: "0 steps taken" in "".join(texts_of(firefox, ".said")))
         firefox.run(CLICK, "#panel button", "End")

@@ -8,6 +8,7 @@ import { Checker } from "../../../docs/playground/checker.js";
 import { Checks, MOST_NODES, quickAnswer } from "../../../docs/playground/checking.js";
 import { DROP, MERGE, REPLACE, after, normalForm, possibleSteps } from "../../../docs/playground/condensing.js";
 import { movedMarks } from "../../../docs/playground/editor.js";
+import { withCommas } from "../../../docs/playground/elements.js";
 import { EXAMPLES, stateOfExample } from "../../../docs/playground/examples.js";
 import { indented } from "../../../docs/playground/indenting.js";
 import { SchemaTexts, Values } from "../../../docs/playground/places.js";
@@ -327,6 +328,12 @@ test("an output is indented without a change of its tokens", () => {
   const text = '{"a":[],"b":{"c":[1,{"d":"[,]\\""}]},"e":{}}\n';
   assert.equal(indented(text), JSON.stringify(JSON.parse(text), null, 2));
   assert.equal(indented('{"a":[1'), '{\n  "a": [\n    1');
+});
+
+test("a count has a comma before each three digits", () => {
+  for (const count of [0, 7, 999, 1000, 20_000, 112_982, 1_000_000, 1_234_567_890]) {
+    assert.equal(withCommas(count), count.toLocaleString("en"));
+  }
 });
 
 test("places of what isn't there, and of documents that aren't JSON", () => {

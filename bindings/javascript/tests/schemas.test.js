@@ -5,6 +5,7 @@ import { test } from "node:test";
 import { setFlagsFromString } from "node:v8";
 import { runInNewContext } from "node:vm";
 import { OutOfMemory, Refused, Schemas, Stopped } from "jschema";
+import { Documents } from "../src/documents.js";
 import { Engine } from "../src/engine.js";
 import { modulePath, withMaximum } from "./module.js";
 
@@ -133,7 +134,7 @@ test("schemas survive an instance of the module that has stopped", async () => {
     }
   }
   const engine = new Engine(await WebAssembly.compile(readFileSync(modulePath())));
-  const of = (uri, text) => new Schemas(engine, [{ uri, bytes: new TextEncoder().encode(text) }]);
+  const of = (uri, text) => new Schemas(engine, new Documents([{ uri, bytes: new TextEncoder().encode(text) }]));
   const first = withInstances(Trapping, () => engine.instance);
   const schemas = of(URI, SCHEMA), others = of("urn:other", '{"type": "null"}');
   assert.throws(() => schemas.isValid(URI, "1"), (it) => it instanceof Stopped && /jschema_check/.test(it.message));
@@ -170,7 +171,7 @@ test("memory stays the same over many checks and many schemas", async () => {
   const pairs = [{ uri: URI, bytes: new TextEncoder().encode(SCHEMA) }];
   const round = (count) => {
     for (let number = 0; number < count; number++) {
-      const schemas = new Schemas(engine, pairs);
+      const schemas = new Schemas(engine, new Documents(pairs));
       for (let check = 0; check < 20; check++) schemas.outputText(URI, `{"age": ${check - 10}}`, "detailed");
       assert.throws(() => schemas.isValid(URI, "[0.5]"), Refused);
       schemas.close();
@@ -194,7 +195,7 @@ test("schemas that were forgotten are freed", async () => {
     freed += 1;
     free(handle);
   };
-  for (let number = 0; number < 20; number++) new Schemas(engine, pairs);
+  for (let number = 0; number < 20; number++) new Schemas(engine, new Documents(pairs));
   for (let round = 0; round < 50 && freed < 20; round++) {
     collect();
     await new Promise((resolve) => setTimeout(resolve, 10));

@@ -14,22 +14,18 @@ SERVE = HOME / "tools" / "serve"
 BUILD = HOME / "tools" / "build-playground"
 
 
-class Serving(unittest.TestCase):
-    @classmethod
-    def setUpClass(cls):
-        cls.folder = tempfile.TemporaryDirectory()
-        cls.module = Path(cls.folder.name, "module.wasm")
-        cls.module.write_bytes(b"\0asm\1\0\0\0")
-        cls.job = subprocess.Popen([SERVE, "--port", "0", "--module", cls.module], stdout=subprocess.PIPE,
-                                   stderr=subprocess.DEVNULL, text=True)
-        cls.address = re.fullmatch(r"http://(127\.0\.0\.1:\d+)/docs/playground/\n", cls.job.stdout.readline())[1]
+class Serve:
+    """A server that was started."""
 
-    @classmethod
-    def tearDownClass(cls):
-        cls.job.terminate()
-        cls.job.wait()
-        cls.job.stdout.close()
-        cls.folder.cleanup()
+    def __init__(self, page, *words):
+        self.job = subprocess.Popen([SERVE, "--port", "0", *words], stdout=subprocess.PIPE, stderr=subprocess.DEVNULL,
+                                    text=True)
+        self.address = re.fullmatch(rf"http://(127\.0\.0\.1:\d+){page}\n", self.job.stdout.readline())[1]
+
+    def end(self):
+        self.job.terminate()
+        self.job.wait()
+        self.job.stdout.close()
 
     def ask(self, path, method="GET"):
         """The status, the headers and the body."""
@@ -40,6 +36,21 @@ class Serving(unittest.TestCase):
             return response.status, dict(response.getheaders()), response.read()
         finally:
             connection.close()
+
+
+class Serving(unittest.TestCase):
+    @classmethod
+    def setUpClass(cls):
+        cls.folder = tempfile.TemporaryDirectory()
+        cls.module = Path(cls.folder.name, "module.wasm")
+        cls.module.write_bytes(b"\0asm\1\0\0\0")
+        cls.server = Serve("/docs/playground/", "--module", cls.module)
+        cls.address, cls.ask = cls.server.address, cls.server.ask
+
+    @classmethod
+    def tearDownClass(cls):
+        cls.server.end()
+        cls.folder.cleanup()
 
     def test_types(self):
         for path, begin, kind in (
@@ -53,6 +64,7 @@ class Serving(unittest.TestCase):
             self.assertEqual((status, headers["Content-Type"], body[:len(begin)]), (200, kind, begin), path)
             self.assertEqual(headers["X-Content-Type-Options"], "nosniff")
             self.assertEqual(headers["Content-Security-Policy"], "frame-ancestors 'none'")
+            self.assertEqual(headers["Cache-Control"], "no-store")
             self.assertEqual(self.ask(path, "HEAD")[2], b"")
 
     def test_a_response_is_sent_whole(self):
@@ -68,7 +80,8 @@ class Serving(unittest.TestCase):
     def test_nothing_else(self):
         for path in ("/README.md", "/docs/USING.md", "/docs/playground/../USING.md", "/docs/playground/%2e%2e/USING.md",
                      "/docs/playground//etc/passwd", "/bindings/javascript/package.json", "/docs/playground/none.js",
-                     "/bindings/javascript/src/../test", "/bindings/javascript/src", "//etc/passwd"):
+                     "/bindings/javascript/src/../test", "/bindings/javascript/src", "/bindings/javascript/src/",
+                     "/playground/", "//etc/passwd"):
             self.assertEqual(self.ask(path)[0], 404, path)
         self.assertEqual(self.ask("/", "POST")[0], 501)
 
@@ -77,15 +90,35 @@ class Serving(unittest.TestCase):
             status, headers, _ = self.ask(path)
             self.assertEqual((status, headers["Location"]), (302, "/docs/playground/"))
 
+    def test_what_is_published(self):
+        with tempfile.TemporaryDirectory() as folder:
+            files = {"index.html": b"<!doctype html>", "jschema.wasm": b"\0asm"}
+            for name, content in files.items():
+                Path(folder, name).write_bytes(content)
+            server = Serve("/playground/", "--built", folder)
+            try:
+                for path, name in (("/playground/", "index.html"), ("/playground/jschema.wasm", "jschema.wasm")):
+                    status, _, body = server.ask(path)
+                    self.assertEqual((status, body), (200, files[name]))
+                for path in ("/", "/playground"):
+                    self.assertEqual(server.ask(path)[1]["Location"], "/playground/")
+                self.assertEqual(server.ask("/playground/none")[0], 404)
+            finally:
+                server.end()
+
     def test_faults(self):
         for words, status, says in ((["--port", "x"], 2, "invalid int"), (["--module", "/none"], 4, "no module"),
+                                    (["--built", "/none"], 4, "no page"),
+                                    (["--built", "/none", "--module", "/none"], 2, "not allowed with"),
                                     (["--module", self.module, "--port", self.address.split(":")[1]], 4, "in use")):
             ended = subprocess.run([SERVE, *words], capture_output=True, text=True, timeout=60)
             self.assertEqual(ended.returncode, status, ended)
             self.assertIn(says, ended.stderr)
 
 
-class OneFile(unittest.TestCase):
+class Built(unittest.TestCase):
+    """What is published."""
+
     def made(self, *words):
         return subprocess.run([BUILD, *words], capture_output=True, text=True, timeout=120)
 
@@ -93,18 +126,29 @@ class OneFile(unittest.TestCase):
         self.assertEqual(self.made("--bad").returncode, 2)
         self.assertEqual(self.made("--module", "/none").returncode, 4)
 
-    @unittest.skipIf(shutil.which("esbuild") is None, "the playground in one file: esbuild isn't installed")
+    @unittest.skipIf(shutil.which("esbuild") is None, "the playground as it is published: esbuild isn't installed")
     def test_twice_the_same(self):
         with tempfile.TemporaryDirectory() as folder:
-            files = [Path(folder, name) for name in ("one.html", "two.html")]
-            for file in files:
-                ended = self.made("--module", sys.executable, "--out", file)
+            one, two = [Path(folder, name) for name in ("one", "two")]
+            for made in (one, two):
+                ended = self.made("--module", sys.executable, "--out", made)
                 self.assertEqual(ended.returncode, 0, ended)
-            page = files[0].read_text(encoding="utf-8")
-            self.assertEqual(page, files[1].read_text(encoding="utf-8"))
-            self.assertIn("default-src 'none'; script-src 'sha256-", page)
-            self.assertNotIn("connect-src", re.search(r"default-src[^\"]*", page)[0])
-            self.assertFalse(re.search(r"""(?:src|href)="(?!data:)""", page.split("<script")[0]))
+            names = ["index.html", "jschema.wasm", "playground.html"]
+            self.assertEqual(sorted(it.name for it in one.iterdir()), names)
+            for name in names:
+                self.assertEqual((one / name).read_bytes(), (two / name).read_bytes(), name)
+            self.assertEqual((one / "jschema.wasm").read_bytes(), Path(sys.executable).read_bytes())
+            self.judge((one / "index.html").read_text("utf-8"), "; connect-src 'self'", ["jschema.wasm"])
+            self.judge((one / "playground.html").read_text("utf-8"), "", [])
+
+    def judge(self, page, connections, asked):
+        """The policy allows these connections and nothing else that is loaded, and the page asks for these files."""
+        policy = re.search(r"default-src[^\"]*", page)[0]
+        hashed = r"'sha256-[\w+/]{43}='"
+        expected = (f"default-src 'none'; script-src {hashed} 'wasm-unsafe-eval'; style-src {hashed}{connections}; "
+                    "worker-src blob:; img-src data:; base-uri 'none'; form-action 'none'")
+        self.assertRegex(policy, f"^{expected}$")
+        self.assertEqual(re.findall(r'(?:src|href)="(?!data:)([^"]*)"', page.split("<script")[0]), asked)
 
 
 if __name__ == "__main__":

@@ -53,9 +53,57 @@ failed:                                           ; preds = %start
   ret i32 4
 }
 
+; A pointer goes into eight bytes, eight behind the handle, and a number behind it. Both are read in each way: 0 where
+; they are what was put there, and the pointer's place is a number too.
 define noundef i32 @jschema_upgrade(ptr noundef %handle, ptr noundef %dialect, i64 noundef %dialect_length) #0 {
 start:
-  ret i32 2
+  %own = alloca ptr, align 8
+  store ptr %dialect, ptr %own, align 8
+  %kept = load ptr, ptr %own, align 8, !noundef !0
+  %at = getelementptr i8, ptr %handle, i64 8
+  store ptr %kept, ptr %at, align 8
+  %behind = getelementptr i8, ptr %handle, i64 16
+  store i64 %dialect_length, ptr %behind, align 8
+  %alone = load ptr, ptr %at, align 8
+  %marked = load { i8, ptr }, ptr %handle, align 8
+  %counted = load { ptr, i64 }, ptr %at, align 8
+  %number = load i64, ptr %at, align 8
+  %mark = extractvalue { i8, ptr } %marked, 0
+  %second = extractvalue { i8, ptr } %marked, 1
+  %first = extractvalue { ptr, i64 } %counted, 0
+  %count = extractvalue { ptr, i64 } %counted, 1
+  %address = ptrtoaddr ptr %dialect to i64
+  %right.1 = icmp eq ptr %alone, %dialect
+  %right.2 = icmp eq ptr %first, %second
+  %right.3 = icmp eq ptr %first, %dialect
+  %right.4 = icmp eq i64 %count, %dialect_length
+  %right.5 = icmp eq i64 %number, %address
+  %right.6 = icmp eq i8 %mark, -1
+  %both.1 = and i1 %right.1, %right.2
+  %both.2 = and i1 %right.3, %right.4
+  %both.3 = and i1 %right.5, %right.6
+  %both.4 = and i1 %both.1, %both.2
+  %all = and i1 %both.3, %both.4
+  %status = select i1 %all, i32 0, i32 2
+  ret i32 %status
+}
+
+; In a function for speed: bytes are set, then this many are moved by three, and then to where they overlap nothing.
+define noundef i32 @jschema_document(ptr noundef %handle, i64 noundef %number) #0 {
+start:
+  call void @"json::move"(ptr %handle, i64 %number)
+  ret i32 0
+}
+
+define internal void @"json::move"(ptr noundef %bytes, i64 noundef %number) #1 {
+start:
+  %behind = getelementptr i8, ptr %bytes, i64 512
+  call void @llvm.memset.p0.i64(ptr %behind, i8 7, i64 100, i1 false)
+  %by_three = getelementptr i8, ptr %bytes, i64 3
+  call void @llvm.memmove.p0.p0.i64(ptr %by_three, ptr %bytes, i64 %number, i1 false)
+  %apart = getelementptr i8, ptr %bytes, i64 256
+  call void @llvm.memmove.p0.p0.i64(ptr %apart, ptr %by_three, i64 %number, i1 false)
+  ret void
 }
 
 ; Never ends, and takes stack for it.
@@ -171,6 +219,8 @@ declare { i64, i64 } @rattle_realloc(ptr noundef, i64 noundef, i64 noundef, i64 
 
 declare void @rattle_dealloc(ptr noundef) #2
 
+declare void @llvm.memmove.p0.p0.i64(ptr writeonly captures(none), ptr readonly captures(none), i64, i1 immarg) #3
+
 declare void @llvm.memset.p0.i64(ptr writeonly captures(none), i8, i64, i1 immarg) #3
 
 declare void @llvm.trap() #4
@@ -180,6 +230,8 @@ declare <16 x i8> @llvm.x86.ssse3.pshuf.b.128(<16 x i8>, <16 x i8>) #5
 attributes #0 = { nounwind "probe-stack"="inline-asm" "stack-probe-size"="3072" "target-cpu"="x86-64-v2" }
 attributes #1 = { noinline nounwind "target-cpu"="x86-64-v2" }
 attributes #2 = { nobuiltin nounwind }
-attributes #3 = { nocallback nofree nounwind willreturn memory(argmem: write) }
+attributes #3 = { nocallback nofree nounwind willreturn memory(argmem: readwrite) }
 attributes #4 = { cold noreturn nounwind memory(inaccessiblemem: write) }
 attributes #5 = { nocallback nofree nosync nounwind willreturn memory(none) }
+
+!0 = !{}

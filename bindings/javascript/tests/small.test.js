@@ -69,6 +69,32 @@ test("bytes that are repeated and exchanged", how, () => {
   assert.deepEqual([...bytes], [...Array(16).fill(100), 103]);
 });
 
+test("a pointer in memory", how, () => {
+  const calls = new WebAssembly.Instance(module, {}).exports;
+  const at = calls.allocate(32);
+  const bytes = new Uint8Array(calls.memory.buffer, at, 32).fill(255);
+  for (const [pointer, length] of [[at, 3], [calls.allocate(1), 4_000_000_000], [0, 0], [0xfffeffff, 1]]) {
+    assert.equal(calls.jschema_upgrade(at, pointer, length), 0);
+    const numbers = new BigUint64Array(bytes.buffer, at, 4);
+    assert.deepEqual([...numbers], [2n ** 64n - 1n, BigInt(pointer), BigInt(length), 2n ** 64n - 1n]);
+  }
+});
+
+test("bytes that are moved, by a number that isn't known before", how, () => {
+  const calls = new WebAssembly.Instance(module, {}).exports;
+  const at = calls.allocate(640);
+  const bytes = new Uint8Array(calls.memory.buffer, at, 640);
+  for (let number = 0; number <= 200; number++) {
+    const expected = Uint8Array.from({ length: 640 }, (_, index) => index * 7 & 255);
+    bytes.set(expected);
+    assert.equal(calls.jschema_document(at, number), 0);
+    expected.fill(7, 512, 612);
+    expected.copyWithin(3, 0, number);
+    expected.copyWithin(256, 3, 3 + number);
+    assert.deepEqual(bytes, expected, `${number} bytes`);
+  }
+});
+
 test("memory is asked of the heap", how, () => {
   const calls = new WebAssembly.Instance(module, {}).exports;
   for (const [first, second] of [[0, 1], [100, 100000], [70000, 10], [1 << 20, 1 << 24]]) {

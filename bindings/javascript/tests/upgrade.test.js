@@ -1,9 +1,10 @@
 /** Schemas of older drafts: the verdicts of their drafts, options and refusals. */
 import assert from "node:assert/strict";
 import { test } from "node:test";
-import { Refused, Schemas, compile } from "jschema";
+import { Refused, Schemas, compile, upgrade } from "jschema";
 import { WorkerSchemas } from "jschema/worker";
 import { DRAFTS } from "../src/dialects.js";
+import { steps } from "../src/locations.js";
 import { originalOf } from "../src/originals.js";
 import { explainUpgraded } from "../src/upgrading.js";
 
@@ -162,6 +163,11 @@ const ORIGINALS = [
     "/items/allOf/0/$dynamicRef": "/items/allOf/0/$recursiveRef", "/items/anyOf/0/not": "/items/contains",
     "/items/anyOf/0/not/not/contains/allOf/0": "/items/contains/allOf/0",
   }],
+  // What stands apart is copied: under its name in `$defs`, or its JSON Pointer (crates/js_upgrade/specs/CopyName).
+  ["draft-06", { $defs: { a: { items: [{}] }, b: {} }, definitions: { b: {} }, x: { y: { items: [{}] } } }, {
+    "/$defs/a/prefixItems/0": "/$defs/a/items/0", "/$defs/b": "/definitions/b", "/$defs/c": undefined,
+    "/$defs/~1x~1y/prefixItems/0": "/x/y/items/0", "/$defs/~1$defs~1b": "/$defs/b", "/$defs/~1x~1z": undefined,
+  }],
   // Below the root `$schema` counts beside an identifier of its dialect (2019-09 Core 8.1.1).
   ["2020-12", {
     items: { $id: "https://example.com/a", items: [{}], $schema: SEVEN }, not: { items: [{}], $schema: SEVEN },
@@ -171,7 +177,7 @@ const ORIGINALS = [
 test("what a keyword of an upgraded schema comes from", () => {
   for (const [draft, schema, places] of ORIGINALS) {
     for (const [upgraded, place] of Object.entries(places)) {
-      const found = originalOf(schema, upgraded.split("/").slice(1), DRAFTS.indexOf(draft));
+      const found = originalOf(schema, steps(upgraded), DRAFTS.indexOf(draft));
       assert.equal(found && found.map((it) => `/${it}`).join(""), place, `${draft}: ${upgraded}`);
     }
   }
@@ -190,4 +196,21 @@ test("in a worker", async () => {
   assert.equal(await schemas.isValid(URI, "1"), false);
   assert.equal(await schemas.isValid(URI, "2"), true);
   schemas.close();
+});
+
+test("the upgraded documents", async () => {
+  const four = { $schema: "http://json-schema.org/draft-04/schema#",
+    definitions: { a: { minimum: 3, exclusiveMinimum: true } } };
+  const found = await upgrade([[OTHER, JSON.stringify({ $schema: SEVEN, items: [{ $ref: "s#/definitions/a" }] })],
+    [URI, JSON.stringify(four)]]);
+  assert.deepEqual(Object.keys(found), [OTHER, URI]);
+  assert.deepEqual(JSON.parse(found[OTHER]), { $schema: LATEST, prefixItems: [{ $ref: "s#/$defs/a" }] });
+  assert.deepEqual(JSON.parse(found[URI]), { $schema: LATEST, $defs: { a: { exclusiveMinimum: 3 } } });
+  assert.deepEqual(await upgrade(found), found);
+  assert.deepEqual(await upgrade({ [URI]: "true", [OTHER]: " {} " }), { [URI]: "true\n", [OTHER]: "{}\n" });
+  assert.deepEqual(await upgrade({}), {});
+  assert.deepEqual(await upgrade({ [URI]: '{"divisibleBy":2}' }, { defaultDialect: "draft-03" }),
+    { [URI]: `{"$schema":"${LATEST}","multipleOf":2}\n` });
+  const refused = await refusal(upgrade({ [OTHER]: "true", [URI]: `{"$schema": "${SEVEN}", "items": {"$ref": 1}}` }));
+  assert.deepEqual([refused.kind, refused.place, refused.document], ["BadKeyword", "/items/$ref", URI]);
 });

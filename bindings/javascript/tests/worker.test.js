@@ -25,11 +25,15 @@ test("a worker answers as the schemas do", async () => {
 });
 
 test("at the time limit a call is Stopped, and the next one has a new worker", async () => {
-  const schemas = await WorkerSchemas.create({ [URI]: SCHEMA }, { seconds: 1 });
-  const many = JSON.stringify(Array.from({ length: 2_000_000 }, (_, index) => index));
-  await assert.rejects(schemas.isValid(URI, many),
+  const numbers = (count) => Array.from({ length: count }, (_, index) => index);
+  // No name matches any pattern: 100,000,000 searches, which take many times the limit on any machine.
+  const patterns = Object.fromEntries(numbers(1000).map((it) => [`^x${it}$`, false]));
+  const names = Object.fromEntries(numbers(100_000).map((it) => [`y${it}`, 0]));
+  const schema = JSON.stringify({ patternProperties: patterns });
+  const schemas = await WorkerSchemas.create({ [URI]: schema }, { seconds: 1 });
+  await assert.rejects(schemas.isValid(URI, JSON.stringify(names)),
     (it) => it instanceof Stopped && it.message === "no answer after 1 s");
-  assert.equal(await schemas.isValid(URI, "[-1]"), false);
+  assert.equal(await schemas.isValid(URI, '{"x7": 0}'), false);
   schemas.close();
 });
 

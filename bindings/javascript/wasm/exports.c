@@ -11,6 +11,7 @@ u32 proved_jschema_new(void *);
 u32 proved_jschema_limit(void *, usize, usize);
 u32 proved_jschema_add(void *, const void *, usize, const void *, usize);
 u32 proved_jschema_upgrade(void *, const void *, usize);
+u32 proved_jschema_document(void *, usize);
 u32 proved_jschema_finish(void *);
 u32 proved_jschema_places(void *);
 u32 proved_jschema_entry(void *, const void *, usize, void *);
@@ -36,6 +37,8 @@ u32 jschema_add(u32 handle, u32 uri, u32 uri_length, u32 document, u32 document_
 u32 jschema_upgrade(u32 handle, u32 dialect, u32 dialect_length) {
     return proved_jschema_upgrade(AT(handle), AT(dialect), dialect_length);
 }
+
+u32 jschema_document(u32 handle, u32 number) { return proved_jschema_document(AT(handle), number); }
 
 u32 jschema_finish(u32 handle) { return proved_jschema_finish(AT(handle)); }
 

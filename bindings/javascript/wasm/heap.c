@@ -30,10 +30,9 @@ typedef struct block {
     struct block *next, *previous; /* only of a free block: its list */
 } block;
 
-/* Whether there was memory, and where: all 16 bytes are written. */
+/* Whether there was memory, and where. */
 typedef struct {
-    usize ok;
-    void *at;
+    usize ok, at;
 } allocation;
 
 /* Where a block stands in `lists`. */
@@ -127,7 +126,7 @@ static void cut(block *it, usize size) {
     give_back(behind);
 }
 
-/* Whether the memory has these pages more now. A refusal is -1: of 64 bits, or of 32 where addresses have 32. */
+/* Whether the memory has these pages more now. A refusal is -1 of 32 bits. */
 static _Bool has_grown(usize pages) {
     return pages <= MOST_PAGES - __builtin_wasm_memory_size(0) && GROW(pages) < 0xffffffffull;
 }
@@ -205,7 +204,7 @@ static void *resized(void *at, usize asked) {
 }
 
 static allocation answer(void *at) {
-    allocation made = {at != 0, at ? at : nowhere};
+    allocation made = {at != 0, (usize)(at ? at : nowhere)};
     return made;
 }
 

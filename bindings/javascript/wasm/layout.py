@@ -8,9 +8,8 @@ between them are joined. Nothing else is changed: in Binaryen's text functions a
 begins as zeros. A text that isn't laid out as Binaryen does it is refused.
 """
 import re
-import sys
-from pathlib import Path
 
+from one_step import run
 from similarity import chained
 
 BEGIN, END = " (func ", " )"
@@ -80,13 +79,5 @@ def _data(parts):
     return ["".join(parts) + '")'] if parts else []
 
 
-def main():
-    given, made = map(Path, sys.argv[1:])
-    try:
-        made.write_text(laid_out(given.read_text("utf-8")), "utf-8")
-    except ValueError as error:
-        sys.exit(f"layout.py: {error}")
-
-
 if __name__ == "__main__":
-    main()
+    run(laid_out, ValueError)

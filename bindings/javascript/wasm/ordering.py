@@ -1,15 +1,15 @@
 #!/usr/bin/env python3
 """Puts constants of LLVM IR that are alike near one another, so that the module takes less when it is compressed.
 
-    ordering.py GIVEN.ll MADE.ll
+    ordering.py GIVEN MADE
 
 The tables of Unicode take a third of the module, and many have stretches in common. Constants that are private, have no
 address that counts and no address in them, change places with one another. Nothing else is changed, and such a constant
 means the same wherever it stands.
 """
 import re
-import sys
 
+from one_step import run
 from similarity import chained
 
 _CONSTANT = re.compile(r'@(?:[\w.$-]+|"[^"]*") = private unnamed_addr constant \[\d+ x i8\] '
@@ -35,13 +35,5 @@ def _stretches(constant):
     return ["".join(content[at:at + STRETCH]) for at in range(len(content) - STRETCH + 1)]
 
 
-def main():
-    given, made = sys.argv[1:]
-    with open(given, encoding="utf-8") as file:
-        text = file.read()
-    with open(made, "w", encoding="utf-8") as file:
-        file.write(ordered(text))
-
-
 if __name__ == "__main__":
-    main()
+    run(ordered)

@@ -1,21 +1,24 @@
 #!/usr/bin/env python3
-"""Makes LLVM IR for x86-64, as the prover's compiler writes it, LLVM IR for wasm64.
+"""Makes LLVM IR for x86-64, as the prover's compiler writes it, LLVM IR for wasm32.
 
-    retarget.py IN.ll OUT.ll
+    retarget.py GIVEN MADE
 
-Both have pointers of 64 bits, are little-endian, and give the types that occur the same sizes and alignments. So the
-data layout, the triple and the attributes that name the processor or say what to inline change, and each instruction
-of x86-64 becomes what means the same. The library's calls get names of their own, since exports.c exports calls of
-these names over them. Everything else stays as it is. Each word of the IR must be one that is known to mean the same
-on both; the script fails on any other, with status 1.
+Both are little-endian, and give the types that occur the same sizes and alignments, but for pointers: pointers.py
+gives these 32 bits. Beside that the data layout, the triple and the attributes that name the processor or say what to
+inline change, and each instruction of x86-64 becomes what means the same. The library's calls get names of their own,
+since exports.c exports calls of these names over them. Everything else stays as it is. Each word of the IR must be one
+that is known to mean the same on both; the script fails on any other, with status 1.
 """
 import re
-import sys
 from collections import Counter
 
+from one_step import run
+from pointers import narrowed
+from unknown import Unknown
+
 LAYOUTS = ("e-m:e-p270:32:32-p271:32:32-p272:64:64-i64:64-i128:128-f80:128-n8:16:32:64-S128",
-           "e-m:e-p:64:64-p10:8:8-p20:8:8-i64:64-i128:128-n32:64-S128-ni:1:10:20")
-TRIPLES = ("x86_64-unknown-linux-gnu", "wasm64-unknown-unknown")
+           "e-m:e-p:32:32-p10:8:8-p20:8:8-i64:64-i128:128-n32:64-S128-ni:1:10:20")
+TRIPLES = ("x86_64-unknown-linux-gnu", "wasm32-unknown-unknown")
 
 # The words of the IR that mean the same on both.
 WORDS = frozenset("""
@@ -38,7 +41,7 @@ INTRINSICS = frozenset("""
     vector.reduce.add vector.reduce.and vector.reduce.or vector.reduce.umax
 """.split())
 
-# The attributes in quotes that name the processor: wasm64 has none of them.
+# The attributes in quotes that name the processor: wasm32 has none of them.
 PROCESSOR = frozenset(("frame-pointer", "probe-stack", "stack-probe-size", "target-cpu", "target-features", "tune-cpu"))
 
 # What the IR may declare, but for intrinsics. heap.c defines it.
@@ -67,31 +70,31 @@ declare <16 x i8> @llvm.wasm.swizzle(<16 x i8>, <16 x i8>)
 
 # The crates whose functions take the time of a check. They are compiled for speed, and all others for size.
 QUICK = frozenset(("js_doc", "js_eval", "json", "serde_json", "simdutf8"))
+# The crates whose functions are inlined where they ask for it. Where all are, the module is a quarter larger.
+INLINED = QUICK | {"arrayvec", "core", "fast_float", "js_assert", "js_bundle"}
 
 _QUOTED_ATTRIBUTE = re.compile(r' ?"([\w-]+)"="[^"]*"')
 # What isn't a word of the language: names, numbers of attributes and of metadata, constants of bytes.
 _NAMED = re.compile(r'[%@$]"[^"]*"|[%@$][\w.$-]+|c"(?:[^"\\]|\\.)*"|"[^"]*"|![\w.]*|#\d+|;.*$')
 _WORD = re.compile(r"[A-Za-z_][\w.]*")
 # A function of the library: the first part of its name, and the number of its attributes.
-_DEFINED = re.compile(r'(define [^@]*@"?([\w.$-]+).*)( #\d+ (?:.*)?\{)')
+_DEFINED = re.compile(r'(define [^@]*@"?([\w.$-]+).*) #(\d+)( (?:.*)?\{)')
+_HINTS = re.compile(r"\b(?:alwaysinline|inlinehint) ")
 _LABEL = re.compile(r'^(?:[\w.$-]+|"[^"]*"):')
 _INTRINSIC = re.compile(r"@llvm\.([\w.]+)\(")
 _TYPES = re.compile(r"(?:\.(?:p0|i\d+|f\d+|v\d+i\d+))+$")
 
 
-class Unknown(Exception):
-    """The IR has what this script doesn't know."""
-
-
 def retargeted(text):
-    """The IR for wasm64. Raises `Unknown`."""
+    """The IR for wasm32. Raises `Unknown`."""
     text = _exchanged(text, "datalayout", *LAYOUTS)
     text = _exchanged(text, "triple", *TRIPLES)
     text = text.replace("@jschema_", "@proved_jschema_")
+    text, without_hints = _with_groups(text)
     added = []
     lines = []
     for line in text.split("\n"):
-        line = _for_size(_without_processor(line))
+        line = _attributed(_without_processor(line), without_hints)
         for name, (ours, definition) in SUBSTITUTES.items():
             if f"@{name}(" in line:
                 if definition not in added:
@@ -99,7 +102,8 @@ def retargeted(text):
                 line = "" if line.startswith("declare") else line.replace(f"@{name}(", f"@{ours}(")
         lines.append(line)
     _check(lines)
-    return "\n".join(lines + added)
+    narrow = [it for number, line in enumerate(lines) for it in narrowed(line, number)]
+    return "\n".join(narrow + added)
 
 
 def _exchanged(text, what, old, new):
@@ -114,18 +118,28 @@ def _without_processor(line):
         return line
     if others := {it for it in _QUOTED_ATTRIBUTE.findall(line)} - PROCESSOR:
         raise Unknown(f"attributes: {' '.join(sorted(others))}")
-    # The compiler decides what is inlined: where everything is that asks for it, the module is a quarter larger.
-    line = re.sub(r"\b(?:alwaysinline|inlinehint) ", "", line)
     # A group can't be empty. LLVM ignores an attribute in quotes that it doesn't know.
     return _QUOTED_ATTRIBUTE.sub("", line).replace("= { }", '= { "any-processor" }')
 
 
-def _for_size(line):
+def _with_groups(text):
+    """The IR with a group of attributes more for each that has hints what to inline, without these; and its number."""
+    groups = re.findall(r"^attributes #(\d+) = (.*)$", text, re.M)
+    free = max((int(number) for number, _ in groups), default=-1) + 1
+    added = {number: (free + index, _HINTS.sub("", group))
+             for index, (number, group) in enumerate(it for it in groups if _HINTS.search(it[1]))}
+    lines = [f"attributes #{number} = {group}" for number, group in added.values()]
+    return "\n".join([text, *lines]), {number: str(made) for number, (made, _) in added.items()}
+
+
+def _attributed(line, without_hints):
     """The line; of a function that takes little time, with the attribute that has it compiled for size."""
     found = _DEFINED.fullmatch(line)
-    if found is None or found[2] in QUICK:
+    if found is None:
         return line
-    return f"{found[1]} optsize{found[3]}"
+    define, crate, group, rest = found.groups()
+    size = "" if crate in QUICK else " optsize"
+    return f"{define}{size} #{group if crate in INLINED else without_hints.get(group, group)}{rest}"
 
 
 def _check(lines):
@@ -148,18 +162,5 @@ def _plain(declaration):
     return re.sub(r" (?:noundef|#\d+)", "", declaration)
 
 
-def main():
-    if len(sys.argv) != 3:
-        sys.exit("usage: retarget.py IN.ll OUT.ll")
-    with open(sys.argv[1], encoding="utf-8") as file:
-        text = file.read()
-    try:
-        text = retargeted(text)
-    except Unknown as error:
-        sys.exit(f"retarget.py: not known: {error}")
-    with open(sys.argv[2], "w", encoding="utf-8") as file:
-        file.write(text)
-
-
 if __name__ == "__main__":
-    main()
+    run(retargeted, Unknown)

@@ -1,188 +1,175 @@
-/** The arguments of the command. */
-import { DRAFTS, dialectCalled } from "../dialects.js";
+/** The arguments of the commands. */
 import { Misuse } from "./files.js";
-import { CHOICES } from "./reports.js";
-import { SUFFIXES } from "./sources.js";
+import { BadValue, OPTIONS, optionsOf } from "./options.js";
 
-const NAME = "npx jschema validate";
-const USAGE = `${NAME} [--ref [URI=]FILE|FOLDER]... [--format FORMAT] [--input KIND] [--lines] [--jobs N] ` +
-  "[--default-dialect DIALECT | --no-upgrade] (SCHEMA | --schema SCHEMA) INSTANCE...";
-const EXAMPLE = `${NAME} person.schema.json ada.json`;
-const DESCRIPTION = `usage: ${USAGE}
+const COMMANDS = {
+  validate: {
+    about: "Validates JSON files against a JSON Schema, of draft 2020-12 or an older one.",
+    usage: "[--ref [URI=]FILE|FOLDER]... [--format FORMAT] [--input KIND] [--formats] [--lines] [--jobs N] " +
+      "[--default-dialect DIALECT | --no-upgrade] [--patterns SYNTAX] [--numbers RANGE] (SCHEMA | --schema SCHEMA) " +
+      "INSTANCE...",
+    example: "person.schema.json ada.json",
+    files: ["INSTANCE", "a file; a folder, for the files in it, at any depth, whose suffix is of a kind (with " +
+      "--lines .jsonl and .ndjson); or -, standard input"],
+    statuses: "0 all are valid, 1 some are invalid, 2 the arguments are wrong, 3 an input is refused, 4 out of " +
+      "memory, or a read or write failed",
+  },
+  lint: {
+    about: "Shows what is wrong with JSON Schemas, and what is probably not meant.",
+    usage: "[--ref [URI=]FILE|FOLDER]... [--format FORMAT] [--input KIND] [--patterns SYNTAX] [--numbers RANGE] " +
+      "SCHEMA...",
+    example: "person.schema.json",
+    files: ["SCHEMA", "a file; a folder, for the files in it, at any depth, whose suffix is of a kind; or -, " +
+      "standard input"],
+    statuses: "0 nothing but notes, 1 a warning, 2 the arguments are wrong, 3 an error: the validator refuses the " +
+      "schema, 4 out of memory, or a read or write failed",
+  },
+};
+const ELSEWHERE = "YAML and TOML are read by the command of the Python package.";
+const COLUMN = 22, WIDTH = 118;
 
-Validates JSON files against a JSON Schema, of draft 2020-12 or an older one.
-
-  INSTANCE            a file; a folder, for the files in it, at any depth, whose suffix is of a kind (with --lines
-                      .jsonl and .ndjson); or -, standard input
-  --schema SCHEMA     the file of the schema (default: the first file); its URI is its $id if that is absolute, else
-                      its file's URL
-  --ref [URI=]FILE    a schema document that is referred to, with the URI to register it under (default: as for the
-                      schema); repeat it for each
-  --ref FOLDER        a folder of documents, of which those are taken that are referred to
-  --no-ref-siblings   don't look up the document of a relative reference beside the file that refers to it
-  --format FORMAT     text (the default): each problem with its line. short: a line for each. json: an array with an
-                      object for each file. github: annotations in GitHub Actions. html: a page. sarif, junit: for
-                      code scanning and tests. flag, basic, detailed, verbose, merged: the validator's output, a line
-                      for each instance
-  --input KIND        what the files are: json, or jsonc, JSON with comments (default: what the suffix says, else json)
-  --lines             each line of a file is an instance; empty lines don't count
-  --default-dialect DIALECT
-                      the dialect of each schema document that names none: ${DRAFTS.slice(0, -1).join(", ")}
-                      or ${DRAFTS.at(-1)} (the default), or the URI of one
-  --no-upgrade        refuse schemas of older drafts, from ${DRAFTS[0]} to ${DRAFTS.at(-2)}, which are upgraded to
-                      ${DRAFTS.at(-1)} otherwise
-  --jobs N            taken as by the command of the Python package; the checks run one after another
-  --verbose           list the documents that were found for references
-  --version           show the versions of the package and of the module that checks
-
-The command of the Python package has more: lint, --formats, YAML and TOML, patterns of ECMA-262 and numbers with
-fractions (--patterns regex and --numbers whole are taken, since they are so here).
-
-exit status, the highest that applies: 0 all are valid, 1 some are invalid, 2 the arguments are wrong,
-3 an input is refused, 4 out of memory, or a read or write failed
-`;
-
-/** What is asked for: `help`, a text to write; `version`; or a validation of files. */
-class Arguments {
+/** What is asked for: `help`, a text to write; `version`; or a command on files. */
+export class Arguments {
   help = undefined;
   version = false;
+  /** The file of the schema; undefined for `lint`, whose files all are schemas. */
   schema = undefined;
   refs = [];
   siblings = true;
   format = "text";
   input = undefined;
   verbose = false;
+  formats = false;
   lines = false;
   jobs = 1;
   /** The dialect of each schema document that names none; and whether those of older drafts are upgraded. */
   defaultDialect = undefined;
   upgrade = true;
+  /** The files that are looked at: instances, or for `lint` schemas. */
   files = [];
-  /** How often `--schema` was given. */
-  schemas = 0;
+  /** Each file that `--schema` named. */
+  schemas = [];
+  /** The words of the options for what is rewritten, by their names. */
+  words = {};
+
+  /** @param {"validate" | "lint"} command */
+  constructor(command) {
+    this.command = command;
+  }
+
+  /** What is rewritten, as options of `Schemas.create`. */
+  get rewriting() {
+    return optionsOf(this.words);
+  }
 }
 
-/** The options without a value: what each sets. */
-const FLAGS = {
-  "--ref-siblings": { siblings: true },
-  "--no-ref-siblings": { siblings: false },
-  "--verbose": { verbose: true },
-  "--lines": { lines: true },
-  "--no-upgrade": { upgrade: false },
-};
-
-/** The options with a value: how each takes it. */
-const WITH_VALUE = {
-  "--schema": (given, value) => {
-    given.schema = value;
-    given.schemas += 1;
-  },
-  "--ref": (given, value) => given.refs.push(value),
-  "--format": (given, value) => {
-    given.format = chosen("--format", value, CHOICES);
-  },
-  "--input": (given, value) => {
-    given.input = chosen("--input", value, Object.keys(SUFFIXES));
-  },
-  "--jobs": (given, value) => {
-    given.jobs = jobsOf(value);
-  },
-  // (Given as here alone, they change nothing.)
-  "--patterns": (_given, value) => {
-    if (value === "ecma") throw wrong("--patterns ecma is of the Python package's command: here they are of regex");
-    chosen("--patterns", value, ["regex"]);
-  },
-  "--numbers": (_given, value) => {
-    if (["exact", "texts"].includes(value)) {
-      throw wrong(`--numbers ${value} is of the Python package's command: here they are whole`);
-    }
-    chosen("--numbers", value, ["whole"]);
-  },
-  "--default-dialect": (given, value) => {
-    given.defaultDialect = dialectAt("--default-dialect", value);
-  },
-};
-
-function wrong(message) {
-  return new Misuse(`${message}\nusage: ${USAGE}\nfor example: ${EXAMPLE}`);
-}
-
-/** Reads the arguments. Throws `Misuse`, which says what to do. */
-export function parse(words) {
+/**
+ * Reads the arguments, the first of which is the command. `name` is how that is called without it. Throws `Misuse`,
+ * which says what to do.
+ */
+export function parse(words, name = "npx jschema") {
   const [command, ...rest] = words;
-  if (command === "-h" || command === "--help") return { help: DESCRIPTION };
-  if (command === "--version") return { version: true };
-  if (command === "lint") throw wrong("lint is a command of the Python package: this one is validate");
-  if (command !== "validate") {
-    throw wrong(command === undefined ? "name the command: validate"
-      : `no command '${command}': the only one is validate`);
+  if (command === "--version") return Object.assign(new Arguments("validate"), { version: true });
+  if (command === "-h" || command === "--help") return parseOf("validate", [command], `${name} validate`);
+  if (!Object.hasOwn(COMMANDS, command ?? "")) {
+    throw wrong("validate", `${name} validate`, command === undefined ? "name the command: validate or lint"
+      : `no command '${command}': there are validate and lint`);
   }
-  const given = new Arguments();
-  for (let at = 0; at < rest.length; at++) {
-    const word = rest[at];
-    if (word === "-h" || word === "--help") return { help: DESCRIPTION };
-    if (word === "--version") return { version: true };
-    if (word === "--") {
-      given.files.push(...rest.slice(at + 1));
-      break;
-    }
-    if (!word.startsWith("-") || word === "-") given.files.push(word);
-    else if (Object.hasOwn(FLAGS, word)) Object.assign(given, FLAGS[word]);
-    else at += take(given, word, rest[at + 1]);
-  }
-  return checked(given);
+  return parseOf(command, rest, `${name} ${command}`);
 }
 
-/** The first file is the schema unless one is named. Throws unless there is one, and at least one instance. */
-function checked(given) {
-  if (given.schemas > 1) {
-    throw wrong(`--schema is given ${given.schemas} times: it names one file, and --ref the others`);
-  }
-  if (given.schemas === 0) given.schema = given.files.shift();
-  if (given.files.length === 0) {
-    const missing = given.schema === undefined ? "SCHEMA and INSTANCE" : "INSTANCE";
-    throw wrong(`the following arguments are required: ${missing}`);
-  }
-  const { lines, input } = given;
-  if (lines && input !== undefined && input !== "json") {
-    throw wrong(`--lines is for JSON: no line of ${input} is a document`);
-  }
-  if (given.defaultDialect !== undefined && !given.upgrade) {
-    throw wrong("--default-dialect says what to upgrade from, and --no-upgrade upgrades nothing");
+/** Reads the arguments of a command that is called by a name. */
+export function parseOf(command, words, name) {
+  const given = new Arguments(command);
+  try {
+    for (let at = 0; at < words.length && !given.version; at++) {
+      const word = words[at];
+      if (word === "-h" || word === "--help") return Object.assign(given, { help: helpOf(command, name) });
+      if (word === "--") {
+        given.files.push(...words.slice(at + 1));
+        break;
+      }
+      if (!word.startsWith("-") || word === "-") given.files.push(word);
+      else at += take(given, word, words[at + 1]);
+    }
+    if (!given.version) check(given);
+  } catch (error) {
+    throw error instanceof BadValue ? wrong(command, name, error.message) : error;
   }
   return given;
 }
 
-/** Takes an option with its value, `--name VALUE` or `--name=VALUE`. Returns how many words follow the option. */
+/** Takes an option, `--name`, `--name VALUE` or `--name=VALUE`. Returns how many words follow the option. */
 function take(given, word, next) {
   const [name, ...rest] = word.split("=");
-  if (name === "--formats") throw wrong("--formats is an option of the Python package's command");
-  if (!Object.hasOwn(WITH_VALUE, name)) throw wrong(`unrecognized arguments: ${word}`);
+  const option = OPTIONS.find((it) => it.name === name && it.commands.includes(given.command));
   const isJoined = rest.length > 0;
+  if (option === undefined || option.argument === undefined && isJoined) {
+    throw new BadValue(`unrecognized arguments: ${word}`);
+  }
   const value = isJoined ? rest.join("=") : next;
-  if (value === undefined || !isJoined && value.startsWith("-") && value !== "-") {
-    throw wrong(`argument ${name}: expected one argument`);
-  }
-  WITH_VALUE[name](given, value);
-  return isJoined ? 0 : 1;
-}
-
-function chosen(name, value, choices) {
-  if (choices.includes(value)) return value;
-  const listed = choices.map((it) => `'${it}'`).join(", ");
-  throw wrong(`argument ${name}: invalid choice: '${value}' (choose from ${listed})`);
-}
-
-function dialectAt(name, value) {
+  const isMissing = value === undefined || !isJoined && value.startsWith("-") && value !== "-";
+  if (option.argument !== undefined && isMissing) throw new BadValue(`argument ${name}: expected one argument`);
   try {
-    dialectCalled(value);
+    option.take(given, value);
   } catch (error) {
-    throw wrong(`argument ${name}: ${error.message}`);
+    throw error instanceof BadValue ? new BadValue(`argument ${name}: ${error.message}`) : error;
   }
-  return value;
+  return option.argument === undefined || isJoined ? 0 : 1;
 }
 
-function jobsOf(value) {
-  if (/^[0-9]+$/.test(value) && Number(value) >= 1 && Number(value) <= 256) return Number(value);
-  throw wrong(`argument --jobs: '${value}' isn't a number from 1 to 256`);
+/** The first file is the schema unless one is named. Throws unless there is one, and at least one instance. */
+function check(given) {
+  const { command, schemas, files, lines, input } = given;
+  if (command === "lint") {
+    if (files.length === 0) throw new BadValue("the following arguments are required: SCHEMA");
+    return;
+  }
+  if (schemas.length > 1) {
+    throw new BadValue(`--schema is given ${schemas.length} times: it names one file, and --ref the others`);
+  }
+  given.schema = schemas.length === 0 ? files.shift() : schemas[0];
+  if (files.length === 0) {
+    const missing = given.schema === undefined ? "SCHEMA and INSTANCE" : "INSTANCE";
+    throw new BadValue(`the following arguments are required: ${missing}`);
+  }
+  if (lines && input !== undefined && input !== "json") {
+    throw new BadValue(`--lines is for JSON: no line of ${input} is a document`);
+  }
+  if (given.defaultDialect !== undefined && !given.upgrade) {
+    throw new BadValue("--default-dialect says what to upgrade from, and --no-upgrade upgrades nothing");
+  }
+}
+
+function wrong(command, name, message) {
+  const { usage, example } = COMMANDS[command];
+  return new Misuse(`${message}\nusage: ${name} ${usage}\nfor example: ${name} ${example}`);
+}
+
+function helpOf(command, name) {
+  const { about, usage, files: [argument, ofFiles], statuses } = COMMANDS[command];
+  const rows = OPTIONS.filter((it) => it.commands.includes(command)).map((it) =>
+    [`${it.name}${it.argument === undefined ? "" : ` ${it.argument}`}`, it.help(command)]);
+  const lines = [[argument, ofFiles], ["-h, --help", "show this text"], ...rows].flatMap(([begin, text]) =>
+    row(begin, text));
+  return [`usage: ${name} ${usage}`, "", about, ELSEWHERE, "", ...lines, "",
+    ...wrapped(`exit status, the highest that applies: ${statuses}`, 0), ""].join("\n");
+}
+
+/** The lines of an argument and its meaning. */
+function row(begin, text) {
+  const lines = wrapped(text, COLUMN), head = `  ${begin}`;
+  if (head.length >= COLUMN) return [head, ...lines];
+  return [head.padEnd(COLUMN) + lines[0].slice(COLUMN), ...lines.slice(1)];
+}
+
+/** A text in lines, from a column on. */
+function wrapped(text, column) {
+  const lines = [" ".repeat(column)];
+  for (const word of text.split(" ")) {
+    const line = lines.at(-1), isBegun = line.length > column;
+    if (isBegun && line.length + 1 + word.length > WIDTH) lines.push(" ".repeat(column) + word);
+    else lines[lines.length - 1] = isBegun ? `${line} ${word}` : line + word;
+  }
+  return lines;
 }

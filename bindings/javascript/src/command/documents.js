@@ -6,17 +6,22 @@ import { Lookup, schemaFile } from "./lookup.js";
 import { suffixKind } from "./sources.js";
 import { writeError } from "./writing.js";
 
-/** The schema and the documents of `--ref`, and those that are found in its folders and beside the files. */
-export function documentsOf({ schema, refs, siblings, input, verbose, defaultDialect }) {
-  const assumed = defaultDialect === undefined ? LATEST : dialectCalled(defaultDialect);
+/** The schema that is named, and the documents that it refers to. */
+export function documentsOf(given) {
+  const assumed = given.defaultDialect === undefined ? LATEST : dialectCalled(given.defaultDialect);
+  const schema = document(given.schema, "--schema", given.input, assumed);
+  return [schema, ...referred([schema], given, assumed)];
+}
+
+/** The documents of `--ref`, and those that are found in its folders and beside the files. */
+export function referred(files, { refs, siblings, input, verbose }, assumed = LATEST) {
   const folders = refs.filter(isFolder);
   const named = refs.filter((it) => !folders.includes(it)).map((it) => document(it, "--ref", input, assumed));
-  const files = [document(schema, "--schema", input, assumed), ...named];
-  const taken = new Lookup(folders, siblings, assumed).taken(files);
+  const taken = new Lookup(folders, siblings, assumed).taken([...files, ...named]);
   for (const { file, referring } of verbose ? taken : []) {
     writeError(`jschema: ${file.path} is taken for ${file.uri}, which ${referring} refers to\n`);
   }
-  return [...files, ...taken.map((it) => it.file)];
+  return [...named, ...taken.map((it) => it.file)];
 }
 
 /** The document that the argument `[URI=]FILE` of an option names. */

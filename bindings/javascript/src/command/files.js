@@ -40,9 +40,12 @@ function suffixesOf(kind, lines) {
  * the `fault` that there is none of this name.
  *
  * Throws `Misuse` for an empty name, for a folder without any, and for standard input that is named twice.
+ *
+ * @param {readonly string[]} names @param {string} [kind] @param {boolean} [lines]
+ * @param {string} [what] what a name is of
  */
-export function filesOf(names, kind, lines) {
-  if (names.includes("")) throw new Misuse("an INSTANCE has an empty name: is a variable of the shell empty?");
+export function filesOf(names, kind = undefined, lines = false, what = "an INSTANCE") {
+  if (names.includes("")) throw new Misuse(`${what} has an empty name: is a variable of the shell empty?`);
   const count = names.filter((it) => it === STDIN).length;
   if (count > 1) throw new Misuse(`${STDIN} is named ${count} times: standard input can be read once`);
   const suffixes = suffixesOf(kind, lines);

@@ -1,26 +1,30 @@
 /** A report as one page, which needs nothing else: the tree of the errors, folded, each error beside its line. */
 import { schemaSteps } from "../locations.js";
-import { parse } from "../outputs.js";
-import { Report, complain, printable } from "./report.js";
+import { Report, complain, counted, printable } from "./report.js";
 import { FAILED, STATUS } from "./results.js";
 import { snippet } from "./snippets.js";
 import { writeOutput } from "./writing.js";
 
 // Up to how many problems of a file are unfolded.
 const MANY = 20;
-const TITLE = "Validation";
+const TITLES = { validate: "Validation", lint: "Lint" };
 const WORDS = {
-  [STATUS.VALID]: "valid", [STATUS.INVALID]: "invalid", [STATUS.REFUSED]: "refused", [STATUS.FAILED]: "failed",
+  validate: {
+    [STATUS.VALID]: "valid", [STATUS.INVALID]: "invalid", [STATUS.REFUSED]: "refused", [STATUS.FAILED]: "failed",
+  },
+  lint: {
+    [STATUS.VALID]: "clean", [STATUS.INVALID]: "warnings", [STATUS.REFUSED]: "refused", [STATUS.FAILED]: "failed",
+  },
 };
 const ESCAPES = { "&": "&amp;", "<": "&lt;", ">": "&gt;", '"': "&quot;", "'": "&#x27;" };
 
 // What counts the results stands first on the page, and last in the text: it is known at the end.
-const HEAD = `<!DOCTYPE html>
+const head = (title) => `<!DOCTYPE html>
 <html lang="en">
 <head>
 <meta charset="utf-8">
 <meta name="viewport" content="width=device-width, initial-scale=1">
-<title>${TITLE} by jschema</title>
+<title>${title} by jschema</title>
 <style>
 :root { color-scheme: light dark; --red: light-dark(#b3261e, #f2b8b5); --green: light-dark(#1e6b33, #9bd4a8);
   --blue: light-dark(#1a4f8b, #a8c7fa); --amber: light-dark(#7a4d00, #f5c26b);
@@ -52,19 +56,20 @@ mark { color: inherit; background: none; text-decoration: underline wavy var(--r
 export class HtmlReport extends Report {
   tree = true;
 
-  constructor() {
-    super();
-    writeOutput(HEAD);
+  constructor(format, command) {
+    super(format, command);
+    writeOutput(head(TITLES[command]));
   }
 
   writeResult(result) {
-    const { input: { file, line }, status, problems, output } = result;
-    const word = WORDS[status];
+    const { input: { file, line }, status, problems, tree } = result;
+    const word = WORDS[this.command][status];
     const name = `${shown(file)}${line > 1 ? `:${line}` : ""}`;
-    const count = problems.length === 0 ? "" : `, ${problems.length} problem${problems.length === 1 ? "" : "s"}`;
+    const what = status === STATUS.VALID && this.command !== "lint" ? "warning" : "problem";
+    const count = problems.length === 0 ? "" : `, ${counted(problems.length, what)}`;
     writeOutput(`<details class="file"${problems.length > 0 ? " open" : ""}><summary><code>${name}</code> ` +
       `<span class="${word}">${word}</span>${count}</summary>\n`);
-    if (output !== undefined) writeOutput(branch(result, parse(output), byPlaces(problems), 0));
+    if (tree !== undefined) writeOutput(branch(result, tree, byPlaces(problems), 0));
     else if (problems.length > 0) writeOutput(`<ul>${problems.map((it) => leaf(result, it, "")).join("")}</ul>\n`);
     writeOutput("</details>\n");
   }
@@ -75,7 +80,8 @@ export class HtmlReport extends Report {
   }
 
   end(_withSummary = true) {
-    writeOutput(`<header><h1>${TITLE}</h1><p>${escaped(this.summary())}</p></header>\n</body>\n</html>\n`);
+    const title = TITLES[this.command];
+    writeOutput(`<header><h1>${title}</h1><p>${escaped(this.summary())}</p></header>\n</body>\n</html>\n`);
   }
 }
 

@@ -1,8 +1,9 @@
 /** The instances, read. Of each file no more is read than the validator takes, and one byte. */
 import { LARGEST_TEXT } from "../limits.js";
+import { Source } from "../sources.js";
 import { STDIN } from "./files.js";
 import { Reader, readWhole } from "./reader.js";
-import { NotRead, Source, sourceOf, suffixKind } from "./sources.js";
+import { NotRead, sourceOf, suffixKind } from "./sources.js";
 
 const LINE_FEED = 10, RETURN = 13, SPACES = new Set([32, 9, LINE_FEED, RETURN]);
 const BLOCK = 1 << 16;

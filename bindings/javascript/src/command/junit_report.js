@@ -1,4 +1,4 @@
-/** A report in the XML that JUnit's readers take: a test case for each instance. */
+/** A report in the XML that JUnit's readers take: a test case for each file or instance. */
 import { Report, complain } from "./report.js";
 import { FAILED, STATUS } from "./results.js";
 import { writeOutput } from "./writing.js";
@@ -7,16 +7,16 @@ import { writeOutput } from "./writing.js";
 const NO_XML = /[^\t\n\r -\ud7ff\ue000-\ufffd\u{10000}-\u{10ffff}]/gu;
 const ESCAPES = { "&": "&amp;", "<": "&lt;", ">": "&gt;" };
 const MORE_ESCAPES = { '"': "&quot;", "'": "&#x27;", "\t": "&#9;", "\n": "&#10;", "\r": "&#13;" };
-const SUITE = attribute("jschema validate");
 
 /** One suite. Its counts stand at its beginning, so all is written at the end. */
 export class JunitReport extends Report {
   #cases = [];
+  #suite = attribute(`jschema ${this.command}`);
 
   writeResult(result) {
     const { file, line } = result.input;
     const name = line === 1 ? file : `${file}:${line}`;
-    const about = `classname=${SUITE} name=${attribute(name)} file=${attribute(file)} line="${line}"`;
+    const about = `classname=${this.#suite} name=${attribute(name)} file=${attribute(file)} line="${line}"`;
     this.#cases.push(`  <testcase ${about}>\n${problemsOf(result)}  </testcase>\n`);
   }
 
@@ -29,16 +29,17 @@ export class JunitReport extends Report {
     const errors = this.count(STATUS.FAILED) + this.count(STATUS.REFUSED);
     const counts = `tests="${this.#cases.length}" failures="${this.count(STATUS.INVALID)}" errors="${errors}"`;
     writeOutput(`<?xml version="1.0" encoding="UTF-8"?>\n<testsuites ${counts}>\n` +
-      `<testsuite name=${SUITE} ${counts}>\n${this.#cases.join("")}</testsuite>\n</testsuites>\n`);
+      `<testsuite name=${this.#suite} ${counts}>\n${this.#cases.join("")}</testsuite>\n</testsuites>\n`);
   }
 }
 
-/** What is wrong with an instance. (Readers take the first failure of a test case, so there is one.) */
+/** What is wrong with a file or an instance. (Readers take the first failure of a test case, so there is one.) */
 function problemsOf({ input, status, problems }) {
   if (problems.length === 0) return "";
+  const texts = problems.map((it) => lineOf(input.file, it)).join("");
+  if (status === STATUS.VALID) return `    <system-out>${text(texts)}</system-out>\n`;
   const element = status === STATUS.INVALID ? "failure" : "error";
   const [{ rule, message }] = problems;
-  const texts = problems.map((it) => lineOf(input.file, it)).join("");
   return `    <${element} type=${attribute(rule)} message=${attribute(message)}>${text(texts)}</${element}>\n`;
 }
 

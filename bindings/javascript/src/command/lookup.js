@@ -24,12 +24,18 @@ export class SchemaFile {
   #document;
   #isWalked = false;
 
-  /** @param {number} assumed the dialect that is assumed if it names none */
-  constructor(path, uri, source, assumed) {
+  /**
+   * @param {string} path
+   * @param {string} uri empty for that of its identifier, or else of the file
+   * @param {import("../sources.js").Source} source
+   * @param {number} assumed the dialect that is assumed if it names none
+   * @param {string} [name] the file's name, where `path` is what it is shown as
+   */
+  constructor(path, uri, source, assumed, name = path) {
     this.path = path;
     this.source = source;
     this.assumed = assumed;
-    this.uri = uri || fileUrl(path);
+    this.uri = uri || fileUrl(name);
     const own = uri ? undefined : this.document?.id;
     if (own === undefined || !ABSOLUTE.test(own)) return;
     this.uri = own;
@@ -118,7 +124,7 @@ export class Lookup {
 /** The references from the schemas of a document to others, each with the base of its schema. */
 function referencesOf(document) {
   return document.schemas.flatMap(({ base, references }) =>
-    references.filter((it) => !it.startsWith("#")).map((reference) => ({ base, reference })));
+    references.filter(([, it]) => !it.startsWith("#")).map(([, reference]) => ({ base, reference })));
 }
 
 /** The files of folders by the URIs of the resources in them. What can't be read isn't one that is meant. */

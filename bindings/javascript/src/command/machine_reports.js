@@ -1,18 +1,14 @@
 /** The validator's output, and a report in JSON. */
 import { Report, complain } from "./report.js";
-import { FAILED, REFUSED, STATUS } from "./results.js";
+import { ERROR, FAILED, REFUSED, STATUS, WARNING } from "./results.js";
 import { writeOutput } from "./writing.js";
 
 /**
  * The validator's output in a format, a line for each instance; of one that is refused or fails, an object that says
- * so. Refusals and failures go to standard error too.
+ * so. Refusals, failures and warnings go to standard error too.
  */
 export class OutputReport extends Report {
-  /** @param {string} format the format to ask for */
-  constructor(format) {
-    super();
-    this.output = format;
-  }
+  output = this.format;
 
   writeResult(result) {
     complain(result);
@@ -24,12 +20,13 @@ export class OutputReport extends Report {
   }
 }
 
-/** One array, with an object for each instance. */
+/** One array, with an object for each file or instance. */
 export class JsonReport extends Report {
   #separator = "[\n";
 
   writeResult(result) {
-    writeOutput(this.#separator + JSON.stringify(asJson(result)));
+    const shown = this.command === "lint" ? findingsAsJson(result) : asJson(result);
+    writeOutput(this.#separator + JSON.stringify(shown));
     this.#separator = ",\n";
   }
 
@@ -43,7 +40,7 @@ export class JsonReport extends Report {
   }
 }
 
-/** A result as the report in JSON has it. */
+/** The result of an instance as the report in JSON has it. */
 function asJson({ input, status, problems }) {
   const valid = { [STATUS.VALID]: true, [STATUS.INVALID]: false }[status] ?? null;
   const about = { file: input.file, line: input.line, valid };
@@ -53,18 +50,42 @@ function asJson({ input, status, problems }) {
     const { subject, kind, place = null, meaning: message } = first.refused;
     return { ...about, refused: { ...placeOf(first.range.begin), subject, kind, place, message } };
   }
-  return { ...about, errors: problems.map(errorAsJson) };
+  const errors = problems.filter((it) => it.kind === ERROR).map(errorAsJson);
+  const warnings = problems.filter((it) => it.kind === WARNING).map(warningAsJson);
+  return { ...about, errors, ...warnings.length > 0 && { warnings } };
 }
 
-function errorAsJson({ message, range: { begin, end }, pointer, keywordUri, keywordPlace, error }) {
-  return { ...placeOf(begin), endLine: end.line, endColumn: end.column, error: message, instanceLocation: pointer,
-    keywordLocation: error.keywordLocation, absoluteKeywordLocation: keywordUri, ...upgraded(error),
-    ...keywordPlace && { schema: { file: keywordPlace.file, ...placeOf(keywordPlace.position) } } };
+/** The findings in a schema as the report in JSON has them. */
+function findingsAsJson({ input: { file }, status, problems }) {
+  if (status === STATUS.FAILED) return { file, failed: problems[0].message };
+  return { file, findings: problems.map(({ kind, rule, message, range, pointer, suggestion = null }) =>
+    ({ rule, severity: kind, ...rangeOf(range), message, place: pointer, suggestion })) };
+}
+
+function errorAsJson(problem) {
+  const { message, range, pointer, keywordUri, error } = problem;
+  return { ...rangeOf(range), error: message, instanceLocation: pointer, keywordLocation: error.keywordLocation,
+    absoluteKeywordLocation: keywordUri, ...upgraded(error), ...schemaOf(problem) };
+}
+
+function warningAsJson(problem) {
+  const { message, range, pointer, keywordUri } = problem;
+  return { ...rangeOf(range), warning: message, instanceLocation: pointer, absoluteKeywordLocation: keywordUri,
+    ...schemaOf(problem) };
+}
+
+/** Where the keyword stands in a file. */
+function schemaOf({ keywordPlace: place }) {
+  return place && { schema: { file: place.file, ...placeOf(place.position) } };
 }
 
 /** Where the keyword of an error stands in an upgraded schema, if that is another place. */
 export function upgraded({ absoluteKeywordLocation, upgradedLocation }) {
   return upgradedLocation === absoluteKeywordLocation ? {} : { upgradedLocation };
+}
+
+function rangeOf({ begin, end }) {
+  return { ...placeOf(begin), endLine: end.line, endColumn: end.column };
 }
 
 function placeOf({ line, column }) {

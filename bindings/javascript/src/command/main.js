@@ -1,18 +1,32 @@
-/** The command `npx jschema validate`. */
-import { parse } from "./arguments.js";
+/** The commands `npx jschema validate` and `npx jschema lint`, which are also `jschema-validate` and `jschema-lint`. */
+import { parse, parseOf } from "./arguments.js";
 import { Misuse } from "./files.js";
 import { STATUS, messageOf } from "./results.js";
 import { validate } from "./validating.js";
 import { versions } from "./versions.js";
 import { reason, writeError, writeOutput } from "./writing.js";
 
-/** Runs the command with these arguments, and returns its exit status. */
+/** Runs the command that the first argument names, and returns its exit status. */
 export async function main(words) {
+  return run(() => parse(words));
+}
+
+/** Runs one command with these arguments. */
+export async function mainOf(command, words) {
+  return run(() => parseOf(command, words, `jschema-${command}`));
+}
+
+async function run(read) {
   try {
-    const given = parse(words);
-    if (given.help === undefined && !given.version) return await validate(given);
-    writeOutput(given.help ?? await versions());
-    return STATUS.VALID;
+    const given = read();
+    if (given.help !== undefined || given.version) {
+      writeOutput(given.help ?? await versions());
+      return STATUS.VALID;
+    }
+    if (given.command === "validate") return await validate(given);
+    // (Loaded where it is needed, so that a validation starts sooner.)
+    const { lint } = await import("./linting.js");
+    return await lint(given);
   } catch (error) {
     return failure(error);
   }

@@ -1,6 +1,6 @@
 /** Where keywords stand in the files of the schemas. */
 import { pointer } from "../locations.js";
-import { originalAt } from "../resources.js";
+import { Targets } from "../resources.js";
 
 const MOST = 10_000;
 
@@ -8,6 +8,9 @@ const MOST = 10_000;
 export class Places {
   #files;
   #engine;
+  // What URIs name in the files, and the file of each document, once they are walked.
+  #targets;
+  #fileOf;
   #found = new Map();
 
   /** @param {readonly import("./lookup.js").SchemaFile[]} files @param {import("../engine.js").Engine} engine */
@@ -16,30 +19,37 @@ export class Places {
     this.#engine = engine;
   }
 
-  /** Says which keywords of the upgraded schemas will be looked for. Those of a file are then found together. */
+  /** Says which keywords will be looked for. Those of a file are then found together. */
   expect(keywordUris) {
     for (const uri of new Set(keywordUris)) {
-      const { file, place } = this.#original(uri) ?? {};
+      const { file, place } = this.#target(uri) ?? {};
       file?.source.positions(this.#engine).expect([place]);
     }
   }
 
   /** The file and the position of a keyword with an absolute location; undefined if it is in none of the files. */
   find(keywordUri) {
-    const { file, place } = this.#original(keywordUri) ?? {};
+    const { file, place } = this.#target(keywordUri) ?? {};
     if (file === undefined) return undefined;
-    return { file: file.path, position: file.source.positions(this.#engine).name(place).begin };
+    try {
+      return { file: file.path, position: file.source.positions(this.#engine).name(place).begin };
+    } catch (error) {
+      if (error instanceof RangeError) return undefined;
+      throw error;
+    }
   }
 
   /** The file, and the pointer to the keyword in it. */
-  #original(keywordUri) {
+  #target(keywordUri) {
     if (!this.#found.has(keywordUri)) {
       if (this.#found.size >= MOST) this.#found.clear();
-      const files = this.#files.filter((it) => it.document !== undefined);
-      const found = originalAt(keywordUri, files.map((it) => it.document));
-      this.#found.set(keywordUri, found && {
-        file: files.find((it) => it.document === found.document), place: pointer([...found.root, ...found.tokens]),
-      });
+      if (this.#targets === undefined) {
+        const files = this.#files.filter((it) => it.document !== undefined);
+        this.#fileOf = new Map(files.map((it) => [it.document, it]));
+        this.#targets = new Targets(this.#fileOf.keys());
+      }
+      const found = this.#targets.target(keywordUri);
+      this.#found.set(keywordUri, found && { file: this.#fileOf.get(found.document), place: pointer(found.tokens) });
     }
     return this.#found.get(keywordUri);
   }

@@ -1,5 +1,5 @@
 /** What all reports share. */
-import { ERROR, FAILED, STATUS } from "./results.js";
+import { ERROR, FAILED, NOTE, REFUSED, STATUS, WARNING } from "./results.js";
 import { writeError } from "./writing.js";
 
 const CONTROL = /[\x00-\x1f\x7f-\x9f\u2028\u2029]/g;
@@ -10,9 +10,15 @@ export class Report {
   output = undefined;
   /** Whether the tree of the errors is shown. */
   tree = false;
-  // How many results have each status, and how many errors there are.
+  // How many results have each status, and how many problems are of each kind.
   #statuses = [0, 0, 0, 0, 0];
-  #errors = 0;
+  #kinds = { [ERROR]: 0, [WARNING]: 0, [NOTE]: 0, [REFUSED]: 0, [FAILED]: 0 };
+
+  /** @param {string} format @param {"validate" | "lint"} command */
+  constructor(format, command) {
+    this.format = format;
+    this.command = command;
+  }
 
   /** Whether there is anything to write of a result. */
   writes(_result) {
@@ -22,7 +28,7 @@ export class Report {
   /** Writes a result. */
   result(result) {
     this.#statuses[result.status] += 1;
-    this.#errors += result.problems.filter((it) => it.kind === ERROR).length;
+    for (const { kind } of result.problems) this.#kinds[kind] += 1;
     this.writeResult(result);
   }
 
@@ -45,21 +51,29 @@ export class Report {
     return this.#statuses[status];
   }
 
-  /** How many instances came to what. */
+  /** How many instances came to what; of lint, how much was found. */
   summary() {
-    const errors = this.#errors > 0 ? ` (${this.#errors} error${this.#errors === 1 ? "" : "s"})` : "";
-    const parts = [`${this.count(STATUS.VALID)} valid`, `${this.count(STATUS.INVALID)} invalid${errors}`];
-    for (const [status, word] of [[STATUS.REFUSED, "refused"], [STATUS.FAILED, "failed"]]) {
-      if (this.count(status) > 0) parts.push(`${this.count(status)} ${word}`);
-    }
+    const { [ERROR]: errors, [WARNING]: warnings } = this.#kinds;
+    const isLint = this.command === "lint";
+    const parts = isLint ? [ERROR, WARNING, NOTE].map((kind) => counted(this.#kinds[kind], kind))
+      : [`${this.count(STATUS.VALID)} valid`,
+        `${this.count(STATUS.INVALID)} invalid${errors > 0 ? ` (${counted(errors, "error")})` : ""}`];
+    if (!isLint && this.count(STATUS.REFUSED) > 0) parts.push(`${this.count(STATUS.REFUSED)} refused`);
+    if (this.count(STATUS.FAILED) > 0) parts.push(`${this.count(STATUS.FAILED)} failed`);
+    if (!isLint && warnings > 0) parts.push(counted(warnings, "warning"));
     return parts.join(", ");
   }
 }
 
-/** Says on standard error why an instance has no verdict. */
+/** A number of things. */
+export function counted(count, what) {
+  return `${count} ${what}${count === 1 ? "" : "s"}`;
+}
+
+/** Says on standard error why an instance has no verdict, and what else a report leaves out. */
 export function complain({ input, problems }) {
   for (const problem of problems) {
-    if (problem.kind !== ERROR) writeError(`${complaint(input.file, problem)}\n`);
+    if ([REFUSED, FAILED, WARNING].includes(problem.kind)) writeError(`${complaint(input.file, problem)}\n`);
   }
 }
 

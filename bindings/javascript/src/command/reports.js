@@ -12,10 +12,10 @@ const REPORTS = {
   junit: JunitReport,
 };
 
-/** What `--format` may name. */
-export const CHOICES = Object.freeze([...Object.keys(REPORTS), ...FORMATS]);
+/** What `--format` may name, of each command. */
+export const CHOICES = Object.freeze({ lint: Object.keys(REPORTS), validate: [...Object.keys(REPORTS), ...FORMATS] });
 
-/** The report of a format. */
-export function reportFor(format) {
-  return new (REPORTS[format] ?? OutputReport)(format);
+/** The report of a command in a format. */
+export function reportFor(format, command) {
+  return new (REPORTS[format] ?? OutputReport)(format, command);
 }

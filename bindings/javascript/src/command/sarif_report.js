@@ -1,9 +1,10 @@
 /** A report in SARIF 2.1.0 (OASIS), which code scanning reads. */
 import { isAbsolute } from "node:path";
+import { RULES } from "../lint/finding.js";
 import { fileUrl } from "./lookup.js";
 import { upgraded } from "./machine_reports.js";
 import { Report, complain } from "./report.js";
-import { FAILED, REFUSED, STATUS } from "./results.js";
+import { FAILED, NOTE, REFUSED, STATUS, WARNING } from "./results.js";
 import { packageVersion } from "./versions.js";
 import { writeOutput } from "./writing.js";
 
@@ -16,8 +17,8 @@ export class SarifReport extends Report {
   #rules = new Map();
   #notifications = [];
 
-  constructor() {
-    super();
+  constructor(format, command) {
+    super(format, command);
     writeOutput(`{"$schema":"${SCHEMA}","version":"2.1.0","runs":[{"columnKind":"unicodeCodePoints","results":[`);
   }
 
@@ -49,19 +50,22 @@ export class SarifReport extends Report {
   #result(file, problem) {
     const { kind, message, pointer, keywordUri, keywordPlace, error } = problem;
     const rule = kind === REFUSED ? `refused/${problem.rule}` : problem.rule;
-    if (!this.#rules.has(rule)) {
-      this.#rules.set(rule, kind === REFUSED ? "the validator has no verdict on this input"
-        : `the keyword ${rule} of JSON Schema`);
-    }
+    if (!this.#rules.has(rule)) this.#rules.set(rule, this.#description(rule, kind));
     const name = pointer || "root";
     return {
-      ruleId: rule, ruleIndex: [...this.#rules.keys()].indexOf(rule), message: { text: message }, level: "error",
+      ruleId: rule, ruleIndex: [...this.#rules.keys()].indexOf(rule), message: { text: message },
+      level: kind === WARNING || kind === NOTE ? kind : "error",
       locations: [{ physicalLocation: placeOf(file, problem),
         logicalLocations: [{ name, fullyQualifiedName: name }] }],
       ...keywordPlace && { relatedLocations: [related(problem)] },
       ...error && { properties: { keywordLocation: error.keywordLocation, absoluteKeywordLocation: keywordUri,
         ...upgraded(error) } },
     };
+  }
+
+  #description(rule, kind) {
+    if (kind === REFUSED) return "the validator has no verdict on this input";
+    return this.command === "lint" ? RULES[rule] ?? rule : `the keyword ${rule} of JSON Schema`;
   }
 }
 

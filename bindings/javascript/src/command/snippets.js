@@ -12,7 +12,7 @@ const HIDDEN = /[\p{Cc}\p{Cf}\p{Cs}\p{Zl}\p{Zp}]/u;
  * one the surroundings are shown.
  *
  * @param {Uint8Array} given
- * @param {import("./sources.js").Range} where
+ * @param {import("../sources.js").Range} where
  */
 export function snippet(given, { begin: { offset: begin }, end: { offset: last } }) {
   const data = Buffer.from(given.buffer, given.byteOffset, given.length);

@@ -2,7 +2,7 @@
 import { isatty } from "node:tty";
 import { STDERR, writeError } from "./writing.js";
 
-const CODES = { bold: 1, dim: 2, red: 31, blue: 34 };
+const CODES = { bold: 1, dim: 2, red: 31, yellow: 33, blue: 34 };
 const WIDTH = 30;
 // The bar is for more instances than this, and is drawn ten times a second.
 const FEW = 20, PAUSE = 100;

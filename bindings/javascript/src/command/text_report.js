@@ -1,7 +1,7 @@
 /** The report for people: each problem with the line where it is. */
-import { ShortReport } from "./line_reports.js";
+import { COLOURS, ShortReport } from "./line_reports.js";
 import { printable } from "./report.js";
-import { ERROR, FAILED } from "./results.js";
+import { FAILED } from "./results.js";
 import { snippet } from "./snippets.js";
 import { hasColours, painted } from "./terminal.js";
 import { width } from "./width.js";
@@ -14,7 +14,7 @@ import { STDERR, writeError, writeOutput } from "./writing.js";
 export class TextReport extends ShortReport {
   writeResult({ input, problems }) {
     for (const problem of problems) {
-      if (problem.kind === ERROR) writeOutput(shown(input, problem, this.colours));
+      if (this.shows(problem)) writeOutput(shown(input, problem, this.colours));
       else writeError(shown(input, problem, hasColours(STDERR)));
     }
   }
@@ -23,15 +23,15 @@ export class TextReport extends ShortReport {
 /** A problem as it is shown to people. */
 function shown({ file: name, source }, problem, colours) {
   const { kind, rule, message, range, pointer } = problem;
-  const file = printable(name);
-  if (kind === FAILED) return `${painted("failed", "red", colours)}: ${file}: ${printable(message)}\n\n`;
+  const file = printable(name), colour = COLOURS[kind];
+  if (kind === FAILED) return `${painted("failed", colour, colours)}: ${file}: ${printable(message)}\n\n`;
   const number = String(range.begin.line);
   const margin = " ".repeat(number.length);
   const blue = (text) => painted(text, "blue", colours);
   const { before, meant, after } = snippet(source.data, range);
-  const mark = painted("^".repeat(Math.max(1, width(meant))), "red", colours);
+  const mark = painted("^".repeat(Math.max(1, width(meant))), colour, colours);
   const lines = [
-    `${painted(`${kind}[${printable(rule)}]`, "red", colours)}: ${painted(printable(message), "bold", colours)}`,
+    `${painted(`${kind}[${printable(rule)}]`, colour, colours)}: ${painted(printable(message), "bold", colours)}`,
     `${margin}${blue("-->")} ${file}:${number}:${range.begin.column}`,
     `${margin} ${blue("|")}`,
     `${blue(number)} ${blue("|")} ${`${before}${meant}${after}`.trimEnd()}`.trimEnd(),

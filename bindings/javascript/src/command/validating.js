@@ -16,13 +16,14 @@ import { writeError } from "./writing.js";
 /** Validates files, and reports what is wrong with them. Returns the exit status. */
 export async function validate(given) {
   const files = filesOf(given.files, given.input, given.lines);
-  const report = reportFor(given.format);
+  const report = reportFor(given.format, "validate");
   const documents = documentsOf(given);
   const engine = await sharedEngine();
   let schemas;
   try {
-    const { defaultDialect, upgrade } = given;
-    schemas = await Schemas.create(documents.map((it) => [it.uri, it.source.json]), { defaultDialect, upgrade });
+    const { defaultDialect, upgrade, rewriting } = given;
+    schemas = await Schemas.create(documents.map((it) => [it.uri, it.source.json]),
+      { defaultDialect, upgrade, ...rewriting });
   } catch (error) {
     if (!(error instanceof Refused)) throw error;
     report.refusedSchema(refusedSchema(documents, error, engine));
@@ -31,9 +32,14 @@ export async function validate(given) {
   noteUpgrade(documents);
   const places = new Places(documents, engine);
   const { output, tree } = report;
-  const checker = new Checker({ schemas, entry: documents[0].uri, engine, places, output, tree });
+  const { formats } = given;
+  const checker = new Checker({ schemas, entry: documents[0].uri, engine, places, output, tree, formats });
   const progress = new Progress(given.lines ? undefined : files.length);
-  return reported(report, progress, checker, inputs(files, given.input, given.lines));
+  return reported(report, progress, resultsOf(checker, inputs(files, given.input, given.lines)));
+}
+
+function* resultsOf(checker, given) {
+  for (const input of given) yield checker.result(input);
 }
 
 /** Says once that documents of older drafts were upgraded. */
@@ -53,10 +59,9 @@ function refusedSchema(documents, refused, engine) {
 }
 
 /** Reports each result as it comes. The worst of them makes the exit status. */
-function reported(report, progress, checker, given) {
+export function reported(report, progress, results) {
   let status = STATUS.VALID, count = 0;
-  for (const input of given) {
-    const result = checker.result(input);
+  for (const result of results) {
     if (report.writes(result)) progress.clear();
     report.result(result);
     count += 1;

@@ -1,6 +1,8 @@
 // What the types allow and refuse: compiled by `tsc`, never run.
-import { FORMATS, OutOfMemory, Refused, Schemas, Stopped, Text, compile, textOf } from "jschema";
+import { FORMATS, OutOfMemory, Refused, Schemas, Stopped, Text, compile, textOf, upgrade } from "jschema";
 import type { AjvError, Format, Output, Position, ValidationError } from "jschema";
+import { lint, RULES } from "jschema/lint";
+import type { Rule } from "jschema/lint";
 import { WorkerSchemas } from "jschema/worker";
 
 export async function use(bytes: Uint8Array): Promise<void> {
@@ -24,8 +26,16 @@ export async function use(bytes: Uint8Array): Promise<void> {
   const older = await compile({ items: [{}] }, { defaultDialect: "draft-07" });
   const refusing = await Schemas.create({ "urn:x": "true" }, { upgrade: false });
   const worker = await WorkerSchemas.create({ "urn:x": "true" }, { seconds: 1, applications: 8 });
+  const upgraded: Record<string, string> = await upgrade({ "urn:x": "true" }, { defaultDialect: "draft-07" });
+  const exact = await Schemas.create({ "urn:x": "true" }, { patterns: "ecma", numbers: "texts" });
+  const written: string | undefined = exact.writtenSchema("urn:x#");
+  const tree: Output = exact.tree("urn:x", "1");
+  const findings = await lint("{}", "urn:x", { others: { "urn:y": "true" }, numbers: "exact" });
+  const about: [Rule, string, number, string | undefined][] =
+    findings.map((it) => [it.rule, RULES[it.rule], it.range.begin.line, it.suggestion]);
   const inWorker: Promise<boolean> = worker.isValid("urn:x", "1");
   console.log(valid, places, output, text, format, position, end, found, inWorker, textOf(1n), older, refusing);
+  console.log(written, tree, about, upgraded);
 
   // @ts-expect-error: no such format
   schemas.output("urn:x", "1", "xml");
@@ -39,6 +49,10 @@ export async function use(bytes: Uint8Array): Promise<void> {
   await Schemas.create({}, { nodes: "1000" });
   // @ts-expect-error: no such dialect
   await Schemas.create({}, { defaultDialect: "draft-05" });
+  // @ts-expect-error: no such patterns
+  await Schemas.create({}, { patterns: "regex" });
+  // @ts-expect-error: no such numbers
+  await lint("{}", "urn:x", { numbers: "whole" });
   // @ts-expect-error: `create` makes schemas
   new Schemas();
   // @ts-expect-error: `positions` makes texts

@@ -1,0 +1,4 @@
+#!/usr/bin/env node
+import { mainOf } from "../src/command/main.js";
+
+process.exitCode = await mainOf("lint", process.argv.slice(2));
