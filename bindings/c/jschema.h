@@ -147,6 +147,12 @@ uint32_t jschema_add(jschema *handle, const uint8_t *uri, size_t uri_length,
    After anything but JSCHEMA_DONE the documents are as before. */
 uint32_t jschema_upgrade(jschema *handle, const uint8_t *dialect, size_t dialect_length);
 
+/* Leaves a document as the text: that with this number, 0 for the first that was added, as the handle holds it. After
+   jschema_upgrade that is the upgraded document. It is compact JSON with a line feed at its end; the names of each
+   object ascend by their bytes.
+   JSCHEMA_MISUSED: the handle is empty or finished, or there is no such document. */
+uint32_t jschema_document(jschema *handle, size_t number);
+
 /* Checks the documents together and finishes them. Afterwards none can be added.
    JSCHEMA_MISUSED: the handle is empty or finished.
    JSCHEMA_REFUSED: a document is refused, as for a reference that leads nowhere. Documents can still be added.

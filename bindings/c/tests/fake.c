@@ -52,6 +52,8 @@ uint32_t jschema_upgrade(jschema *handle, const uint8_t *dialect, size_t dialect
     return (void)handle, (void)dialect, (void)dialect_length, act();
 }
 
+uint32_t jschema_document(jschema *handle, size_t number) { return (void)handle, (void)number, act(); }
+
 uint32_t jschema_finish(jschema *handle) { return (void)handle, act(); }
 
 uint32_t jschema_places(jschema *handle) { return (void)handle, act(); }

@@ -51,6 +51,7 @@ int main(void) {
     STEP("add", jschema_add(&handle, TEXT("https://example.com/t"), TEXT(OLDER)));
     STEP("refused dialect", jschema_finish(&handle));
     STEP("upgrade", jschema_upgrade(&handle, TEXT("")));
+    STEP("document", jschema_document(&handle, 1));
     STEP("finish", jschema_finish(&handle));
     STEP("places", jschema_places(&handle));
     STEP("refused entry", jschema_entry(&handle, TEXT("https://example.com/u"), &entry));

@@ -116,6 +116,32 @@ static void test_together(void) {
     jschema_free(&handle);
 }
 
+/* The text of each document: as it was added, but compact and with ascending names, and as it is upgraded. */
+static void test_documents(void) {
+    jschema handle = JSCHEMA_EMPTY;
+    expect("an empty handle", &handle, jschema_document(&handle, 0), JSCHEMA_MISUSED, "");
+    jschema_new(&handle);
+    expect("no document", &handle, jschema_document(&handle, 0), JSCHEMA_MISUSED, "");
+    jschema_add(&handle, URI, TEXT("{\"minimum\": 3,\n \"$schema\": \"" LATEST "\"}"));
+    jschema_add(&handle, OTHER, TEXT("{\"$schema\": \"" SEVEN "\", \"definitions\": {\"\u00e9\": true}}"));
+    expect("the first", &handle, jschema_document(&handle, 0), JSCHEMA_DONE,
+           "{\"$schema\":\"" LATEST "\",\"minimum\":3}\n");
+    expect("the second", &handle, jschema_document(&handle, 1), JSCHEMA_DONE,
+           "{\"$schema\":\"" SEVEN "\",\"definitions\":{\"\u00e9\":true}}\n");
+    expect("no third", &handle, jschema_document(&handle, 2), JSCHEMA_MISUSED, "");
+    expect("none of a great number", &handle, jschema_document(&handle, SIZE_MAX), JSCHEMA_MISUSED, "");
+    expect_no_refusal("of a document", &handle);
+    expect_upgrade("upgrade", &handle, "", JSCHEMA_DONE, "");
+    expect("the first stays", &handle, jschema_document(&handle, 0), JSCHEMA_DONE,
+           "{\"$schema\":\"" LATEST "\",\"minimum\":3}\n");
+    expect("the second is of 2020-12", &handle, jschema_document(&handle, 1), JSCHEMA_DONE,
+           "{\"$defs\":{\"\u00e9\":true},\"$schema\":\"" LATEST "\"}\n");
+    expect("finish", &handle, jschema_finish(&handle), JSCHEMA_DONE, "");
+    expect("a finished handle", &handle, jschema_document(&handle, 0), JSCHEMA_MISUSED, "");
+    jschema_free(&handle);
+    expect("a freed handle", &handle, jschema_document(&handle, 0), JSCHEMA_MISUSED, "");
+}
+
 /* A URI that names no dialect, whatever the documents are: nothing changes. */
 static void test_misused(void) {
     jschema handle = JSCHEMA_EMPTY;
@@ -201,6 +227,7 @@ int main(void) {
     test_assumed();
     test_unchanged();
     test_together();
+    test_documents();
     test_misused();
     test_refused();
     test_long_uris();

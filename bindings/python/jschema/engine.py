@@ -41,8 +41,12 @@ class Engine(Protocol):
     def is_valid(self, entry: str, instance: bytes) -> bool:
         """Whether a JSON text is valid against the schema with this URI."""
 
+    def valid_lines(self, entry: str, text: bytes, begin: int) -> tuple[int, int]:
+        """How many lines of a text are valid one after another, from the one on that begins at a byte, and the byte
+        after them. A line ends with a line feed. An engine may take fewer than there are."""
+
     def check(self, entry: str, instance: bytes, format: str) -> Answer:
-        """The same, with the output in a format: one of `FORMATS`."""
+        """The verdict of `is_valid`, with the output in a format: one of `FORMATS`."""
 
     def locate(self, text: bytes, pointers: Sequence[str]) -> Optional[Sequence[Optional[Located]]]:
         """Where the values at JSON Pointers stand in a JSON text; None for one that isn't there. None for all where the

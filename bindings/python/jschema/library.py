@@ -94,6 +94,7 @@ def _load(path: str) -> ctypes.CDLL:
                 ("new", c_uint32, (handle,)),
                 ("add", c_uint32, (handle, c_char_p, c_size_t, c_char_p, c_size_t)),
                 ("upgrade", c_uint32, (handle, c_char_p, c_size_t)),
+                ("document", c_uint32, (handle, c_size_t)),
                 ("finish", c_uint32, (handle,)),
                 ("places", c_uint32, (handle,)),
                 ("entry", c_uint32, (handle, c_char_p, c_size_t, POINTER(c_size_t))),
@@ -116,6 +117,14 @@ def _load(path: str) -> ctypes.CDLL:
     if on_large_stack(_located, library, b"[1]", ["/0"]) != [Located(Position(1, 1, 2), 2, None)]:
         raise EngineError(f"{path} says positions in another form: build it again (tools/build-library)")
     return library
+
+
+@lru_cache(maxsize=None)
+def _check_at(library: ctypes.CDLL) -> Any:
+    """`jschema_check` of an instance that is a part of a text, at its address."""
+    call = library["jschema_check"]
+    call.restype, call.argtypes = c_uint32, (POINTER(_Handle), c_size_t, c_void_p, c_size_t, c_uint32)
+    return call
 
 
 class _Schemas:
@@ -147,6 +156,13 @@ class _Schemas:
         name = _encoded(dialect)
         self._done(self._library.jschema_upgrade(self._handle, name, len(name)))
 
+    def documents(self) -> list[bytes]:
+        return [self._document(number) for number in range(len(self.uris))]
+
+    def _document(self, number: int) -> bytes:
+        self._done(self._library.jschema_document(self._handle, number))
+        return self._text()
+
     def finish(self) -> None:
         self._done(self._library.jschema_finish(self._handle))
 
@@ -173,6 +189,21 @@ class _Schemas:
         if status > _INVALID:
             self._done(status)
         return status == _DONE
+
+    def valid_lines(self, entry: str, text: bytes, begin: int) -> tuple[int, int]:
+        number = self._entries.get(entry)
+        if number is None:
+            number = self._look_up(entry)
+        # (The lines are checked where they are: to make a text of each takes as long as to call the library.)
+        at = ctypes.cast(c_char_p(text), c_void_p).value or 0
+        check, handle = _check_at(self._library), byref(self._handle)
+        count = 0
+        while begin < len(text):
+            end = text.find(b"\n", begin)
+            if end < 0 or check(handle, number, at + begin, end - begin, _FLAG) != _DONE:
+                break
+            count, begin = count + 1, end + 1
+        return count, begin
 
     def _look_up(self, entry: str) -> c_size_t:
         name, number = _encoded(entry), c_size_t()
@@ -256,6 +287,10 @@ class LibraryEngine:
     def upgrade(self, dialect: str) -> None:
         on_large_stack(self._first.upgrade, dialect)
 
+    def documents(self) -> list[bytes]:
+        """The texts of the documents, in their order, until they are finished: after an upgrade the upgraded ones."""
+        return on_large_stack(self._first.documents)
+
     def finish(self) -> None:
         on_large_stack(self._first.finish)
 
@@ -264,6 +299,9 @@ class LibraryEngine:
 
     def is_valid(self, entry: str, instance: bytes) -> bool:
         return cast(bool, on_large_stack(self._with_handle, _Schemas.verdict, entry, instance))
+
+    def valid_lines(self, entry: str, text: bytes, begin: int) -> tuple[int, int]:
+        return cast(tuple[int, int], on_large_stack(self._with_handle, _Schemas.valid_lines, entry, text, begin))
 
     def check(self, entry: str, instance: bytes, format: str) -> Answer:
         return cast(Answer, on_large_stack(self._with_handle, _Schemas.check, entry, instance, format))

@@ -5,7 +5,7 @@ from collections.abc import Iterable, Sequence
 from typing import Any, NamedTuple, Optional
 
 from .dialects import LATEST, dialect_named
-from .locations import LISTS, OBJECTS
+from .locations import LISTS, OBJECTS, steps
 
 _FOUR, _SIX, _NINETEEN = 1, 2, 4
 #: What a value is: a schema, a list or an object of schemas, or neither.
@@ -34,10 +34,12 @@ class Original(NamedTuple):
 def original(value: Any, tokens: Sequence[str], dialect: int) -> Optional[Original]:
     """What stands, in a document of a dialect, at the place that in the upgraded document has these tokens. None where
     nothing does."""
-    found: list[str] = []
-    left = [*tokens]
+    found = _copied(value, tokens, dialect)
+    left = [*tokens[2 if found else 0:]]
     holding = SCHEMA
     try:
+        for token in found:
+            value = value[int(token)] if isinstance(value, list) else value[token]
         while left:
             if holding == SCHEMA and isinstance(value, str):
                 # (The name of a type, of which the upgrade made a schema.)
@@ -51,16 +53,29 @@ def original(value: Any, tokens: Sequence[str], dialect: int) -> Optional[Origin
                     del left[:3]
                     token = keyword = left.pop(0) if left else keyword
                 holding, below = _held(value[keyword], token, keyword, left)
-                steps = [keyword, *below]
+                way = [keyword, *below]
             else:
                 holding = SCHEMA if holding == SEVERAL else VALUE
-                steps = [token]
-            for step in steps:
+                way = [token]
+            for step in way:
                 value = value[int(step)] if isinstance(value, list) else value[step]
-            found += steps
+            found += way
     except (LookupError, ValueError, TypeError):
         return None
     return Original(tuple(found), value, dialect)
+
+
+def _copied(root: Any, tokens: Sequence[str], dialect: int) -> list[str]:
+    """The place of what is copied, if the first two tokens lead to a copy among the definitions of a document."""
+    if dialect == LATEST or len(tokens) < 2 or tokens[0] != "$defs" or not isinstance(root, dict):
+        return []
+    name, kept = tokens[1], root.get("$defs")
+    definitions = kept if dialect == _NINETEEN else root.get("definitions")
+    if isinstance(definitions, dict) and name in definitions:
+        return []
+    if name.startswith("/"):
+        return steps(name)
+    return ["$defs", name] if isinstance(kept, dict) and name in kept else []
 
 
 def own_dialect(schema: dict[str, Any], around: int) -> int:

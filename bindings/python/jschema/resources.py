@@ -94,20 +94,30 @@ def document_with(uri: str, source: Source, value: Any, assumed: int = LATEST) -
     return made
 
 
-def target(uri: str, documents: Sequence[Document]) -> Optional[Target]:
-    """What the fragment of a URI names in the documents: by a JSON Pointer, it may be less than a schema."""
-    resource = document_of(uri)
-    try:
-        named = unquote(fragment_of(uri), errors="strict")
-    except UnicodeDecodeError:
-        return None
-    for document in documents:
-        if named and not named.startswith("/"):
-            if (anchored := document.targets.get(f"{resource}#{named}")) is not None:
-                return Target(document, anchored)
-        elif (root := document.targets.get(resource)) is not None:
-            return Target(document, (*root, *steps(named)))
-    return None
+class Targets:
+    """What URIs name in documents that refer to one another. (The first of two with one URI has it.)"""
+
+    def __init__(self, documents: Iterable[Document]) -> None:
+        self._named: dict[str, Target] = {}
+        for document in documents:
+            for name, tokens in document.targets.items():
+                self._named.setdefault(name, Target(document, tokens))
+
+    def has_resource(self, uri: str) -> bool:
+        """Whether a document, or a resource in one, has the URI."""
+        return uri in self._named
+
+    def target(self, uri: str) -> Optional[Target]:
+        """What the fragment of a URI names: by a JSON Pointer, it may be less than a schema."""
+        resource = document_of(uri)
+        try:
+            fragment = unquote(fragment_of(uri), errors="strict")
+        except UnicodeDecodeError:
+            return None
+        if fragment and not fragment.startswith("/"):
+            return self._named.get(f"{resource}#{fragment}")
+        root = self._named.get(resource)
+        return None if root is None else root._replace(tokens=(*root.tokens, *steps(fragment)))
 
 
 def value_of(target: Target) -> Any:

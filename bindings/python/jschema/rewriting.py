@@ -15,7 +15,7 @@ from .interface import REWRITING
 from .limits import LARGEST_TEXT
 from .numbers import Number, exact_text, exact_value, is_taken, number, without_floats, written
 from .numbers_keywords import exact, texts
-from .resources import Document, document, document_with, target
+from .resources import Document, Targets, document, document_with
 from .restoring import Place, Restoring
 from .sources import JsonSource
 from .uris import fragment_of, joined, with_pointer
@@ -106,8 +106,7 @@ class Rewriting:
                                  if isinstance(schema.value.get(_NAMES), dict)))
         for it in self.documents.values():
             self._rewrite(it)
-        for it in self.documents.values():
-            self._refer(it)
+        self._refer()
         made = [(uri, self._text(index, text)) for index, (uri, text) in enumerate(given)]
         self.restoring = Restoring(self.documents, {now: name for name, now in self._names.items()})
         return made
@@ -188,26 +187,19 @@ class Rewriting:
             self._names[name] = text
         return self._names[name]
 
-    def _refer(self, made: Rewritten) -> None:
+    def _refer(self) -> None:
         """Rewrites the references that lead through names that are others now."""
-        for schema in made.document.schemas if self._names else ():
-            for keyword, reference in [*schema.references()]:
-                referred = self._referred(reference, joined(schema.base, reference))
-                if referred != reference:
-                    schema.value[keyword] = referred
-                    made.changes.append((schema.tokens, Change((keyword,), (keyword,))))
-
-    def _referred(self, reference: str, uri: str) -> str:
-        """A reference to what has this URI."""
-        fragment = fragment_of(uri)
-        found = target(uri, [it.document for it in self.documents.values()]) if _NAMES in fragment else None
-        if found is None or not fragment.startswith("/"):
-            return reference
-        made = next(it for it in self.documents.values() if it.document is found.document).now(found.tokens)
-        if made == found.tokens:
-            return reference
-        length = fragment.count("/")
-        return with_pointer(reference, made[len(made) - length:])
+        if not self._names:
+            return
+        made_of = {id(it.document): it for it in self.documents.values()}
+        targets = Targets(it.document for it in self.documents.values())
+        for made in self.documents.values():
+            for schema in made.document.schemas:
+                for keyword, reference in [*schema.references()]:
+                    referred = _referred(reference, joined(schema.base, reference), targets, made_of)
+                    if referred != reference:
+                        schema.value[keyword] = referred
+                        made.changes.append((schema.tokens, Change((keyword,), (keyword,))))
 
     def _text(self, index: int, text: bytes) -> bytes:
         made = self.documents.get(index)
@@ -218,6 +210,18 @@ class Rewriting:
         except UnicodeEncodeError:
             # (A lone surrogate is refused.)
             return text
+
+
+def _referred(reference: str, uri: str, targets: Targets, made_of: dict[int, Rewritten]) -> str:
+    """A reference to what has this URI."""
+    fragment = fragment_of(uri)
+    found = targets.target(uri) if _NAMES in fragment and fragment.startswith("/") else None
+    if found is None:
+        return reference
+    made = made_of[id(found.document)].now(found.tokens)
+    if made == found.tokens:
+        return reference
+    return with_pointer(reference, made[len(made) - fragment.count("/"):])
 
 
 def _has_old_integers(uri: str, text: bytes, assumed: int) -> bool:

@@ -7,13 +7,12 @@ from typing import Any, Callable, NoReturn, Optional, TypeVar
 
 from .documents import Documents, is_uri_text, texts_of
 from .engine import FORMATS, Answer, Engine
+from .engines import default_engine
 from .errors import Refused, ValidationError, best_first
-from .library import LibraryEngine, find_library
 from .meanings import explain
 from .metaschemas import ALL, LATEST_ALONE, metaschemas_for
 from .outputs import malformed, parse
 from .positions import Text
-from .program import ProgramEngine
 from .rewriting import Rewriting
 from .upgrading import Originals, Upgrade
 from .values import Instance, text_of
@@ -49,7 +48,7 @@ class Schemas:
                  upgrade: bool = True, patterns: Optional[str] = None, numbers: Optional[str] = None) -> None:
         upgrading = Upgrade(default_dialect, upgrade)
         self._rewriting = Rewriting(patterns, numbers)
-        self._engine: Optional[Engine] = _default_engine() if engine is None else engine
+        self._engine: Optional[Engine] = default_engine() if engine is None else engine
         self._originals: Optional[Originals] = None
         texts: list[tuple[str, bytes]] = []
         try:
@@ -79,6 +78,12 @@ class Schemas:
     def is_valid(self, entry: str, instance: Instance) -> bool:
         """Whether an instance is valid. No output is made, so this is the quickest call."""
         return self._judge(self._asked(entry).is_valid, entry, text_of(self._rewriting.value(instance)))
+
+    def valid_lines(self, entry: str, text: bytes, begin: int = 0) -> tuple[int, int]:
+        """How many lines of a text are valid instances one after another, from the one on that begins at a byte, and
+        the byte after them. A line ends with a line feed. So many instances are checked quickest; why the next line
+        isn't one of them, the other calls say. (An engine that isn't the library's takes none.)"""
+        return self._asked(entry).valid_lines(self._rewriting.entry(entry), text, begin)
 
     def errors(self, entry: str, instance: Instance) -> list[ValidationError]:
         """The errors of the `basic` output, in its order; none for a valid instance."""
@@ -181,14 +186,6 @@ class Schemas:
         if self._engine is None:
             raise ValueError("these Schemas are closed")
         return self._engine
-
-
-def _default_engine() -> Engine:
-    """The library's engine, or that of the program where there is no library."""
-    library = find_library()
-    if library is None:
-        return ProgramEngine()
-    return LibraryEngine(library)
 
 
 def _errors_in(answer: Answer, text: Text) -> list[ValidationError]:

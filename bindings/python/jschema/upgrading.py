@@ -9,12 +9,12 @@ from typing import Optional
 
 from .dialects import LATEST, URIS, dialect_called, dialect_of
 from .documents import Documents, texts_of
-from .errors import Refused, UpgraderNotFound
+from .engines import default_engine
+from .errors import Refused
 from .locations import pointer, steps
 from .meanings import explain
 from .metaschemas import ALL, metaschemas_for
 from .originals import original
-from .program import ProgramEngine, find_program, find_upgrader
 from .resources import Document, document, original_location
 from .sources import read
 
@@ -31,16 +31,12 @@ def upgrade(documents: Documents, *, default_dialect: Optional[str] = None) -> d
     """Schema documents as documents of 2020-12: a JSON text for each URI, in the order of the documents.
 
     They are upgraded together, since a reference may lead into another document. One that names no dialect is of the
-    `default_dialect`, as for `Schemas`. The program `jschema-upgrade` does it, which stands beside `jschema` where that
-    is installed. Raises `Refused` for a document that can't be upgraded, and `EngineError` without the program.
+    `default_dialect`, as for `Schemas`. The library does it, or without it the program `jschema-upgrade` beside
+    `jschema`. Raises `Refused` for a document that can't be upgraded, and `EngineError` where there is neither.
     """
     given = texts_of(documents)
     texts = [*given, *metaschemas_for(given, ALL)]
-    program = find_program()
-    if find_upgrader(program) is None:
-        raise UpgraderNotFound("documents are upgraded by the program jschema-upgrade, and there is none beside "
-                               f"{program} (tools/install in its repository installs both)")
-    engine = ProgramEngine(program)
+    engine = default_engine()
     try:
         for uri, text in texts:
             engine.add(uri, text)

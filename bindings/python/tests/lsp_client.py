@@ -19,6 +19,13 @@ def once(test):
         test.skipTest("no library")
 
 
+def folder_of(test):
+    """A folder that goes when the test ends."""
+    folder = tempfile.TemporaryDirectory()
+    test.addCleanup(folder.cleanup)
+    return Path(folder.name).resolve()
+
+
 class Client:
     """A server's process, and what it sends."""
 
@@ -153,9 +160,7 @@ class Session(unittest.TestCase):
     def setUp(self):
         if not self.with_both:
             once(self)
-        folder = tempfile.TemporaryDirectory()
-        self.addCleanup(folder.cleanup)
-        self.folder = Path(folder.name).resolve()
+        self.folder = folder_of(self)
         for name, text in FILES.items():
             self.write(name, text)
         self.client = Client(self.folder, *self.ARGUMENTS)

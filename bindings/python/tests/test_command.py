@@ -29,14 +29,17 @@ MISUSES = (
     (["validate", "--jobs=999", "x"], "argument --jobs: '999' isn't a number from 1 to 256\n"),
     (["validate", "--ref", "urn:x=data", "schema.json", "two.json"],
      "data is a folder: name the file of one schema after --ref\n"),
-)
-# Those of this command alone.
-OWN_MISUSES = (
+    ([*SOME, "--patterns", "pcre", "two.json"], "argument --patterns: invalid choice: 'pcre' (choose from "),
+    ([*SOME, "--numbers=all", "two.json"], "argument --numbers: invalid choice: 'all' (choose from "),
     ([], "name the command: validate or lint\n"),
     (["check"], "no command 'check': there are validate and lint\n"),
     (["lint"], "the following arguments are required: SCHEMA\n"),
     (["lint", "--format", "basic", "schema.json"], "argument --format: invalid choice: 'basic' (choose from "),
+    (["lint", "--lines", "schema.json"], "unrecognized arguments: --lines\n"),
     (["lint", ""], "a SCHEMA has an empty name"),
+)
+# Those of this command alone.
+OWN_MISUSES = (
     ([*SOME, "--ref", "urn:\udcff=string.json", "two.json"], "the URI 'urn:\\udcff' isn't UTF-8"),
 )
 NO_INPUT = "<stdin>: failed: standard input is closed\n0 valid, 0 invalid, 1 failed\n"

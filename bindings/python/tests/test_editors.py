@@ -5,12 +5,11 @@ import re
 import shutil
 import subprocess
 import sys
-import tempfile
 import unittest
 from pathlib import Path
 
 from editors import EMACS, NEOVIM
-from lsp_client import PERSON, once
+from lsp_client import PERSON, folder_of, once
 
 try:
     import tomllib
@@ -53,9 +52,7 @@ def has_eglot():
 class Editors(unittest.TestCase):
     def setUp(self):
         once(self)
-        folder = tempfile.TemporaryDirectory()
-        self.addCleanup(folder.cleanup)
-        self.folder = Path(folder.name).resolve()
+        self.folder = folder_of(self)
         self.write("schemas/person.schema.json", PERSON)
         self.write("schemas/address.schema.json", "{}")
         self.write("ada.person.json", ADA)

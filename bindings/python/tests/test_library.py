@@ -1,6 +1,8 @@
 """The engine of the library: which it takes, and its handles beside threads, forks, signals and on small stacks."""
+import itertools
 import json
 import os
+import random
 import subprocess
 import sys
 import unittest
@@ -96,6 +98,22 @@ class Handles(Case):
             self.assertLessEqual(len(kept), 1000)
             self.assertLessEqual(sum(map(len, kept)), 1 << 20)
             self.assertFalse(schemas.is_valid(f"{URI}#/$defs/a", 1))
+
+    def test_valid_lines(self):
+        """So many lines follow one another of which each is valid alone; one without an end doesn't count."""
+        numbers = random.Random(1)
+        verdicts = {b"1": True, b" [-1]\r": True, b"\"\xc3\xa9\"": True, b"-1": False, b"": False, b"0.5": False}
+        with jschema.Schemas({URI: {"minimum": 0}}, engine=jschema.LibraryEngine()) as schemas:
+            for _ in range(1000):
+                lines = numbers.choices([*verdicts], [4, 4, 4, 1, 1, 1], k=numbers.randrange(10))
+                first = numbers.randrange(len(lines) + 1)
+                begin = len(b"".join(line + b"\n" for line in lines[:first]))
+                valid = list(itertools.takewhile(verdicts.get, lines[first:]))
+                text = b"".join(line + b"\n" for line in lines) + numbers.choice((b"", b"1"))
+                end = begin + sum(len(line) + 1 for line in valid)
+                self.assertEqual(schemas.valid_lines(URI, text, begin), (len(valid), end), (text, begin))
+            with self.assertRaises(jschema.Refused):
+                schemas.valid_lines(f"{URI}#none", b"1\n")
 
     def test_room_of_a_large_text(self):
         self.assertEqual(self.printed(f"""

@@ -1,9 +1,12 @@
 """What lint finds in schemas, and where."""
+import importlib.util
 import json
 import unittest
+from unittest import mock
 
 import jschema
 from commands import Case
+from jschema.errors import Refused
 from jschema.library import find_library
 from jschema.lint import RULES, lint, lint_all
 from lsp_client import once
@@ -103,6 +106,7 @@ REWRITTEN = (
     ({"pattern": "^(?!a)x[b-a]"}, ("pattern", "error", "of ECMA-262 (see character 12)", "/pattern")),
     ({"pattern": r"^(?!a)\p{L}\p{Graph}"}, ("pattern", "error", r"`\p{Graph}` at 12 is a property", "/pattern")),
     ({"pattern": r"^(?:\p{L}{1000}){1000}$"}, ("pattern", "error", "takes too much memory", "/pattern")),
+    ({"pattern": "a" * 5001 + r"\p{Graph}"}, ("pattern", "error", r"`\p{Graph}` at 5002 is a property", "/pattern")),
     ({"patternProperties": {ALONE: {}}},
      ("pattern", "error", "`(?=` at 2 is a look-ahead, which needs a name alone", f"/patternProperties/{ALONE}")),
     ({"patternProperties": {r"^\d$": {"pattern": "("}, ALONE: {}}, "additionalProperties": False},
@@ -207,30 +211,20 @@ class Rules(unittest.TestCase):
 
     def test_parts(self):
         """Of a pattern the part is meant that isn't read, as it is written."""
-        for text, kind, line, begin, end in (
-                (r'{"pattern": "é\u00e9\ud83d\ude00(a)\\1b"}', "json", 1, 36, 39),
-                (r'{"patternProperties": {"(?>é)": {}}}', "json", 1, 25, 28),
-                ("patternProperties:\n  '(a)\\1':\n    title: a", "yaml", 2, 7, 9),
-                ("pattern: é(a)\\1", "yaml", 1, 14, 16),
-                (r'pattern: "\x41(a)\\1"', "yaml", 1, 10, 22), ('{"pattern": "(b"}', "json", 1, 13, 17),
-                (r'{"pattern": "b\"[b-a]a"}', "json", 1, 21, 22), (r'{"pattern": "\\p{Graph}"}', "json", 1, 14, 24)):
+        for text, begin, end in (
+                (r'{"pattern": "é\u00e9\ud83d\ude00(a)\\1b"}', 36, 39), (r'{"pattern": "\\p{Graph}"}', 14, 24),
+                (r'{"patternProperties": {"(?>é)": {}}}', 25, 28), (r'{"pattern": "b\"[b-a]a"}', 21, 22),
+                ('{"pattern": "(b"}', 13, 17), ('{"pattern": "😀(a)\\\\1"}', 18, 21)):
             with self.subTest(text):
-                try:
-                    [finding] = lint(text.encode(), URI, kind=kind, **OPTIONS)
-                except ImportError as error:
-                    self.skipTest(str(error))
-                self.assertEqual((finding.range.begin[1:], finding.range.end[1:]), ((line, begin), (line, end)))
+                [finding] = lint(text.encode(), URI, **OPTIONS)
+                self.assertEqual((finding.range.begin[1:], finding.range.end[1:]), ((1, begin), (1, end)))
 
     def test_broken(self):
-        for text, kind, line, column in ((b'{"a":\n }', "json", 2, 2), (b"a: [", "yaml", 1, 5), (b"a =", "toml", 1, 4),
-                                         (b"a: 1\n---\nb: 1", "yaml", 3, 1)):
+        for text, line, column in ((b'{"a":\n }', 2, 2), (b"", 1, 1), (b'\n\xff', 2, 1)):
             with self.subTest(text):
-                try:
-                    [finding] = lint(text, URI, kind=kind)
-                except ImportError as error:
-                    self.skipTest(str(error))
+                [finding] = lint(text, URI)
                 self.assertEqual((finding.rule, finding.severity), ("not-json", "error"))
-                self.assertEqual(finding.range.begin.line, line)
+                self.assertEqual(finding.range.begin[1:], (line, column))
 
     def test_what_only_python_reads(self):
         """What else is found has its place too, and the text is refused where it ceases to be JSON."""
@@ -258,10 +252,60 @@ class Rules(unittest.TestCase):
                          [["refused"], ["pattern"], [], ["not-json"], [], []])
 
 
+    def test_many(self):
+        """As of a few: what each is refused for, also for want of another one, and what others refer to in it."""
+        kinds = [({"type": 1}, "refused"), ({"$ref": "absent"}, "unresolved-reference"), ({"pattern": "("}, "pattern"),
+                 ({"$ref": "{}#/$defs/a"}, None), ({"type": "array", "$defs": {"a": {}}}, None),
+                 ({"type": "array", "$defs": {"a": {}}}, "unused-definition")]
+        texts, expected = [], []
+        for number in range(40):
+            for index, (schema, rule) in enumerate(kinds):
+                text = json.dumps(schema).replace("{}#", f"https://a.example/{number}/{index + 1}#")
+                texts.append((f"https://a.example/{number}/{index}", text.encode(), "json"))
+                expected.append([] if rule is None else [rule])
+        self.assertEqual([[it.rule for it in findings] for findings in lint_all(texts)], expected)
+
+
+class Growth(unittest.TestCase):
+    def test_questions(self):
+        """However many are refused, the validator gets each document a few times."""
+        given = []
+
+        def judged(documents, options=None):
+            given.append(len(documents))
+            refused = next((index for index, (_, text) in enumerate(documents) if b"1" in text), None)
+            return None if refused is None else Refused("document", "BadKeyword", "/type", index=refused)
+
+        for count in (1, 30, 300):
+            given.clear()
+            texts = [(f"https://a.example/{it}", b'{"type": 1}' if it % 2 else b"{}", "json") for it in range(count)]
+            with mock.patch("jschema.lint._judged", judged):
+                found = lint_all(texts)
+            self.assertEqual([len(it) for it in found], [it % 2 for it in range(count)])
+            self.assertLessEqual(sum(given), 6 * count)
+
+
+@unittest.skipUnless(importlib.util.find_spec("yaml") and importlib.util.find_spec("tomllib"),
+                     "needs PyYAML and Python 3.11")
+class OtherKinds(unittest.TestCase):
+    def test_parts(self):
+        for text, line, begin, end in (("patternProperties:\n  '(a)\\1':\n    title: a", 2, 7, 9),
+                                       ("pattern: é(a)\\1", 1, 14, 16), (r'pattern: "\x41(a)\\1"', 1, 10, 22)):
+            with self.subTest(text):
+                [finding] = lint(text.encode(), URI, kind="yaml", **OPTIONS)
+                self.assertEqual((finding.range.begin[1:], finding.range.end[1:]), ((line, begin), (line, end)))
+
+    def test_broken(self):
+        for text, kind, line in ((b"a: [", "yaml", 1), (b"a =", "toml", 1), (b"a: 1\n---\nb: 1", "yaml", 3)):
+            with self.subTest(text):
+                [finding] = lint(text, URI, kind=kind)
+                self.assertEqual((finding.rule, finding.range.begin.line), ("not-json", line))
+
+
 class Commands(Case):
     def test_text(self):
-        self.write("lint/a.json", '{\n  "requierd": ["a"],\n  "$ref": "b.yaml"}')
-        self.write("lint/b.yaml", "type: string\nminimum: 1\n")
+        self.write("lint/a.json", '{\n  "requierd": ["a"],\n  "$ref": "b.jsonc"}')
+        self.write("lint/b.jsonc", '{"type": "string", /* not looked at */ "minimum": 1}\n')
         out, said, status = self.run_inside("lint", "lint/a.json")
         self.assertEqual((said, status), ("0 errors, 1 warning, 0 notes\n", 1))
         self.assertEqual(out, """warning[unknown-keyword]: no dialect knows the keyword `requierd`: is `required` meant?

@@ -1,11 +1,9 @@
 """Whatever a text is, and wherever the cursor, the language server has an answer."""
 import json
 import random
-import tempfile
 import unittest
-from pathlib import Path
 
-from lsp_client import ADDRESS, FILES, PERSON, once
+from lsp_client import ADDRESS, FILES, PERSON, folder_of, once
 
 from jschema.lsp.client import Client
 from jschema.lsp.completion import completion
@@ -27,9 +25,7 @@ PIECES = ('"', "{", "}", "[", "]", ",", ":", "\n", " ", "- ", "5", "0.5", "\\", 
 class AnyText(unittest.TestCase):
     def setUp(self):
         once(self)
-        folder = tempfile.TemporaryDirectory()
-        self.addCleanup(folder.cleanup)
-        self.folder = Path(folder.name).resolve()
+        self.folder = folder_of(self)
         for name, text in FILES.items():
             (self.folder / name).write_text(text, "utf-8")
         self.workspace = Workspace()

@@ -37,9 +37,14 @@ PLACES = {
         ({"dependencies": {"a": {"minProperties": 2}}}, {"a": 1}, "/dependencies/a/minProperties",
          "/dependentSchemas/a/minProperties"),
         ({"if": True, "then": {"not": {}}}, 1, "/then/not", "/then/not"),
+        ({"components": {"a": {"items": [{"type": "null"}]}}, "items": {"$ref": "#/components/a"}}, [[1]],
+         "/components/a/items/0/type", "/$defs/~1components~1a/prefixItems/0/type"),
+        ({"$defs": {"a": {"minimum": 2}}, "items": {"$ref": "#/$defs/a"}}, [1], "/$defs/a/minimum",
+         "/$defs/a/minimum"),
     ],
     "2019-09": [
         ({"items": [False]}, [1], "/items/0", "/prefixItems/0"),
+        ({"x": {"type": "null"}, "$ref": "#/x"}, 1, "/x/type", "/$defs/~1x/type"),
         ({"$defs": {"a": {"type": "null"}}, "$ref": "#/$defs/a"}, 1, "/$defs/a/type", "/$defs/a/type"),
     ],
     "2020-12": [
@@ -155,11 +160,11 @@ class Command(CommandCase):
 
 
 class Upgraded(unittest.TestCase):
-    """`jschema.upgrade`, by the program."""
+    """`jschema.upgrade`, by the library or the program."""
 
     def setUp(self):
-        if find_upgrader(find_program()) is None:
-            self.skipTest("no program jschema-upgrade")
+        if find_library() is None and find_upgrader(find_program()) is None:
+            self.skipTest("no library, and no program jschema-upgrade")
 
     def judge(self, documents, expected, **named):
         found = jschema.upgrade(documents, **named)

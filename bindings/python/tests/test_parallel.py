@@ -1,8 +1,10 @@
 """Lines that several processes check: the same bytes as one by one, and what happens where a process ends."""
+import json
 import os
 import random
 import signal
 import subprocess
+import sys
 import tempfile
 import time
 import unittest
@@ -12,8 +14,8 @@ from unittest import mock
 from commands import SOME, Case
 from jschema.command.arguments import REPORTS
 from jschema.command.files import File
-from jschema.command.inputs import Lines, lines
-from jschema.command.parallel import _Pace
+from jschema.command.inputs import line_input, lines
+from jschema.command.lines import Pace
 from jschema.engine import FORMATS
 from jschema.library import find_library
 
@@ -79,6 +81,31 @@ class Same(Case):
         _, said, status = self.compare("--format", "short", "long.jsonl")
         self.assertEqual([int(line.split(":")[1]) for line in said.splitlines()[:-1]], [1, 256, 257, 1701, 3000])
         self.assertEqual((said.splitlines()[-1], status), ("2995 valid, 0 invalid, 5 refused", 3))
+
+    def test_large_lines(self):
+        """Of more bytes than a process shares, among small ones; and one that is too large."""
+        texts = ['{"name": "%s"}' % ("A" * size) for size in (1, 3 << 20, 1, 1 << 24, 1, 1 << 20)]
+        texts[2] = '{"name": 1}'
+        self.write("large.jsonl", "\n".join(texts))
+        out, said, status = self.compare("--format", "short", "large.jsonl")
+        self.assertEqual([line.split(":")[1] for line in (out + said).splitlines()[:-1]], ["3", "4"])
+        self.assertEqual((said.splitlines()[-1], status), ("4 valid, 1 invalid (1 error), 1 refused", 3))
+
+    def test_valid_lines_are_counted(self):
+        """Reports that only count the valid lines count those that others list."""
+        self.write("mixed.jsonl", mixed(200))
+        for words in ((), ("--numbers", "exact"), ("--formats",)):
+            with self.subTest(words):
+                listed = json.loads(self.compare(*words, "--format", "json", "mixed.jsonl")[0])
+                sarif = json.loads(self.compare(*words, "--format", "sarif", "mixed.jsonl")[0])
+                out, said, _ = self.compare(*words, "--format", "short", "mixed.jsonl")
+                verdicts = [it["valid"] for it in listed]
+                *refused, summary = said.splitlines()
+                self.assertRegex(summary, rf"\A{verdicts.count(True)} valid, {verdicts.count(False)} invalid \(")
+                lines = {it["line"] for it in listed if it["valid"] is not True}
+                self.assertEqual({int(line.split(":")[1]) for line in [*out.splitlines(), *refused]}, lines)
+                self.assertEqual({it["locations"][0]["physicalLocation"]["region"]["startLine"]
+                                  for it in sarif["runs"][0]["results"]}, lines)
 
     def test_what_is_not_checked(self):
         """Libraries that only the processes that check have missed are named."""
@@ -168,6 +195,14 @@ class Ends(Case):
         job.wait(20)
         self.assert_ended(processes)
 
+    def test_end_of_processes_is_ignored(self):
+        """What starts the command may have it ignore that processes end. (Then it can't run the program.)"""
+        if find_library() is None:
+            self.skipTest("no library")
+        self.write("two.jsonl", '{"name": "A"}\n1\n')
+        out, said, status = self.run_in_shell('trap "" CHLD; exec "$@"', *SOME, "--lines", "--jobs", "2", "two.jsonl")
+        self.assertEqual((out.split(" ")[0], said, status), ("two.jsonl:2:1:", "1 valid, 1 invalid (1 error)\n", 1))
+
     def test_no_process(self):
         """Where none can be started, as by a limit on processes."""
         self.write("one.jsonl", "1\n")
@@ -192,13 +227,20 @@ class Blocks(unittest.TestCase):
                 found.append((number, text))
         return found
 
-    def read(self, path, data):
-        found = []
-        for it in (it for some in lines([File(path)]) for it in some.inputs()):
-            text = it.source.json
-            if len(text) > self.LARGEST:
-                self.assertTrue(data.split(b"\n")[it.line - 1].startswith(text.rstrip(b"\r")))
-            found.append((it.line, "too large" if len(text) > self.LARGEST else text))
+    def read(self, path, data, size):
+        found, number = [], 0
+        for some in lines([File(path)], lambda: size):
+            self.assertEqual(some.are_first, number == 0)
+            *texts, after = some.data.split(b"\n")
+            self.assertEqual(after, b"")
+            self.assertTrue(len(some.data) <= size or len(texts) == 1, some.data)
+            for number, line in enumerate(texts, number + 1):
+                it = line_input(path, number, line)
+                if it is not None:
+                    text = it.source.json
+                    if len(text) > self.LARGEST:
+                        self.assertTrue(data.split(b"\n")[it.line - 1].startswith(text.rstrip(b"\r")))
+                    found.append((it.line, "too large" if len(text) > self.LARGEST else text))
         return found
 
     def test_random(self):
@@ -209,46 +251,48 @@ class Blocks(unittest.TestCase):
                 Path(file.name).write_bytes(data)
                 with mock.patch.multiple("jschema.command.inputs", LARGEST_TEXT=self.LARGEST,
                                          _BLOCK_OF_LINES=numbers.randrange(1, 12)):
-                    self.assertEqual(self.read(file.name, data), self.expected(data), data)
+                    self.assertEqual(self.read(file.name, data, numbers.choice((1, 3, 100))), self.expected(data), data)
 
 
 class Paces(unittest.TestCase):
-    """How many lines a process gets at once."""
+    """How much is checked at once."""
 
-    def counts(self, pace, count, is_live=False):
-        given = Lines("x", 7, [b"%d" % number for number in range(count)], is_live=is_live)
-        portions = [*pace.portions([given])]
-        self.assertEqual([text for it in portions for text in it.texts], given.texts)
-        self.assertEqual([it.line for it in portions], [7 + int(it.texts[0]) for it in portions])
-        return [len(it.texts) for it in portions]
+    def test_cut_at_line_ends(self):
+        """Lines of one length never fill a size that is no multiple of it. There are more at once all the same."""
+        pace, line = Pace(), 1017
+        for _ in range(8):
+            pace.took(max(line, pace.size() // line * line), 0.0001)
+        self.assertGreaterEqual(pace.size(), 1 << 19)
 
     def test_quick_and_slow(self):
-        pace = _Pace()
-        self.assertEqual(self.counts(pace, 3), [1, 1, 1])
-        pace.took(1, 0.3)
-        self.assertEqual(self.counts(pace, 2), [1, 1])
-        for count in (1, 2, 4, 8):
-            pace.took(count, 0.0001)
-        self.assertEqual(self.counts(pace, 40), [16, 16, 8])
-        pace.took(1, 0.0001)
-        self.assertEqual(self.counts(pace, 16), [16])
-        pace.took(16, 30)
-        self.assertEqual(self.counts(pace, 2), [1, 1])
+        """The first line is alone. What is quick grows; what is slow is little at once."""
+        pace = Pace()
+        self.assertEqual(pace.size(), 1)
+        pace.took(100, 0.0001)
+        self.assertEqual(pace.size(), 800)
+        pace.took(100, 0.0001)
+        self.assertEqual(pace.size(), 800)
+        pace.took(800, 0.01)
+        self.assertEqual(pace.size(), 1600)
+        pace.took(10, 0.2)
+        self.assertEqual(pace.size(), 1)
 
     def test_most(self):
-        pace = _Pace()
+        pace = Pace()
         for _ in range(20):
-            pace.took(1000, 0)
-        self.assertEqual(max(self.counts(pace, 1000)), 256)
+            pace.took(pace.size(), 0)
+        self.assertEqual(pace.size(), 1 << 20)
 
     def test_live(self):
-        """Each line of a live stream is reported as soon as it is checked, however quick those before it were."""
-        pace = _Pace()
-        for _ in range(20):
-            pace.took(1000, 0)
-        self.assertEqual(self.counts(pace, 5, is_live=True), [1] * 5)
+        """Each line of a live stream is alone, so that it is reported as soon as it is checked."""
+        ours, theirs = os.pipe()
+        with os.fdopen(theirs, "wb") as file:
+            file.write(b"1\n2\n\n3")
+        with mock.patch.object(sys, "stdin", os.fdopen(ours, "rb")):
+            self.assertEqual([it.data for it in lines([File("-")], lambda: 1000)], [b"1\n", b"2\n", b"\n", b"3\n"])
+            sys.stdin.close()
 
     def test_nothing(self):
         """What can't be read is a portion of its own."""
-        fault = Lines("x", 1, (), OSError(2, "no"))
-        self.assertEqual([*_Pace().portions([fault])], [fault])
+        [it] = lines([File("none", OSError(2, "no"))], lambda: 1)
+        self.assertEqual((it.data, it.fault.strerror), (b"", "no"))

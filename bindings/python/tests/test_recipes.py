@@ -5,11 +5,10 @@ import re
 import shutil
 import subprocess
 import sys
-import tempfile
 import unittest
 from pathlib import Path
 
-from lsp_client import once
+from lsp_client import folder_of, once
 
 try:
     import yaml
@@ -35,9 +34,7 @@ def installed(name):
 class Recipes(unittest.TestCase):
     def setUp(self):
         once(self)
-        folder = tempfile.TemporaryDirectory()
-        self.addCleanup(folder.cleanup)
-        self.folder = Path(folder.name).resolve()
+        self.folder = folder_of(self)
         for name in ("validate", "lint"):
             self.write(f"bin/jschema-{name}", f'#!/bin/sh\nexec {sys.executable} -m jschema {name} "$@"\n')
             (self.folder / f"bin/jschema-{name}").chmod(0o755)

@@ -216,7 +216,7 @@ class Html(Case):
 
 
 class Sarif(Case):
-    #: What lint is asked for. (The JavaScript package's command hasn't any.)
+    #: What lint is asked for.
     LINTS = (("lint", "schema.json"), ("lint", "lint.json", "bad.json", "none.json"))
 
     def logs(self):

@@ -6,9 +6,9 @@ import errno
 import os
 import stat
 import sys
-from collections.abc import Iterable, Iterator, Sequence
+from collections.abc import Iterable, Iterator
 from io import BufferedReader, FileIO
-from typing import NamedTuple, Optional, Union
+from typing import Callable, NamedTuple, Optional, Union
 
 from ..extras import MissingLibrary
 from ..limits import LARGEST_TEXT
@@ -16,9 +16,10 @@ from ..sources import JsonSource, Source, Unreadable, kind_of, read
 from .files import STDIN, File
 
 _BLOCK = 1 << 16
-_BLOCK_OF_LINES = 1 << 18
-_NOTHING = JsonSource("json", b"", b"")
+_BLOCK_OF_LINES = 1 << 19
 _BLANKS = b" \t\r\n"
+#: The source where there is none.
+NOTHING = JsonSource("json", b"", b"")
 
 
 class Input(NamedTuple):
@@ -32,24 +33,14 @@ class Input(NamedTuple):
 
 
 class Lines(NamedTuple):
-    """Lines of a file that follow one another, without their ends; or why there are none."""
+    """Lines of a file that follow one another, or why there are none."""
 
     file: str
-    #: The number of the first.
-    line: int
-    texts: Sequence[bytes]
+    #: The lines, with a line feed after each.
+    data: bytes
+    #: Whether they begin the file.
+    are_first: bool
     fault: Optional[OSError] = None
-    #: Whether more may be written while they are checked, as into a pipe.
-    is_live: bool = False
-
-    def inputs(self) -> Iterator[Input]:
-        """Each line as an instance. Empty lines don't count."""
-        if self.fault is not None:
-            yield Input(self.file, self.line, _NOTHING, self.fault)
-        for number, text in enumerate(self.texts, self.line):
-            # (Of a line that is too large the rest isn't known.)
-            if text.strip(_BLANKS) or len(text) > LARGEST_TEXT:
-                yield Input(self.file, number, JsonSource("json", text, text))
 
 
 def inputs(files: Iterable[File], kind: Optional[str] = None) -> Iterator[Input]:
@@ -64,27 +55,36 @@ def inputs(files: Iterable[File], kind: Optional[str] = None) -> Iterator[Input]
             for source in _sources(data, kind or kind_of(it.name)):
                 yield Input(shown, source.first_line, source)
         except (OSError, MissingLibrary) as error:
-            yield Input(shown, 1, _NOTHING, error)
+            yield Input(shown, 1, NOTHING, error)
         except Unreadable as refused:
             yield from (Input(shown, source.first_line, source) for source in refused.before)
             yield Input(shown, 1, JsonSource("json", data, b""), refused)
 
 
-def lines(files: Iterable[File]) -> Iterator[Lines]:
-    """The lines of files, read one after another: those together that one read brings, and of a live stream those that
-    are there."""
+def lines(files: Iterable[File], size: Callable[[], int]) -> Iterator[Lines]:
+    """The lines of files, read one after another: together as many as have the size that is asked for when they are
+    read, and of a live stream each alone."""
     for it in files:
-        shown, number = _shown(it), 1
+        shown = _shown(it)
         try:
             if it.fault is not None:
                 raise it.fault
             with open(_opened(it.name), "rb", buffering=0, closefd=it.name != STDIN) as file:
-                is_live = not stat.S_ISREG(os.fstat(file.fileno()).st_mode)
-                for texts in _lines(file):
-                    yield Lines(shown, number, texts, is_live=is_live)
-                    number += len(texts)
+                are_first = True
+                for data in _portions(file, size if _is_regular(file) else lambda: 1):
+                    yield Lines(shown, data, are_first)
+                    are_first = False
         except OSError as error:
-            yield Lines(shown, 1, (), error)
+            yield Lines(shown, b"", True, error)
+
+
+def line_input(file: str, number: int, line: bytes) -> Optional[Input]:
+    """A line as an instance. Empty lines don't count."""
+    text = line.removesuffix(b"\r")
+    # (Of a line that is too large the rest isn't known.)
+    if not text.strip(_BLANKS) and len(text) <= LARGEST_TEXT:
+        return None
+    return Input(file, number, JsonSource("json", text, text))
 
 
 def _shown(file: File) -> str:
@@ -113,28 +113,41 @@ def _text(file: BufferedReader) -> bytes:
     return begin if len(begin) < _BLOCK else begin + file.read(LARGEST_TEXT + 1 - _BLOCK)
 
 
-def _lines(file: FileIO) -> Iterator[list[bytes]]:
+def _portions(file: FileIO, size: Callable[[], int]) -> Iterator[bytes]:
+    """The lines of a file: together as many as have a size, and at least one."""
+    for data in _blocks(file):
+        begin = 0
+        while begin < len(data):
+            end = data.rfind(b"\n", begin, begin + size()) + 1 or data.index(b"\n", begin) + 1
+            yield data[begin:end]
+            begin = end
+
+
+def _blocks(file: FileIO) -> Iterator[bytes]:
     """The lines of a file, those of a read together. Of one that is too large there is its beginning, and after that
     nothing more is read of a device or a pipe: it may not end."""
     begun, is_cut = bytearray(), False
     while data := _block(file):
         if is_cut:
-            _, end, data = data.partition(b"\n")
-            is_cut = not end
-        texts = data.split(b"\n")
-        begun += texts[0]
-        if len(texts) > 1:
-            texts[0] = bytes(begun)
-            begun[:] = texts.pop()
-            yield [text.removesuffix(b"\r") for text in texts]
-        elif len(begun) > LARGEST_TEXT + 1:
-            yield [bytes(begun)]
-            if not stat.S_ISREG(os.fstat(file.fileno()).st_mode):
+            _, feed, data = data.partition(b"\n")
+            is_cut = not feed
+        end = data.rfind(b"\n") + 1
+        if end:
+            yield b"".join((begun, memoryview(data)[:end]))
+            begun.clear()
+        begun += memoryview(data)[end:]
+        if len(begun) > LARGEST_TEXT + 1:
+            yield bytes(begun + b"\n")
+            if not _is_regular(file):
                 return
             begun.clear()
             is_cut = True
     if begun:
-        yield [bytes(begun.removesuffix(b"\r"))]
+        yield bytes(begun + b"\n")
+
+
+def _is_regular(file: FileIO) -> bool:
+    return stat.S_ISREG(os.fstat(file.fileno()).st_mode)
 
 
 def _block(file: FileIO) -> bytes:

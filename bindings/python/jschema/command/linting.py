@@ -17,7 +17,7 @@ from .problems import Problem
 from .reports import report_for
 from .results import Result, Status, failure
 from .terminal import Progress
-from .validating import reported, unreadable_schema
+from .validating import alone, reported, unreadable_schema
 
 
 def lint(arguments: Arguments) -> int:
@@ -30,7 +30,7 @@ def lint(arguments: Arguments) -> int:
     except UnreadableFile as error:
         report.refused_schema(unreadable_schema(error))
         return Status.REFUSED
-    return reported(report, Progress(len(given)), found)
+    return reported(report, Progress(len(given)), map(alone, found))
 
 
 def _results(given: Sequence[Input], arguments: Arguments) -> Iterator[Result]:

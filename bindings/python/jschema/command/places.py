@@ -8,7 +8,7 @@ from typing import Optional
 from ..faults import NotJson
 from ..locations import pointer
 from ..lookup import SchemaFile, walked
-from ..resources import Document, Target, expect, target
+from ..resources import Target, Targets, expect
 from .problems import SchemaPlace
 
 # How many places are kept.
@@ -20,7 +20,7 @@ class Places:
 
     def __init__(self, files: Sequence[SchemaFile]) -> None:
         self._files = files
-        self._documents: Optional[list[Document]] = None
+        self._targets: Optional[Targets] = None
         self._paths: dict[int, str] = {}
         self._kept: dict[str, Optional[SchemaPlace]] = {}
         self._lock = threading.Lock()
@@ -36,11 +36,13 @@ class Places:
 
     def _keep(self, keyword_uris: set[str]) -> None:
         """Looks for keywords, those of a document together."""
-        if keyword_uris and self._documents is None:
+        if not keyword_uris:
+            return
+        if self._targets is None:
             walks = [(file, walked(file)) for file in self._files]
             self._paths = {id(document): file.path for file, document in walks if document is not None}
-            self._documents = [document for _, document in walks if document is not None]
-        found = {uri: target(uri, self._documents or ()) for uri in keyword_uris}
+            self._targets = Targets(document for _, document in walks if document is not None)
+        found = {uri: self._targets.target(uri) for uri in keyword_uris}
         expect(found.values())
         self._kept.update((uri, None if it is None else self._place(it)) for uri, it in found.items())
 

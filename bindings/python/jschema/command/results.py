@@ -11,7 +11,7 @@ from ..extras import MissingLibrary
 from ..positions import Position, Text
 from ..schemas import Schemas
 from ..sources import Range
-from .inputs import Input
+from .inputs import NOTHING, Input, Lines, line_input
 from .jobs import side_by_side
 from .places import Places
 from .problems import ERROR, FAILED, REFUSED, WARNING, WHOLE, Problem, SchemaPlace
@@ -41,6 +41,24 @@ class Result(NamedTuple):
     text: bytes = b""
 
 
+class Checked(NamedTuple):
+    """What came of instances: the results of some, and how many others are valid, of which nothing is reported."""
+
+    results: Sequence[Result]
+    others: int = 0
+    #: Of lines, how many there are, with those that don't count.
+    lines: int = 0
+
+    def below(self, lines: int) -> Checked:
+        """The same of lines that stand below so many others."""
+        return self._replace(results=[below(it, lines) for it in self.results]) if lines else self
+
+    def without_texts(self) -> Checked:
+        """The same, without the texts of instances that have no problem: no report shows them."""
+        return self._replace(results=[
+            it if it.problems else it._replace(input=it.input._replace(source=NOTHING)) for it in self.results])
+
+
 class Wanted(NamedTuple):
     """What a report needs of an instance that has a verdict, beside its problems."""
 
@@ -50,6 +68,8 @@ class Wanted(NamedTuple):
     tree: bool = False
     #: Checks the formats of a valid instance.
     formats: Optional[Formats] = None
+    #: Whether something is reported of a valid instance without problems.
+    valid: bool = True
 
 
 class Checker:
@@ -78,6 +98,36 @@ class Checker:
             return refusal(given, refused)
         except (EngineError, MemoryError) as error:
             return failure(given, error)
+
+    def lines(self, given: Lines) -> Checked:
+        """What comes of lines, as if they were a file of their own."""
+        if given.fault is not None:
+            return Checked([self.result(Input(given.file, 1, NOTHING, given.fault))])
+        data, results = given.data, list[Result]()
+        begin = lines = empty = 0
+        while True:
+            valid, begin = self._valid_lines(data, begin)
+            lines += valid
+            if begin == len(data):
+                return Checked(results, lines - len(results) - empty, lines)
+            end = data.index(b"\n", begin)
+            lines += 1
+            instance = line_input(given.file, lines, data[begin:end])
+            if instance is None:
+                empty += 1
+            else:
+                results.append(self.result(instance))
+            begin = end + 1
+
+    def _valid_lines(self, data: bytes, begin: int) -> tuple[int, int]:
+        """How many lines are valid one after another, and the byte after them; none if they are reported too."""
+        if self._wanted.valid or self._wanted.formats:
+            return 0, begin
+        try:
+            return self._schemas.valid_lines(self._entry, data, begin)
+        except (Refused, EngineError, MemoryError):
+            # (The result of the line says what it is.)
+            return 0, begin
 
     def _judged(self, given: Input) -> Result:
         """The result of an instance that has a verdict."""
@@ -151,7 +201,15 @@ def message_of(error: Exception) -> str:
 
 def in_file(given: Input, where: Range) -> Range:
     """A part of an instance as a part of its file: of a line, which is a text of its own."""
-    if given.line == given.source.first_line:
-        return where
-    lines = given.line - 1
-    return Range(where.begin._replace(line=where.begin.line + lines), where.end._replace(line=where.end.line + lines))
+    return _moved(where, given.line - given.source.first_line)
+
+
+def below(result: Result, lines: int) -> Result:
+    """The result of the same instance so many lines further down."""
+    problems = [it._replace(range=_moved(it.range, lines)) for it in result.problems]
+    return result._replace(input=result.input._replace(line=result.input.line + lines), problems=problems)
+
+
+def _moved(where: Range, lines: int) -> Range:
+    """A place so many lines further down."""
+    return Range(*(it._replace(line=it.line + lines) for it in where)) if lines else where

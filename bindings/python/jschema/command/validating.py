@@ -15,10 +15,11 @@ from ..upgrading import may_be_older
 from .arguments import Arguments
 from .documents import document, referred
 from .files import File, files_of, suffixes
-from .inputs import Input, inputs, lines
+from .inputs import Input, inputs
+from .lines import checked_lines
 from .places import Places
 from .reports import Report, report_for
-from .results import Checker, Result, Status, Wanted, refusal
+from .results import Checked, Checker, Result, Status, Wanted, refusal
 from .terminal import Progress
 
 if TYPE_CHECKING:
@@ -44,25 +45,28 @@ def validate(arguments: Arguments) -> int:
         report.refused_schema(refused_schema(documents, refused))
         return Status.REFUSED
     _note_upgrade(documents)
-    wanted = Wanted(report.output, report.tree, _formats() if arguments.formats else None)
+    wanted = Wanted(report.output, report.tree, _formats() if arguments.formats else None, report.lists_valid)
     with schemas:
         checker = Checker(schemas, schema.uri, Places(documents), wanted)
-        with closing(_results(checker, files, arguments)) as results:
-            status = reported(report, Progress(None if arguments.lines else len(files)), results)
+        with closing(_checked(checker, files, arguments)) as found:
+            status = reported(report, Progress(None if arguments.lines else len(files)), found)
     for message in sorted(set(checker.missing.values())):
         print(f"jschema: {message}", file=sys.stderr)
     return status
 
 
-def _results(checker: Checker, files: Sequence[File], arguments: Arguments) -> Generator[Result, None, None]:
-    """The results of the instances in files."""
-    if not arguments.lines:
-        return checker.results(inputs(files, arguments.input), arguments.jobs)
-    if arguments.jobs == 1:
-        return checker.results((it for some in lines(files) for it in some.inputs()), jobs=1)
-    # (Imported where it is needed, so that a validation starts sooner.)
-    from .parallel import results_of_lines
-    return results_of_lines(checker, lines(files), arguments.jobs)
+def _checked(checker: Checker, files: Sequence[File], arguments: Arguments) -> Generator[Checked, None, None]:
+    """What comes of the instances in files."""
+    if arguments.lines:
+        yield from checked_lines(checker, files, arguments.jobs)
+        return
+    with closing(checker.results(inputs(files, arguments.input), arguments.jobs)) as results:
+        yield from map(alone, results)
+
+
+def alone(result: Result) -> Checked:
+    """One result."""
+    return Checked([result])
 
 
 def _note_upgrade(documents: Sequence[SchemaFile]) -> None:
@@ -81,15 +85,19 @@ def _formats() -> Formats:
     return Formats()
 
 
-def reported(report: Report, progress: Progress, found: Iterable[Result]) -> int:
-    """Reports each result as it comes. The worst of them makes the exit status."""
-    status = Status.VALID
-    for count, result in enumerate(found, 1):
-        if report.writes(result):
-            progress.clear()
-        report.result(result)
+def reported(report: Report, progress: Progress, found: Iterable[Checked]) -> int:
+    """Reports what was found as it comes. The worst of it makes the exit status."""
+    status, count = Status.VALID, 0
+    for it in found:
+        if it.others:
+            report.count_valid(it.others)
+        for result in it.results:
+            if report.writes(result):
+                progress.clear()
+            report.result(result)
+            status = max(status, result.status)
+        count += len(it.results) + it.others
         progress.show(count)
-        status = max(status, result.status)
     progress.clear()
     report.end()
     return status

@@ -25,6 +25,8 @@ __all__ = ["ERROR", "NOTE", "RULES", "WARNING", "Finding", "broken", "lint", "li
            "second_document", "unreadable"]
 
 _OF_PATTERNS = ("BadPattern", "PatternTooLarge")
+# So many documents may be refused before each is asked for alone.
+_FEW = 4
 
 
 def lint(text: bytes, uri: str, *, kind: str = "json", others: Documents = (), patterns: Optional[str] = None,
@@ -52,7 +54,8 @@ def lint_documents(given: Sequence[Document], beside: Sequence[Document] = (),
     """The same of documents that were read; `beside` are those that they refer to, which aren't looked at."""
     documents = [*given, *beside]
     refusals = _refusals(documents, options) if given else {}
-    return [_findings(it, documents, refusals.get(index), options) for index, it in enumerate(given)]
+    uses = references.Uses(documents)
+    return [_findings(it, uses, refusals.get(index), options) for index, it in enumerate(given)]
 
 
 def broken(source: Source) -> Finding:
@@ -103,20 +106,24 @@ def _judged(documents: Sequence[tuple[str, Any]], options: Options = Options()) 
 
 def _refusals(documents: Sequence[Document], options: Options) -> dict[int, Refused]:
     """The first refusal of each document that the validator refuses. It names one document, so it is asked again
-    without that."""
+    without that. Where more than a few are refused each is asked for alone, since each question takes all of them."""
     refusals: dict[int, Refused] = {}
     while left := [(index, it) for index, it in enumerate(documents) if index not in refusals]:
         refused = _judged([(it.uri, it.source.json) for _, it in left], options)
         if refused is None:
             break
         refusals[left[refused.index or 0][0]] = refused
+        if len(refusals) == _FEW:
+            # (What is refused for want of another document has its own rule, which looks at all of them.)
+            alone = ((index, _judged([(it.uri, it.source.json)], options)) for index, it in left)
+            refusals = {**{index: refused for index, refused in alone if refused is not None}, **refusals}
     return refusals
 
 
-def _findings(given: Document, documents: Sequence[Document], refused: Optional[Refused],
+def _findings(given: Document, uses: references.Uses, refused: Optional[Refused],
               options: Options) -> list[Finding]:
     """What the rules find, in the order of the text."""
-    found = list(_found(given, documents, refused is not None, options))
+    found = list(_found(given, uses, refused is not None, options))
     given.source.expect(pointer([*it.tokens]) for it in found)
     findings = [_finding(given, it) for it in found]
     if refused is not None and not _is_known(refused, found):
@@ -135,15 +142,15 @@ def _is_known(refused: Refused, found: Sequence[Found]) -> bool:
                                                for it in found)
 
 
-def _found(given: Document, documents: Sequence[Document], is_refused: bool, options: Options) -> Iterator[Found]:
+def _found(given: Document, uses: references.Uses, is_refused: bool, options: Options) -> Iterator[Found]:
     yield from keywords.unknown(given)
     yield from keywords.inactive(given)
     yield from keywords.formats(given)
-    yield from references.unused(given, documents)
+    yield from references.unused(given, uses)
     yield from bounds.nothing(given)
     if is_refused:
         # (What the validator accepts has none of these.)
-        yield from references.unresolved(given, documents)
+        yield from references.unresolved(given, uses)
         yield from patterns.unread(given, options.patterns is not None, _pattern_judge)
         yield from numbers.outside(given, options.numbers)
 

@@ -68,6 +68,7 @@ class SchemaSet:
         found = [walked(SchemaFile(text.path, uri, text.source)) for uri, text in documents if text.source is not None]
         #: The documents that can be read, with their schemas.
         self.resources = [it for it in found if it is not None]
+        self._targets = resources.Targets(self.resources)
 
     @property
     def entry(self) -> str:
@@ -78,13 +79,13 @@ class SchemaSet:
         """What an absolute location of the validator names, also that of a keyword; or a URI with an anchor. In a
         schema of an older draft it is what that comes from."""
         if fragment_of(uri)[:1] not in ("", "/"):
-            return resources.target(uri, self.resources)
+            return self._targets.target(uri)
         found = resources.original_of(uri, self.resources)
         return None if found is None else Target(found[0], found[1].tokens)
 
     def referred(self, location: str, reference: str) -> Optional[Target]:
         """What a reference leads to from the schema at an absolute location."""
-        return resources.target(joined(location, reference), self.resources)
+        return self._targets.target(joined(location, reference))
 
     def target(self, place: str) -> Optional[Target]:
         """What the reference that stands at a pointer of the first document leads to."""
@@ -94,7 +95,7 @@ class SchemaSet:
                 reference = dict(schema.references()).get(tokens[-1])
                 if reference is None:
                     return None
-                return resources.target(joined(schema.base, reference), self.resources)
+                return self._targets.target(joined(schema.base, reference))
         return None
 
     def first_reference_to(self, uri: str) -> Optional[str]:

@@ -75,7 +75,9 @@ def left(pattern: str) -> Optional[int]:
     except (NotRead, RecursionError):
         return None
     places = looks(body)
-    return next((at for at in places if not _is_exact(with_look(body, at))), None if _is_exact(body) else places[0])
+    if not places or _is_exact(body):
+        return None
+    return next((at for at in places if not _is_exact(with_look(body, at))), places[0])
 
 
 def _is_exact(body: Alternatives) -> bool:

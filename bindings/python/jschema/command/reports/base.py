@@ -19,6 +19,8 @@ class Report:
     #: The format of the validator's output that is written, and whether the tree of the errors is shown.
     output: str | None = None
     tree = False
+    #: Whether something is written of a valid instance without problems. Else such ones are only counted.
+    lists_valid = True
 
     def __init__(self, format: str, command: str, out: TextIO) -> None:
         self.format, self.out = format, out
@@ -37,6 +39,10 @@ class Report:
         if result.problems:
             self.kinds.update(problem.kind for problem in result.problems)
         self.write_result(result)
+
+    def count_valid(self, count: int) -> None:
+        """Counts valid instances of which nothing is written."""
+        self.statuses[Status.VALID] += count
 
     def write_result(self, result: Result) -> None:
         """Writes a result that is counted."""

@@ -15,6 +15,8 @@ _COLOURS = {ERROR: "red", WARNING: "yellow", NOTE: "blue", REFUSED: "red", FAILE
 class ShortReport(Report):
     """A line for each problem, and a summary on standard error."""
 
+    lists_valid = False
+
     def __init__(self, format: str, command: str, out: TextIO) -> None:
         super().__init__(format, command, out)
         self.colours = has_colours(out)

@@ -21,6 +21,8 @@ _BEGIN = '{"$schema":%s,"version":"2.1.0","runs":[{"columnKind":"unicodeCodePoin
 class SarifReport(Report):
     """One run, with a result for each problem. What fails is a notification of the tool."""
 
+    lists_valid = False
+
     def __init__(self, format: str, command: str, out: TextIO) -> None:
         super().__init__(format, command, out)
         self.separator = "\n"
