@@ -19,8 +19,8 @@ def formats(interface):
     """Where the crates have the formats: by name, and by number."""
     names = {it["name"]: it["name"].capitalize() for it in interface["format"]}
     numbers = {it["number"]: it["name"].capitalize() for it in interface["format"]}
-    yield ("js_tree/src/forms.rt", "Format", set(names.values()),
-           set(found("js_tree/src/forms.rt", r"\n    (\w+),", r"pub enum Format \{.*?\n\}")))
+    yield ("js_tree/src/formats.rt", "Format", set(names.values()),
+           set(found("js_tree/src/formats.rt", r"\n    (\w+),", r"pub enum Format \{.*?\n\}")))
     yield ("js_command/src/words.rt", "format_of", names,
            dict(found("js_command/src/words.rt", r'"(\w+)" => Some\(Format::(\w+)\)')))
     yield ("js_command/specs/Words.antt", "format_of", names,

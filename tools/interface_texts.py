@@ -148,11 +148,10 @@ def c_statuses(interface):
 
 
 def upgrade_usages(interface):
-    """The usage texts of jschema-upgrade."""
+    """The usage texts that jschema-upgrade has and jschema doesn't."""
     upgrade = interface["upgrade"]
     return [f"usage: {text}" for text in (
-        f"jschema-upgrade {upgrade['arguments']}", interface["pairs_usage"],
-        upgrade["dialect_usage"], upgrade["folder_usage"],
+        f"jschema-upgrade {upgrade['arguments']}", upgrade["dialect_usage"], upgrade["folder_usage"],
         upgrade["names_usage"])]
 
 
@@ -261,13 +260,23 @@ def javascript_tables(interface):
     kinds = "".join(f'  {it["number"]}: "{it["name"]}",\n' for it in by_number(interface["refusal"]))
     meanings = "".join(f'  {it["name"]}: {json.dumps(it["meaning"])},\n'
                        for it in sorted(interface["refusal"], key=lambda it: it["name"]))
+    rewriting = "".join(f'  {it["name"]}: {{\n    argument: "{it["argument"]}",\n    words: {{\n'
+                        f"{javascript_words(it)}    }},\n  }},\n" for it in interface["rewriting"])
     return ("/** The formats of the standard, and `merged`: `detailed` with each error once. */\n"
             f"export const FORMATS = Object.freeze([{formats}]);\n\n"
             f"/** What a call of the module returns. */\nexport const {statuses};\n\n"
             "/** What is refused, by its number, and whether the refusal has a place in it. */\n"
             f"export const SUBJECTS = Object.freeze({{\n{subjects}}});\n\n"
             f"/** Each kind of refusal, by its number. */\nexport const KINDS = Object.freeze({{\n{kinds}}});\n\n"
-            f"/** What each kind of refusal means. */\nexport const MEANINGS = Object.freeze({{\n{meanings}}});\n")
+            f"/** What each kind of refusal means. */\nexport const MEANINGS = Object.freeze({{\n{meanings}}});\n\n"
+            "/**\n * What is rewritten for the validator: of each option the name of the argument, and words with "
+            "their meanings. The\n * first is the default, and the last leaves everything to the validator.\n */\n"
+            f"export const REWRITING = Object.freeze({{\n{rewriting}}});\n")
+
+
+def javascript_words(option):
+    """The words of an option, as members of an object."""
+    return "".join(f'      {it["name"]}: {json.dumps(it["help"].replace("`", ""))},\n' for it in option["word"])
 
 
 def table(head, rows):

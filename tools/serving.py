@@ -1,11 +1,12 @@
 """Serves the playground and what it is made of: the files that its page may ask for, and no others."""
 import posixpath
+import sys
 from http.server import BaseHTTPRequestHandler, ThreadingHTTPServer
 from pathlib import Path
 from urllib.parse import unquote, urlsplit
 
 HOME = Path(__file__).resolve().parents[1]
-PAGE = "/docs/playground/"
+PAGE, BUILT = "/docs/playground/", "/playground/"
 MODULE = "/out/wasm/jschema.wasm"
 PACKAGE = "/bindings/javascript/src/"
 
@@ -36,16 +37,17 @@ class Handler(BaseHTTPRequestHandler):
 
     def answer(self, has_body):
         path = unquote(urlsplit(self.path).path)
-        if path in ("/", PAGE.rstrip("/")):
-            return self.reply(302, b"", {"Location": PAGE}, has_body)
-        path = f"{PAGE}index.html" if path == PAGE else path
+        if path in ("/", self.server.page.rstrip("/")):
+            return self.reply(302, b"", {"Location": self.server.page}, has_body)
+        path = f"{path}index.html" if path.endswith("/") else path
         file, media_type = self.server.file_of(path), TYPES.get(posixpath.splitext(path)[1])
         if file is None or media_type is None:
             return self.reply(404, b"not found\n", {"Content-Type": "text/plain"}, has_body)
         return self.reply(200, file.read_bytes(), {"Content-Type": media_type}, has_body)
 
     def reply(self, status, body, headers, has_body):
-        fixed = {"Content-Length": str(len(body)), "Cache-Control": "no-cache", "X-Content-Type-Options": "nosniff",
+        # (With "no-cache" a browser would write all of it to its disk while it loads the page.)
+        fixed = {"Content-Length": str(len(body)), "Cache-Control": "no-store", "X-Content-Type-Options": "nosniff",
                  "Referrer-Policy": "no-referrer", "Content-Security-Policy": "frame-ancestors 'none'"}
         self.send_response(status)
         for name, value in {**fixed, **headers}.items():
@@ -59,19 +61,33 @@ class Handler(BaseHTTPRequestHandler):
             super().log_message(*words)
 
 
+def built_files(folder):
+    """What tools/build-playground made in a folder, by the paths under which it is served."""
+    return {f"{BUILT}{it.name}": it for it in Path(folder).iterdir()}
+
+
 class Server(ThreadingHTTPServer):
-    """Files of the repository, for this machine alone. `others` has files by the path under which they are served."""
+    """Files of the repository, for this machine alone. `others` has files by the path under which they are served.
+
+    A request for no file is redirected to `page`.
+    """
 
     daemon_threads = True
 
-    def __init__(self, port, module, others=(), handler=Handler, is_logging=False):
+    def __init__(self, port, module, others=(), handler=Handler, is_logging=False, page=PAGE):
         super().__init__(("127.0.0.1", port), handler)
         self.others = {MODULE: Path(module), **dict(others)}
         self.is_logging = is_logging
+        self.page = page
 
     @property
     def url(self):
         return f"http://127.0.0.1:{self.server_address[1]}"
+
+    def handle_error(self, request, client_address):
+        # (A browser that leaves a page takes no more of it.)
+        if not isinstance(sys.exc_info()[1], ConnectionError):
+            super().handle_error(request, client_address)
 
     def file_of(self, path):
         """The file that a path names, or None."""

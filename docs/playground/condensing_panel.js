@@ -1,6 +1,6 @@
 /** The panel that shows how the result is condensed, step by step, in any order. */
 import { DROP, MERGE, REPLACE, after, normalForm, possibleSteps } from "./condensing.js";
-import { element } from "./elements.js";
+import { element, withCommas } from "./elements.js";
 import { shownNode } from "./result_panel.js";
 import { countOf, pruned, textOf, treeOf } from "./result_tree.js";
 import { TreeView } from "./tree_view.js";
@@ -122,7 +122,7 @@ export class CondensingPanel {
     this.#progress.hidden = root === undefined;
     if (root === undefined) {
       this.#said.textContent = this.#outputs.verbose === undefined ? "There is no result that could be condensed."
-        : `The pruned tree has more than ${MOST_NODES.toLocaleString("en")} nodes: too many to show each step.`;
+        : `The pruned tree has more than ${withCommas(MOST_NODES)} nodes: too many to show each step.`;
       return;
     }
     this.#describe(root, steps.length);

@@ -4,7 +4,7 @@
  * The text area has the text, its caret and its selection; its letters can't be seen. What is seen is drawn over it:
  * of the lines that fit, coloured tokens, underlines, and behind each line the message of its first underline.
  */
-import { element, patch } from "./elements.js";
+import { element, patch, showText } from "./elements.js";
 import { indented } from "./indenting.js";
 
 // As in style.css.
@@ -26,6 +26,8 @@ export class Editor {
   #starts = [0];
   #marks = [];
   #selected;
+  // What can be seen, as it was at the last frame. (To ask for it after a change would have the text laid out at once.)
+  #view = { top: 0, left: 0, width: 0, height: 0 };
 
   /**
    * `changed` is called for each change, `moved` with the offset of the caret when it has moved.
@@ -48,19 +50,19 @@ export class Editor {
     holder.append(element("div", { class: "editor" }, gutter, text),
       element("div", { class: "foot" }, this.#caret, indent));
     this.#area.addEventListener("input", () => {
+      changed();
       this.#marks = movedMarks(this.#marks, this.#text, this.#area.value);
       this.#selected = undefined;
       this.#measure();
-      changed();
-      this.draw();
+      this.#draw();
     });
-    this.#area.addEventListener("scroll", () => this.draw());
+    this.#area.addEventListener("scroll", () => this.#look());
     document.addEventListener("selectionchange", () => {
       if (document.activeElement !== this.#area) return;
       this.#describeCaret();
       moved(this.#area.selectionStart);
     });
-    new ResizeObserver(() => this.draw()).observe(this.#area);
+    new ResizeObserver(() => this.#look()).observe(this.#area);
   }
 
   get text() {
@@ -71,7 +73,7 @@ export class Editor {
     if (text !== this.#area.value) {
       this.#area.value = text;
       this.#area.setSelectionRange(0, 0);
-      this.#area.scrollTo(0, 0);
+      if (this.#view.top !== 0 || this.#view.left !== 0) this.#area.scrollTo(0, 0);
     }
     this.#measure();
     this.marks = [];
@@ -82,7 +84,7 @@ export class Editor {
     this.#marks = [...marks].sort((one, other) => one.begin - other.begin);
     this.#area.setAttribute("aria-invalid", String(marks.length > 0));
     this.#selected = undefined;
-    this.draw();
+    this.#draw();
     this.#describeCaret();
   }
 
@@ -102,7 +104,7 @@ export class Editor {
     this.#area.scrollTop = Math.max(0, line * LINE_HEIGHT - this.#area.clientHeight / 3);
     this.#area.scrollLeft = Math.max(0, (column - 20) * this.#columnWidth());
     if (focus) this.#area.scrollIntoView({ block: "nearest" });
-    this.draw();
+    this.#look();
     this.#describeCaret();
   }
 
@@ -124,17 +126,26 @@ export class Editor {
     this.#area.scrollTo(0, 0);
   }
 
+  /** Takes note of what can be seen, and draws it. */
+  #look() {
+    const { scrollTop: top, scrollLeft: left, clientWidth: width, clientHeight: height } = this.#area;
+    this.#view = { top, left, width, height };
+    this.#draw();
+  }
+
   /** Draws the lines that can be seen. What a line shows stays where it is the same as before. */
-  draw() {
-    const { scrollTop, scrollLeft, clientWidth, clientHeight } = this.#area;
-    const first = Math.floor(scrollTop / LINE_HEIGHT);
-    const last = Math.min(this.#starts.length, Math.ceil((scrollTop + clientHeight) / LINE_HEIGHT) + 1);
-    const seen = { from: scrollLeft, to: scrollLeft + clientWidth };
+  #draw() {
+    const { top, left, width, height } = this.#view;
+    // (Nothing can be seen before the first frame.)
+    if (height === 0) return;
+    const first = Math.floor(top / LINE_HEIGHT);
+    const last = Math.min(this.#starts.length, Math.ceil((top + height) / LINE_HEIGHT) + 1);
+    const seen = { from: left, to: left + width };
     const lines = Array.from({ length: Math.max(last - first, 0) }, (_, index) => this.#lineAt(first + index, seen));
     const numbers = lines.map(({ isMarked }, index) => ({ number: first + index + 1, isMarked }));
-    const down = first * LINE_HEIGHT - scrollTop;
+    const down = first * LINE_HEIGHT - top;
     patch(this.#lines, lines, lineElement);
-    this.#lines.style.transform = `translate(${-scrollLeft}px, ${down}px)`;
+    this.#lines.style.transform = `translate(${-left}px, ${down}px)`;
     patch(this.#numbers, numbers, numberElement);
     this.#numbers.style.transform = `translateY(${down}px)`;
   }
@@ -183,8 +194,8 @@ export class Editor {
   }
 
   #columnWidth() {
-    this.columnWidth ??= widthOfColumn(this.#area);
-    return this.columnWidth;
+    columnWidth ??= widthOfColumn(this.#area);
+    return columnWidth;
   }
 
   #describeCaret() {
@@ -192,7 +203,7 @@ export class Editor {
     const { line, column } = this.positionOf(offset);
     const mark = this.markAt(offset);
     const said = mark === undefined ? "" : `: ${mark.message}`;
-    this.#caret.textContent = `Line ${line}, column ${column}${said}`;
+    showText(this.#caret, `Line ${line}, column ${column}${said}`);
     this.#caret.classList.toggle("fault", mark !== undefined);
   }
 }
@@ -261,6 +272,8 @@ function tokensOf(text) {
     return { begin: found.index, end: found.index + (string ?? found[0]).length, kind };
   });
 }
+
+let columnWidth;
 
 function widthOfColumn(area) {
   const context = document.createElement("canvas").getContext("2d");

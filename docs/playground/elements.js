@@ -11,6 +11,16 @@ export function element(name, attributes = {}, ...children) {
   return made;
 }
 
+/** Gives an element a text, unless it has it already. (A screen reader says what changes.) */
+export function showText(holder, text) {
+  if (holder.textContent !== text) holder.textContent = text;
+}
+
+/** A count with a comma before each three digits. (`toLocaleString` takes many milliseconds at first.) */
+export function withCommas(count) {
+  return String(count).replace(/\B(?=(?:\d{3})+$)/g, ",");
+}
+
 // What the children show that `patch` made.
 const shown = new WeakMap();
 

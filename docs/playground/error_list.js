@@ -1,5 +1,5 @@
 /** The panel with the errors of the instance. */
-import { element, patch } from "./elements.js";
+import { element, patch, showText, withCommas } from "./elements.js";
 
 export class ErrorList {
   #holder = element("div", {});
@@ -25,8 +25,8 @@ export class ErrorList {
     this.#list.hidden = errors.length === 0;
     const left = count - errors.length;
     const hint = verdict === "valid" ? "The instance is valid: there are no errors."
-      : verdict === "none" ? helpFor(fault) : left > 0 ? `${left.toLocaleString("en")} more errors.` : "";
-    if (this.#hint.textContent !== hint) this.#hint.textContent = hint;
+      : verdict === "none" ? helpFor(fault) : left > 0 ? `${withCommas(left)} more errors.` : "";
+    showText(this.#hint, hint);
   }
 
   /** Emphasizes the errors for which this holds. */

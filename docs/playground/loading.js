@@ -1,27 +1,35 @@
-/**
- * Where the module and the worker come from: from files beside this one, or from the page itself, if it is the one file
- * that tools/build-playground makes.
- */
+/** Where the module and the worker come from: files beside the page, or the page itself (tools/build-playground). */
 
-const MODULE = "../../out/wasm/jschema.wasm";
+const MEDIA_TYPE = "application/wasm";
 
 /** The compiled module. */
 export async function loadModule() {
   const embedded = document.getElementById("embedded-module");
-  if (embedded !== null) return WebAssembly.compile(await unpacked(embedded.textContent.trim()));
-  const response = await fetch(new URL(MODULE, import.meta.url));
-  if (!response.ok) throw new Error(`${response.url}: ${response.status}: tools/build-wasm makes the module`);
+  const response = embedded === null ? await served() : unpacked(embedded.textContent);
   // (Not every server says that it is one.)
-  const isTyped = response.headers.get("Content-Type") === "application/wasm";
+  const isTyped = response.headers.get("Content-Type") === MEDIA_TYPE;
   return isTyped ? WebAssembly.compileStreaming(response) : WebAssembly.compile(await response.arrayBuffer());
 }
 
-/** The bytes of a gzipped text in base64. */
-async function unpacked(text) {
+/** The response with the module, which the page has loaded before its script was run. */
+async function served() {
+  const response = await fetch(document.querySelector("link[rel=preload]").href);
+  if (!response.ok) throw new Error(`${response.url}: ${response.status}: tools/build-wasm makes the module`);
+  return response;
+}
+
+/** A response with the module that is in the page, gzipped and in base64. */
+function unpacked(text) {
+  const stream = new Blob([bytesOf(text)]).stream().pipeThrough(new DecompressionStream("gzip"));
+  return new Response(stream, { headers: { "Content-Type": MEDIA_TYPE } });
+}
+
+// (Not every browser has `fromBase64`.)
+function bytesOf(text) {
+  if (Uint8Array.fromBase64 !== undefined) return Uint8Array.fromBase64(text);
   const decoded = atob(text), bytes = new Uint8Array(decoded.length);
   for (let at = 0; at < bytes.length; at++) bytes[at] = decoded.charCodeAt(at);
-  const stream = new Blob([bytes]).stream().pipeThrough(new DecompressionStream("gzip"));
-  return new Response(stream).arrayBuffer();
+  return bytes;
 }
 
 /** Forbids every connection from now on, to this page's own server too: what is typed can't be sent anywhere. */

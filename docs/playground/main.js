@@ -4,7 +4,7 @@ import { Checker } from "./checker.js";
 import { quickAnswer } from "./checking.js";
 import { DocumentTabs } from "./document_tabs.js";
 import { Editor } from "./editor.js";
-import { element } from "./elements.js";
+import { element, showText, withCommas } from "./elements.js";
 import { ErrorList } from "./error_list.js";
 import { EXAMPLES, stateOfExample } from "./examples.js";
 import { forbidConnections, loadModule, startWorker } from "./loading.js";
@@ -22,6 +22,9 @@ const MOST_ENTRIES = 500;
 
 // How long after the last key press the outputs that a panel shows are asked for, and the address gets the state.
 const PAUSE_MILLISECONDS = 200, QUIET_MILLISECONDS = 600;
+
+// How long the page waits for its first verdict before anything is drawn: it needn't be drawn twice then.
+const MOMENT_MILLISECONDS = 100;
 
 const at = (id) => document.getElementById(id);
 
@@ -143,27 +146,30 @@ class Playground {
 
   #answered(answer) {
     this.#answer = answer;
-    const { fault, errors = [] } = answer;
+    this.#say(answer);
+    document.body.hidden = false;
+    performance.mark("verdict");
+    this.#underline(answer);
+    if (answer.places !== undefined) offerEntries(answer.places);
+    this.#showPanel();
+  }
+
+  #underline({ fault, errors = [] }) {
     const faults = fault === undefined ? errors : [fault];
     const marks = (where) => faults.filter((it) => it[where] !== undefined)
       .map((it) => ({ ...it[where], message: it.meaning ?? it.message }));
     this.documents.marks = marks("inSchema");
     this.instance.marks = marks("inInstance");
-    this.#say(answer);
-    performance.mark("verdict");
-    if (answer.places !== undefined) offerEntries(answer.places);
-    this.#showPanel();
   }
 
   #say({ verdict, count, milliseconds, fault }) {
     const said = at("verdict");
-    const errors = () => `${count.toLocaleString("en")} ${count === 1 ? "error" : "errors"}`;
+    const errors = () => `${withCommas(count)} ${count === 1 ? "error" : "errors"}`;
     const text = {
       valid: () => "✓ Valid", invalid: () => `✗ Invalid: ${errors()}`, none: () => `${fault.name}: ${fault.message}`,
     }[verdict]();
     said.className = verdict;
-    // (A screen reader says what changes.)
-    if (said.textContent !== text) said.textContent = text;
+    showText(said, text);
     at("time").textContent = milliseconds === undefined ? ""
       : milliseconds < 1 ? "in less than 1 ms" : `in ${Math.round(milliseconds)} ms`;
   }
@@ -228,7 +234,7 @@ class Playground {
   async #share() {
     clearTimeout(this.#quiet);
     const link = await this.#keep();
-    const length = link.length.toLocaleString("en");
+    const length = withCommas(link.length);
     if (link.length > LONGEST_LINK) {
       notify(`A link would have ${length} characters, which browsers don't take. Make the texts shorter.`);
       return;
@@ -267,11 +273,20 @@ async function firstState() {
   return stateOfExample(EXAMPLES[0]);
 }
 
+/** Has the page drawn only with its first verdict, unless that takes longer than a moment, or something was drawn. */
+function waitUnseen() {
+  document.body.hidden = performance.getEntriesByType("paint").length === 0;
+  setTimeout(() => {
+    document.body.hidden = false;
+  }, MOMENT_MILLISECONDS);
+}
+
 async function begin() {
   at("theme").addEventListener("change", ({ target }) => {
     document.documentElement.dataset.theme = target.value;
   });
   const loading = loadModule();
+  waitUnseen();
   const playground = new Playground();
   playground.show(await firstState());
   const module = await loading;
@@ -279,7 +294,7 @@ async function begin() {
   await playground.connect(module);
   window.addEventListener("hashchange", async () => playground.show(await firstState()));
   // (The verdict is drawn first.)
-  await new Promise((resolve) => setTimeout(resolve));
+  await new Promise((resolve) => requestAnimationFrame(() => setTimeout(resolve)));
   await playground.complete();
   performance.mark("complete");
 }

@@ -1,6 +1,6 @@
 /** The panel with the output as it is written, in any format. */
 import { FORMATS } from "../../bindings/javascript/src/interface.js";
-import { element } from "./elements.js";
+import { element, withCommas } from "./elements.js";
 import { indented } from "./indenting.js";
 
 /** The most characters of an output that are shown. */
@@ -34,5 +34,5 @@ export class OutputPanel {
 }
 
 function hintFor({ length }) {
-  return `${length.toLocaleString("en")} characters; indented here${length > MOST_CHARACTERS ? " and cut" : ""}.`;
+  return `${withCommas(length)} characters; indented here${length > MOST_CHARACTERS ? " and cut" : ""}.`;
 }

@@ -38,7 +38,7 @@ export function treeOf(text) {
       note: written.error ?? written.annotation,
     };
   };
-  return nodeOf(scan(text, Infinity));
+  return nodeOf(scan(text, { deepest: Infinity }));
 }
 
 /** The text of a tree, as the validator writes it: members by name, and a line feed at the end. */

@@ -1,5 +1,5 @@
 /** Tabs, between which arrow keys move, as the ARIA pattern "tabs" has it. */
-import { element } from "./elements.js";
+import { element, showText } from "./elements.js";
 
 export class Tabs {
   #holder;
@@ -31,7 +31,7 @@ export class Tabs {
       button.id = `${this.#panel}-${tab.key}`;
       button.className = tab.kind ?? "";
       button.tabIndex = isSelected ? 0 : -1;
-      if (button.textContent !== tab.label) button.textContent = tab.label;
+      showText(button, tab.label);
       button.setAttribute("aria-selected", String(isSelected));
       button.onclick = () => this.#chosen(tab.key);
     });

@@ -1,5 +1,5 @@
 /** A foldable tree: rows that arrow keys move between, as the ARIA pattern "tree view" has it. */
-import { element } from "./elements.js";
+import { element, withCommas } from "./elements.js";
 
 /** The most rows that are shown at once. */
 const MOST_ROWS = 2000;
@@ -73,7 +73,7 @@ export class TreeView {
     if (!shown.some((it) => it.node.id === this.#focused)) this.#focused = shown[0]?.node.id;
     this.#holder.replaceChildren(...shown.map((it) => this.#rowOf(it)));
     if (this.#rows.length > MOST_ROWS) {
-      const left = (this.#rows.length - MOST_ROWS).toLocaleString("en");
+      const left = withCommas(this.#rows.length - MOST_ROWS);
       this.#holder.append(element("p", { class: "hint" }, `${left} more rows: fold some of those above.`));
     }
     if (hadFocus) this.#element()?.focus({ preventScroll: true });

@@ -36,7 +36,7 @@ EDITS = {
     "another name of a refusal": ("crates/js_output/specs/Line.antt", 'codes "BadId"', 'codes "NoId"',
                                   "js_output/specs/Line.antt: the names"),
     "a sixth format": ("interface.toml", "[[status]]\nnumber = 0", SIXTH,
-                       "jschema is stale(.|\n)*js_tree/src/forms.rt(.|\n)*js_command/src/words.rt(.|\n)*"
+                       "jschema is stale(.|\n)*js_tree/src/formats.rt(.|\n)*js_command/src/words.rt(.|\n)*"
                        "js_command/specs/Words.antt(.|\n)*jschema_c/src/status.rt(.|\n)*jschema_c/specs/Status.antt"),
 }
 

@@ -99,6 +99,7 @@ def of_mutants(room):
     yield from of_callers(room)
     yield from over_what_is_kept(room, right, wrong)
     yield from of_rows(room)
+    yield from of_listed(room)
 
 
 def one_by_one(room, home):
@@ -224,3 +225,19 @@ def of_rows(room):
     Path(home, "tests/mutants/js_assert/max-items-is-wrong.edit").unlink()
     yield Check(f"{SCRIPT}, a row that another one's edit begins like", words, "named after says_by MaxItems of", home,
                 env)
+
+
+def of_listed(room):
+    """What is named, or what gate.txt lists, and nothing else."""
+    env = {"RT": room.executable("rt/refuses what is listed", FAKE_RT % REFUSES)}
+    for number, (listed, says, prints) in enumerate((("# of both\njs_doc/second\n", "", "^js_doc: 1 of 1 refused"),
+                                                     ("js_doc\n", "", "^js_doc: 2 of 2 refused"),
+                                                     ("js_doc/none\n", "js_doc/ has no none.edit", ""),
+                                                     ("# nothing\n", "^0 passed, 0 failed", ""))):
+        home = room.copy(f"mutants of list {number}")
+        write_bodies(home, "js_doc")
+        Path(home, "tests/mutants/gate.txt").write_text(listed)
+        yield Check(f"{SCRIPT} --gate, {listed!r}", [SCRIPT, "--gate"], says, home, env, not says, prints=prints)
+    yield Check(f"{SCRIPT} --together, one of two", [SCRIPT, "--together", "js_doc/first"], "", home, env,
+                prints="^js_doc: 1 of 1 refused")
+    yield Check(f"{SCRIPT} --gate, a name", [SCRIPT, "--gate", "js_doc"], "--gate takes no names", home, env, False)

@@ -39,7 +39,7 @@ RUN_BY = {
     "benchmarks/calls --write":
         Small("benchmarks/calls --only '11 bytes' --each 0.01 --program {program}", (LIBRARY, "cc")),
     "benchmarks/command --write": Small("benchmarks/command --files 3 --rounds 1 --only files", (LIBRARY,)),
-    "benchmarks/page": Small("benchmarks/page --rounds 1", (MODULE, "chromium", "chromedriver")),
+    "benchmarks/page": Small("benchmarks/page --rounds 1", (MODULE, "chromium", "chromedriver", "esbuild")),
     "benchmarks/compare/cases /tmp/cases": Small("benchmarks/compare/cases {folder}/compared"),
     "benchmarks/compare/run /tmp/cases --write":
         Small("benchmarks/compare/run {folder}/compared --only records --rounds 1 --seconds 1 --program {program}"),
