@@ -6,8 +6,9 @@
 //! against the schema at a place, and reports each node of the result tree when it opens and, after the nodes below it,
 //! when it closes. These reports are the *events*.
 //!
-//! `walking` is the recursion, over any `World` and any `Reporter`; `keywords` has the kinds of keywords and their
-//! order; `finished_world` is the `World` of finished schemas, and `public_walks` has the public calls.
+//! `evaluation` has the recursion, over any `World` and any `Reporter`; `kinds` the kinds of keywords and their order;
+//! `keywords` what each applies, when it passes and its note; `finished_world` the `World` of finished schemas;
+//! `public_walks` the public calls.
 #![tactic(auto)]
 
 mod cursors;

@@ -1,4 +1,7 @@
-//! Bytes in, bytes out.
+//! Bytes in, bytes out: schema documents and an instance as texts, the output as bytes.
+//!
+//! What a caller needs of the crates below stands here too: documents that are read once and checked many times take
+//! `read`, `Schemas::entry` and `verdict`, and no output is written.
 #![tactic(auto)]
 
 mod documents;
@@ -28,8 +31,9 @@ pub use fault::{Fault, SuiteFault};
 pub use fault_line::refusal_line;
 pub use finished::{judge, judge_within, run_finished, run_finished_within};
 pub use input::read_all;
-pub use js_bundle::{Bundle, EntryFault, Refusal, RefusalKind, Schemas};
-pub use js_eval::Limits;
+pub use js_bundle::{Bundle, EntryFault, Place, Refusal, RefusalKind, Schemas};
+pub use js_doc::{Doc, ReadFault, read};
+pub use js_eval::{Limits, WalkFault, verdict, verdict_within};
 pub use js_tree::Format;
 pub use pair_of_texts::run_pair;
 pub use places::{list_places, run_places};
