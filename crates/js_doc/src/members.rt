@@ -132,6 +132,16 @@ impl Members {
         Pairs::new(self.entries.as_slice())
     }
 
+    /// The names and values, by name ascending.
+    pub fn into_vec(self) -> Vec<(Text, Doc)>
+        ensures pairs { map pair_of result.items ≡ self }
+        ensures ascending { IsAscending self }
+    {
+        self.lawful_members();
+        let Members { entries: vector } = self;
+        vector
+    }
+
     /// Puts the value under the name, in place of the one that stood there. A name above all others goes to the end
     /// without a search.
     ///
