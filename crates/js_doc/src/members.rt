@@ -137,7 +137,6 @@ impl Members {
         ensures pairs { map pair_of result.items ≡ self }
         ensures ascending { IsAscending self }
     {
-        self.lawful_members();
         let Members { entries: vector } = self;
         vector
     }
