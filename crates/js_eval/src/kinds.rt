@@ -4,6 +4,5 @@ pub(crate) mod applying;
 pub(crate) mod in_turn;
 pub(crate) mod keyword;
 pub(crate) mod keyword_cursor;
-pub(crate) mod kind;
-pub(crate) mod kind_by_name;
+pub(crate) mod keyword_in_turn;
 pub(crate) mod turn;

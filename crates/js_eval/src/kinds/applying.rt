@@ -1,13 +1,13 @@
 //! The members of a schema that apply schemas, one after another, each as a keyword with its turn (see `turn`).
 ghost use Rattle.std.specs.Prelude.{◌≡◌, ◌∷◌, [], MatchOption, Some, filter, option_map, slice_get, true};
-ghost use Rattle.js_eval.specs.code.Applicator.{applicators_from, applies, has_applicator};
+ghost use Rattle.js_eval.specs.code.Applicator.{applicators_from, has_applicator};
 ghost use Rattle.js_eval.specs.code.Standard.{keyword_names_of};
 ghost use Rattle.js_eval.specs.code.Turns.{turn_of};
 ghost use Rattle.js_eval.specs.Seen.{keyword_of};
-ghost use Rattle.js_eval.specs.Walk.Visited.{is_visited};
+ghost use Rattle.js_eval.specs.Walk.Visited.{is_visited, may_apply};
 
 use crate::kinds::keyword::Keyword;
-use crate::kinds::kind_by_name::keyword_in_turn;
+use crate::kinds::keyword_in_turn::keyword_in_turn;
 use crate::kinds::turn::Turn;
 use js_bundle::KeywordName;
 use js_doc::Members;
@@ -80,29 +80,9 @@ pub(crate) fn has_applicator(names: &[KeywordName]) -> bool
     names.iter().any(|which| applies(*which))
 }
 
-fn applies(which: KeywordName) -> bool
-    ensures { result ≡ applies which }
+/// Whether a keyword applies schemas (Core, sections 8.2.3, 10 and 11).
+pub(crate) fn applies(which: KeywordName) -> bool
+    ensures { result ≡ may_apply which }
 {
-    matches!(
-        which,
-        KeywordName::Ref
-            | KeywordName::DynamicRef
-            | KeywordName::AllOf
-            | KeywordName::AnyOf
-            | KeywordName::OneOf
-            | KeywordName::Not
-            | KeywordName::If
-            | KeywordName::Then
-            | KeywordName::Else
-            | KeywordName::DependentSchemas
-            | KeywordName::PrefixItems
-            | KeywordName::Items
-            | KeywordName::Contains
-            | KeywordName::Properties
-            | KeywordName::PatternProperties
-            | KeywordName::AdditionalProperties
-            | KeywordName::PropertyNames
-            | KeywordName::UnevaluatedItems
-            | KeywordName::UnevaluatedProperties
-    )
+    !matches!(which, KeywordName::Assertion | KeywordName::Other(_))
 }

@@ -6,7 +6,7 @@ ghost use Rattle.js_eval.specs.code.Standard.{keyword_names_of};
 
 use crate::kinds::applying::Applying;
 use crate::kinds::keyword::Keyword;
-use crate::kinds::kind_by_name::keyword_in_turn;
+use crate::kinds::keyword_in_turn::keyword_in_turn;
 use crate::kinds::turn::Turn;
 use js_bundle::KeywordName;
 use js_doc::{Doc, Members, Pairs};
@@ -62,7 +62,7 @@ fn first_name(names: &[KeywordName]) -> (KeywordName, &[KeywordName])
 {
     match names.split_first() {
         Some((first, others)) => (*first, others),
-        None => (KeywordName::OtherUpToIf, names), // never: each member has a name
+        None => (KeywordName::Assertion, names), // never: each member has a name
     }
 }
 
