@@ -22,8 +22,8 @@ use Rattle.js_bundle.specs.declared.keyword_name.OtherName.TheVariants.{Unknown}
 use Rattle.js_eval.specs.Keywords.{has_node, is_else, is_after_if, without_node}
 use Rattle.js_eval.specs.code.Standard.{turn_by_keyword, turn_by_side, keyword_names_of}
 use Rattle.js_eval.specs.code.Turns.{turn_by, turn_of}
-use Rattle.js_eval.specs.declared.kinds.turn.Turn.{Turn}
-use Rattle.js_eval.specs.declared.kinds.turn.Turn.TheVariants.{Never, First, Last}
+use Rattle.js_eval.specs.declared.turns.turn.Turn.{Turn}
+use Rattle.js_eval.specs.declared.turns.turn.Turn.TheVariants.{Never, First, Last}
 
 -- ---- what holds of each row of a table, and of each other name, holds of each name
 
@@ -59,9 +59,28 @@ unfolding keyword_name
 by_keyword q assertion other rows name =
     in_rows q applying (not_applying name) name rows
     (either_has (q name) true (is_some (keyword_named name)) Assertion (name_in identifying (Other Unknown) name)
-    (assertion name) (others_have (q name) true identifying (Other Unknown) name
-    (other name _, (other name _, (other name _, (other name _, (other name _, (other name _, (other name _,
-    (other name _, tt)))))))) (other name Unknown)))
+    (assertion name) (others_have (q name) true identifying (Other Unknown) name (
+      other name _,
+      (
+        other name _,
+        (
+          other name _,
+          (
+            other name _,
+            (
+              other name _,
+              (
+                other name _,
+                (
+                  other name _,
+                  (other name _, tt),
+                ),
+              ),
+            ),
+          ),
+        ),
+      ),
+    ) (other name Unknown)))
 
 -- ---- when it has its turn
 
@@ -128,6 +147,7 @@ turn_by_rows (row ∷ rows) otherwise name h e = at (bytes_eq name row.0) refl (
   where
     of_row : name ≡ row.0 → turn_of name ≡ turn_by_keyword row.1 name
     of_row q = subst (λ n. turn_of n ≡ turn_by_keyword row.1 n) (sym q) h.0
+
     at : (b : Bool) → bytes_eq name row.0 ≡ b → turn_of name ≡ turn_by_keyword (name_in rows otherwise name) name
         → turn_of name ≡ turn_by_keyword (cond b row.1 (name_in rows otherwise name)) name
     at true q r = of_row ((bytes_eq-Decides name row.0).0 q)

@@ -6,7 +6,7 @@
 //! against the schema at a place, and reports each node of the result tree when it opens and, after the nodes below it,
 //! when it closes. These reports are the *events*.
 //!
-//! `evaluation` has the recursion, over any `World` and any `Reporter`; `kinds` the kinds of keywords and their order;
+//! `evaluation` has the recursion, over any `World` and any `Reporter`; `turns` the keywords of a schema and their order;
 //! `keywords` what each applies, when it passes and its note; `finished_world` the `World` of finished schemas;
 //! `public_walks` the public calls.
 #![tactic(auto)]
@@ -16,7 +16,6 @@ mod evaluation;
 mod finished_world;
 mod instance;
 mod keywords;
-mod kinds;
 pub mod laws;
 mod marks;
 mod public_walks;
@@ -24,6 +23,7 @@ mod reporters;
 mod schema;
 mod schema_lookup;
 mod searching;
+mod turns;
 
 pub use evaluation::{Limits, WalkFault};
 pub use public_walks::{
