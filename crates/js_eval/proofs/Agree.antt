@@ -17,7 +17,8 @@ use Rattle.js_eval.specs.SchemaSet.{Text, SchemaSet, Alone}
 use Rattle.js_eval.specs.Verdict as verdict
 use Rattle.js_eval.specs.Verdict.{Known, with_one_more, nothing, within}
 use Rattle.js_bundle.specs.declared.keyword_name.KeywordName.{KeywordName}
-use Rattle.js_bundle.specs.declared.keyword_name.KeywordName.TheVariants.{UnevaluatedItems, UnevaluatedProperties, Contains}
+use Rattle.js_bundle.specs.declared.keyword_name.KeywordName.TheVariants.{UnevaluatedItems}
+use Rattle.js_bundle.specs.declared.keyword_name.KeywordName.TheVariants.{UnevaluatedProperties, Contains}
 use Rattle.js_eval.proofs.Lists.{and_same, all_more, all_same, map_same, filter_same}
 use Rattle.js_eval.proofs.Lists.{flat_map_same, all_filtered, found}
 
@@ -156,11 +157,13 @@ module _ {Place : Type 0} (S : SchemaSet Place) (w x : Known Place) (agree : Agr
   matching_same h = matching_at (get (codes "contains") (entries (S.schema place))) refl h
 
   -- what another keyword asks for is settled
-  other_settled : (k : Keyword) → verdict.keyword_settled S w above place v k ≡ true → is_unevaluated (keyword_name k.0) ≡ false
+  other_settled : (k : Keyword) → verdict.keyword_settled S w above place v k ≡ true
+      → is_unevaluated (keyword_name k.0) ≡ false
       → list_all done (verdict.others_ask S w above place v k) ≡ true
   other_settled k h e =
       ap (list_all done) (sym (plain S path place (entries (S.schema place)) v (verdict.condition S w above place v)
-      (verdict.evaluated_names S w above place v) (verdict.evaluated_indexes S w above place v) k (keyword_name k.0) e)) ∙ h
+      (verdict.evaluated_names S w above place v) (verdict.evaluated_indexes S w above place v) k (keyword_name k.0)
+      e)) ∙ h
 
   others_ask_same : KeywordsSettled → (k : Keyword)
       → verdict.others_ask S w above place v k ≡ verdict.others_ask S x above place v k

@@ -1,5 +1,6 @@
 -- The keywords of a schema that apply no schemas, judged by the assertions of its place and counted by its names.
-use Rattle.std.specs.Prelude.{◌≡◌, ℕ, ◌+◌, Bool, true, false, not, ◌&&◌, cond, if◌then◌else◌, List, [], ◌∷◌, ◌++◌, Option, Some}
+use Rattle.std.specs.Prelude.{◌≡◌, ℕ, ◌+◌, Bool, true, false, not, ◌&&◌}
+use Rattle.std.specs.Prelude.{cond, if◌then◌else◌, List, [], ◌∷◌, ◌++◌, Option, Some}
 use Rattle.std.specs.Prelude.{None, is_some, option_map, option_to_list, filter, length, refl}
 use Rattle.std.specs.List.{AllByRecursion, list_all, flat_map}
 use Rattle.std.specs.Option.{option_map_or}
@@ -299,7 +300,8 @@ judged_together documents n v matching assertions names pass count there built n
     record {
       verdict =
           passes ∙ (ap (list_all (λ a. says a v matching)) (same ∙ assertions_are s)
-          ∙ (each_said ms v matching ms ∙ sym (all_hold (λ k. passes_of ms v matching k [] (keyword_name k.0)) unvisited ms)));
+          ∙ (each_said ms v matching ms ∙ sym (all_hold (λ k. passes_of ms v matching k [] (keyword_name k.0))
+          unvisited ms)));
       many = counted ∙ (ap (λ l. length (filter has_leaf l)) named
           ∙ (leaves_counted ms ∙ sym (all_counted unvisited ms)));
     }

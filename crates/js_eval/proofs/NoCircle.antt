@@ -72,11 +72,13 @@ module _ {Place : Type 0} (S : SchemaSet Place) (known : Known Place) (above : L
       (λ k. either_state (is_unevaluated_items (keyword_name k.0)) (is_unevaluated_properties (keyword_name k.0)))
       (λ k h. no_names_given S known above place v k (no_names (keyword_name k.0) h))
       (λ k h g. ap (verdict.names_by S known above place v (verdict.matching S known above place v) k)
-      (asks_plain k (neither (is_unevaluated_items (keyword_name k.0)) (is_unevaluated_properties (keyword_name k.0)) g h)))
+      (asks_plain k (neither (is_unevaluated_items (keyword_name k.0)) (is_unevaluated_properties
+      (keyword_name k.0)) g h)))
       (keywords (S.schema place))
 
   pub indexes_in_no_circle : flat_map (verdict.gives_indexes S known above place v) (filter (λ k. not
-      (is_unevaluated_items (keyword_name k.0))) (keywords (S.schema place))) ≡ verdict.evaluated_indexes S known above place v
+      (is_unevaluated_items (keyword_name k.0))) (keywords (S.schema place)))
+      ≡ verdict.evaluated_indexes S known above place v
   indexes_in_no_circle =
       left_out (verdict.gives_indexes S known above place v) (λ k. verdict.indexes_by S known above place v
       (verdict.matching S known above place v) k (verdict.others_ask S known above place v k))
@@ -85,5 +87,6 @@ module _ {Place : Type 0} (S : SchemaSet Place) (known : Known Place) (above : L
       (λ k. refl)
       (λ k h. no_indexes_given S known above place v k (no_indexes (keyword_name k.0) h))
       (λ k h g. ap (verdict.indexes_by S known above place v (verdict.matching S known above place v) k)
-      (asks_plain k (neither (is_unevaluated_items (keyword_name k.0)) (is_unevaluated_properties (keyword_name k.0)) h g)))
+      (asks_plain k (neither (is_unevaluated_items (keyword_name k.0)) (is_unevaluated_properties
+      (keyword_name k.0)) h g)))
       (keywords (S.schema place))

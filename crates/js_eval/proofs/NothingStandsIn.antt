@@ -46,9 +46,11 @@ use Rattle.js_bundle.specs.Ranked.{applies_at}
 use Rattle.js_bundle.specs.declared.keyword_name.KeywordName.{KeywordName}
 use Rattle.js_bundle.specs.declared.keyword_name.OtherName.{OtherName}
 use Rattle.js_bundle.specs.declared.keyword_name.KeywordName.TheVariants.{Ref, DynamicRef, AllOf, AnyOf, OneOf, Not}
-use Rattle.js_bundle.specs.declared.keyword_name.KeywordName.TheVariants.{If, Then, Else, DependentSchemas, PrefixItems, Items}
+use Rattle.js_bundle.specs.declared.keyword_name.KeywordName.TheVariants.{If, Then, Else}
+use Rattle.js_bundle.specs.declared.keyword_name.KeywordName.TheVariants.{DependentSchemas, PrefixItems, Items}
 use Rattle.js_bundle.specs.declared.keyword_name.KeywordName.TheVariants.{Contains, Properties, PatternProperties}
-use Rattle.js_bundle.specs.declared.keyword_name.KeywordName.TheVariants.{AdditionalProperties, PropertyNames, UnevaluatedItems}
+use Rattle.js_bundle.specs.declared.keyword_name.KeywordName.TheVariants.{AdditionalProperties}
+use Rattle.js_bundle.specs.declared.keyword_name.KeywordName.TheVariants.{PropertyNames, UnevaluatedItems}
 use Rattle.js_bundle.specs.declared.keyword_name.KeywordName.TheVariants.{UnevaluatedProperties, Assertion, Other}
 use Rattle.js_eval.proofs.AssertionThere.{same_members}
 use Rattle.js_eval.proofs.FoundByName.{all_of_filter, keywords_among}
@@ -273,7 +275,8 @@ module _ (documents : Documents) (place : Site) (finds : FindsAll documents plac
   has_named name e = ap (λ n. has_argument n place.schema) (sym e) ∙ ap is_some argument_there
 
   module _ (κ : KeywordName) (does : keyword_name k.0 ≡ κ) where
-    one_found : applies_at κ Alone ≡ true → IsFound documents (below documents place k.0 Alone) (S.below place k.0 Alone)
+    one_found : applies_at κ Alone ≡ true → IsFound documents (below documents place k.0 Alone)
+        (S.below place k.0 Alone)
     one_found h = held_found Alone k.1
         (is_one (holding k.0) (applies_fits k.0 Alone (ap (λ c. applies_at c Alone) does ∙ h)), argument_there)
 
@@ -387,7 +390,8 @@ module _ (documents : Documents) (place : Site) (finds : FindsAll documents plac
     (condition : Option Bool) (names : List Text) (indexes : List ℕ) where
   each_found : (ks : List Keyword) → AllByRecursion (IsIn place.schema) ks
       → AllByRecursion (λ k. AllByRecursion (IsOfFound documents path place k)
-      (asks_of (schemas_of documents) path place (entries place.schema) v condition names indexes k (keyword_name k.0))) ks
+      (asks_of (schemas_of documents) path place (entries place.schema) v condition names indexes k
+      (keyword_name k.0))) ks
   each_found [] all = tt
   each_found (k ∷ ks) all = (
     found_by documents place finds k all.0 path (entries place.schema) v condition names

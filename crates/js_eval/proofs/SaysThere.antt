@@ -14,7 +14,8 @@ use Rattle.js_bundle.specs.declared.keyword_name.KeywordName.TheVariants.{Assert
 
 pub says_there : {P : Type 0} (S : SchemaSet P) (place : P) (v : Value) (matching : ℕ) (k : Keyword) (succeeded : ℕ)
     (given : List Text) (at : List ℕ) (b passes : Bool) (κ : KeywordName) (n : Note)
-    → κ ≡ keyword_name k.0 → passes ≡ b → n ≡ keyword_says (entries (S.schema place)) v matching k succeeded given at b κ
+    → κ ≡ keyword_name k.0 → passes ≡ b → n ≡ keyword_says (entries (S.schema place)) v matching k succeeded given
+    at b κ
     → n ≡ says_at S place v matching k succeeded given at passes
 unfolding says_at
 says_there S place v matching k succeeded given at b passes κ n e f h =

@@ -33,7 +33,8 @@ row_at q true name row which rest e h r = ap (λ n. q n which) ((bytes_eq-Decide
 row_at q false name row which rest e h r = r
 
 pub in_rows : (q : List ℕ → KeywordName → Bool) (rows : TableOfNames) (otherwise : KeywordName) (name : List ℕ)
-    → list_all (λ row. q row.0 row.1) rows ≡ true → q name otherwise ≡ true → q name (name_in rows otherwise name) ≡ true
+    → list_all (λ row. q row.0 row.1) rows ≡ true → q name otherwise ≡ true
+    → q name (name_in rows otherwise name) ≡ true
 in_rows q [] otherwise name h e = e
 in_rows q (row ∷ rows) otherwise name h e =
     let p = and_parts (q row.0 row.1) (list_all (λ r. q r.0 r.1) rows) h in

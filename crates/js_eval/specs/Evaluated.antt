@@ -6,7 +6,8 @@ use Rattle.js_eval.specs.Applications.{Application}
 use Rattle.js_eval.specs.SchemaSet.{Text, Step, Index, Name}
 use Rattle.js_bundle.specs.declared.keyword_name.KeywordName.{KeywordName}
 use Rattle.js_bundle.specs.declared.keyword_name.KeywordName.TheVariants.{Ref, DynamicRef, AllOf, AnyOf, OneOf, If}
-use Rattle.js_bundle.specs.declared.keyword_name.KeywordName.TheVariants.{Then, Else, DependentSchemas, PrefixItems, Items}
+use Rattle.js_bundle.specs.declared.keyword_name.KeywordName.TheVariants.{Then, Else}
+use Rattle.js_bundle.specs.declared.keyword_name.KeywordName.TheVariants.{DependentSchemas, PrefixItems, Items}
 use Rattle.js_bundle.specs.declared.keyword_name.KeywordName.TheVariants.{Contains, Properties, PatternProperties}
 use Rattle.js_bundle.specs.declared.keyword_name.KeywordName.TheVariants.{AdditionalProperties, UnevaluatedItems}
 use Rattle.js_bundle.specs.declared.keyword_name.KeywordName.TheVariants.{UnevaluatedProperties}

@@ -125,7 +125,8 @@ pub record IsFound (documents : Documents) (found : Option Site) (place : Site) 
 
 -- the keyword of a place asks for the application
 abbrev pub IsOfFound : Documents → List Site → Site → Keyword → Application Site → Type 0
-IsOfFound documents path place k a = IsFound documents (looked_for documents path place k.0 a.step (keyword_name k.0)) a.place
+IsOfFound documents path place k a = IsFound documents (looked_for documents path place k.0 a.step
+    (keyword_name k.0)) a.place
 
 -- In documents that are accepted, each application that a keyword of a place asks for is of a place that is found,
 -- whatever value is judged, and whatever the dynamic scope. It is a place of the documents too, so the same holds

@@ -14,9 +14,12 @@ use Rattle.js_eval.specs.Evaluated.{names_applied, indexes_applied}
 use Rattle.js_eval.specs.Keywords.{Keyword}
 use Rattle.js_eval.specs.SchemaSet.{Text}
 use Rattle.js_bundle.specs.declared.keyword_name.KeywordName.{KeywordName}
-use Rattle.js_bundle.specs.declared.keyword_name.KeywordName.TheVariants.{AnyOf, OneOf, Not, PrefixItems, Items, Contains}
-use Rattle.js_bundle.specs.declared.keyword_name.KeywordName.TheVariants.{Properties, PatternProperties, AdditionalProperties}
-use Rattle.js_bundle.specs.declared.keyword_name.KeywordName.TheVariants.{UnevaluatedItems, UnevaluatedProperties, Assertion}
+use Rattle.js_bundle.specs.declared.keyword_name.KeywordName.TheVariants.{AnyOf, OneOf, Not}
+use Rattle.js_bundle.specs.declared.keyword_name.KeywordName.TheVariants.{PrefixItems, Items, Contains}
+use Rattle.js_bundle.specs.declared.keyword_name.KeywordName.TheVariants.{Properties}
+use Rattle.js_bundle.specs.declared.keyword_name.KeywordName.TheVariants.{PatternProperties, AdditionalProperties}
+use Rattle.js_bundle.specs.declared.keyword_name.KeywordName.TheVariants.{UnevaluatedItems}
+use Rattle.js_bundle.specs.declared.keyword_name.KeywordName.TheVariants.{UnevaluatedProperties, Assertion}
 use Rattle.js_bundle.specs.declared.keyword_name.KeywordName.TheVariants.{Other}
 
 -- ---- the terms of the tables

@@ -236,15 +236,18 @@ module _ (is : KeywordName → Bool) (w : Text) (source : KeywordName → Origin
           let z : Less ≡ Equal = sym l ∙ (ap (λ n. name_cmp n k.0) (q.2 ∙ sym p.2) ∙ itself k.0) in cc)
       at false e = refl
 
-  behind_silent : (k x : Keyword) → is (keyword_name k.0) ≡ true → name_cmp k.0 x.0 ≡ Less → source (keyword_name x.0) ≡ Nowhere
+  behind_silent : (k x : Keyword) → is (keyword_name k.0) ≡ true → name_cmp k.0 x.0 ≡ Less
+      → source (keyword_name x.0) ≡ Nowhere
   behind_silent k x h l =
       let p = place_of k.0 h in
-      nowhere (source (keyword_name x.0)) (implied (is_lt (name_cmp w x.0)) (is_nowhere (source (keyword_name x.0))) (silent_behind x.0)
+      nowhere (source (keyword_name x.0)) (implied (is_lt (name_cmp w x.0)) (is_nowhere (source (keyword_name x.0)))
+      (silent_behind x.0)
       (ap is_lt (ap (λ n. name_cmp n x.0) (sym p.2) ∙ l)))
 
   module _ (schema : Value) (ascending : IsAscending (entries schema)) (done more : List Keyword) (k : Keyword)
       (split : done ++ k ∷ more ≡ keywords schema) (h : is (keyword_name k.0) ≡ true)
-      {A : Type 0} (f : Keyword → List A) (f_silent : (x : Keyword) → source (keyword_name x.0) ≡ Nowhere → f x ≡ []) where
+      {A : Type 0} (f : Keyword → List A) (f_silent : (x : Keyword) → source (keyword_name x.0) ≡ Nowhere
+      → f x ≡ []) where
     pub others_before : flat_map f (filter (λ x. not (is (keyword_name x.0))) (keywords schema)) ≡ flat_map f done
     others_before =
         let p = place_of k.0 h in
@@ -253,7 +256,8 @@ module _ (is : KeywordName → Bool) (w : Text) (source : KeywordName → Origin
         (λ x c. excluded (is (keyword_name x.0)) (is_else x.0) (λ e. (place_of x.0 e).1) c)
         (λ x l. below_not k x h l) h f (λ x l. f_silent x (behind_silent k x h l))
 
-names_placed : (name : Text) → placed is_unevaluated_properties (codes "unevaluatedProperties") name (keyword_name name) ≡ true
+names_placed : (name : Text) → placed is_unevaluated_properties (codes "unevaluatedProperties") name
+    (keyword_name name) ≡ true
 names_placed name = by_keyword (placed is_unevaluated_properties (codes "unevaluatedProperties"))
     (λ n. refl) (λ n other. refl) refl name
 
@@ -334,15 +338,20 @@ module _ {P : Type 0} (later : CountsLater) (S : SchemaSet P) (known : Known P) 
   passes_before = passes_before_at (comes_before_else k.0) refl
 
   note_before_at : (b : Bool) → comes_before_else k.0 ≡ b → (apps holding : List (Application P)) (p : Bool)
-      → keyword_note (entries (S.schema place)) v (matching_in S known above place v done) k apps holding p (keyword_name k.0)
-      ≡ keyword_note (entries (S.schema place)) v (verdict.matching S known above place v) k apps holding p (keyword_name k.0)
-  note_before_at true e apps holding p = note_first later (entries (S.schema place)) v _ _ k e apps holding p (keyword_name k.0)
+      → keyword_note (entries (S.schema place)) v (matching_in S known above place v done) k apps holding p
+      (keyword_name k.0)
+      ≡ keyword_note (entries (S.schema place)) v (verdict.matching S known above place v) k apps holding p
+      (keyword_name k.0)
+  note_before_at true e apps holding p = note_first later (entries (S.schema place)) v _ _ k e apps holding p
+      (keyword_name k.0)
   note_before_at false e apps holding p =
       ap (λ m. keyword_note (entries (S.schema place)) v m k apps holding p (keyword_name k.0)) (matching_before e)
 
   pub note_before : (apps holding : List (Application P)) (p : Bool)
-      → keyword_note (entries (S.schema place)) v (matching_in S known above place v done) k apps holding p (keyword_name k.0)
-      ≡ keyword_note (entries (S.schema place)) v (verdict.matching S known above place v) k apps holding p (keyword_name k.0)
+      → keyword_note (entries (S.schema place)) v (matching_in S known above place v done) k apps holding p
+      (keyword_name k.0)
+      ≡ keyword_note (entries (S.schema place)) v (verdict.matching S known above place v) k apps holding p
+      (keyword_name k.0)
   note_before = note_before_at (comes_before_else k.0) refl
 
 abbrev unit_with : {P : Type 0} → SchemaSet P → List P → P → Location → Keyword → Bool → Note → OutputUnit

@@ -63,7 +63,8 @@ counted_more p xs x = ap length (filter-append p xs (x ∷ []))
     one true = refl
     one false = refl
 
-module _ {P C : Type 0} (S : SchemaSet P) (n : ℕ) (path : List P) (κ : KeywordName) (takes : C → Event → C → Type 0) where
+module _ {P C : Type 0} (S : SchemaSet P) (n : ℕ) (path : List P) (κ : KeywordName) (takes : C → Event → C
+    → Type 0) where
   -- all but the rest are walked and reported
   pub record EachSoFar (all rest : List (Application P)) (asked succeeded : ℕ) (names names' : List Text)
       (indexes indexes' : List ℕ) (old left : ℕ) (keyword instance : Text) (c d : C) : Type 0 where

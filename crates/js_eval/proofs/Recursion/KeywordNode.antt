@@ -100,7 +100,8 @@ module _ {P : Type 0} (S : SchemaSet P) (n : ℕ) (path : List P) (place : P) (v
       ∙ (ap (λ l. keyword_says (entries (S.schema place)) v matching k (length (filter (holds_at S n path) apps))
       (names_given S n path (keyword_name k.0) apps) l b (keyword_name k.0)) y
       ∙ (ap (λ q. keyword_says (entries (S.schema place)) v matching k (length (filter (holds_at S n path) apps))
-      (names_given S n path (keyword_name k.0) apps) (indexes_given S n path (keyword_name k.0) apps) q (keyword_name k.0)) p
+      (names_given S n path (keyword_name k.0) apps) (indexes_given S n path (keyword_name k.0) apps) q
+      (keyword_name k.0)) p
       ∙ says_is (entries (S.schema place)) v matching k apps (filter (holds_at S n path) apps) _ _
       (passes_by S n path place v k matching apps) (keyword_name k.0))))) in
       let i : opening text absolute instance ≡ opening_of u = let q = here.schemas in let r = here.value in cc in

@@ -160,7 +160,8 @@ branch_later : (name : Text) → (not (is_branch (keyword_name name)) || not (co
 branch_later name = by_keyword (λ n κ. not (is_branch κ) || not (comes_before_else n))
     (λ n. refl) (λ n other. refl) refl name
 
-pub then_later : (name : Text) (b : Bool) → is_branch (keyword_name name) ≡ true → comes_before_else name ≡ b → b ≡ false
+pub then_later : (name : Text) (b : Bool) → is_branch (keyword_name name) ≡ true → comes_before_else name ≡ b
+    → b ≡ false
 then_later name true h e = absurd (let q = branch_later name in cc)
 then_later name false h e = refl
 
@@ -268,7 +269,8 @@ module _ {P : Type 0} (S : SchemaSet P) (known : Known P) (above : List P) (plac
       ∷ [] = rw (e, n) refl in ap (λ l. length (filter (verdict.application_holds S known above place v) l)) i)))))
   condition_more_at _ ks k succeeded e h = ap (option_map
       (λ _. verdict.application_holds S known above place v (application S place (codes "if") Alone Alone v))) (another
-      (codes "if") ks k (λ q. let n = equal_names (codes "if") k.0 q in let i = ap keyword_name n in let j = if_is_if in cc))
+      (codes "if") ks k (λ q. let n = equal_names (codes "if") k.0 q in let i = ap keyword_name n in
+      let j = if_is_if in cc))
 
   pub condition_more : (ks : List Keyword) (k : Keyword) (succeeded : ℕ)
       → succeeded ≡ length (filter (verdict.application_holds S known above place v)

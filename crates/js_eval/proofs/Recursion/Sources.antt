@@ -40,7 +40,8 @@ module _ {P : Type 0} (S : SchemaSet P) (known : Known P) (above : List P) (plac
   no_names_given h = none_given (names_origin (keyword_name k.0)) (λ a. name_in_step a.at)
       (λ a. known.names (above ++ place ∷ []) a.place a.value) h
 
-  pub no_indexes_given : indexes_origin (keyword_name k.0) ≡ Nowhere → verdict.gives_indexes S known above place v k ≡ []
+  pub no_indexes_given : indexes_origin (keyword_name k.0) ≡ Nowhere
+      → verdict.gives_indexes S known above place v k ≡ []
   no_indexes_given h = none_given (indexes_origin (keyword_name k.0)) (λ a. index_in_step a.at)
       (λ a. known.indexes (above ++ place ∷ []) a.place a.value) h
 

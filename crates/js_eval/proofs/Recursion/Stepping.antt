@@ -90,11 +90,13 @@ on_too_large P Q TooLarge f h = f h
 module _ {C P : Type 0} (S : SchemaSet P) (takes : C → Event → C
     → Type 0) (n : ℕ) (above : List P) (place : P) (v : Value) (quiet : Bool) where
   pub loop_as : (k : Keyword) (rest : List Keyword) (valid b valid' : Bool) (branch branch' : Option Bool)
-      (count count' succeeded : ℕ) (κ : KeywordName) (names names' : List Text) (indexes indexes' : List ℕ) (old left : ℕ)
+      (count count' succeeded : ℕ) (κ : KeywordName) (names names' : List Text) (indexes indexes' : List ℕ)
+      (old left : ℕ)
       (keyword instance : Text) (c d : C)
       → valid' ≡ (valid && b) → branch' ≡ condition_step κ succeeded branch
       → count' ≡ matching_step κ succeeded count → κ ≡ kind_at k
-      → KeywordsLoop S n above place v quiet takes rest (valid && b) (condition_step (keyword_name k.0) succeeded branch)
+      → KeywordsLoop S n above place v quiet takes rest (valid && b) (condition_step (keyword_name k.0) succeeded
+      branch)
       (matching_step (keyword_name k.0) succeeded count) names names' indexes indexes' old left keyword instance c d
       → KeywordsLoop S n above place v quiet takes rest valid' branch' count' names names' indexes indexes' old
       left keyword instance c d
@@ -103,7 +105,8 @@ module _ {C P : Type 0} (S : SchemaSet P) (takes : C → Event → C
       instance c d e f g h loop =
       let f' : branch' ≡ condition_step (keyword_name k.0) succeeded branch = f
       ∙ ap (λ q. condition_step q succeeded branch) h in
-      let g' : count' ≡ matching_step (keyword_name k.0) succeeded count = g ∙ ap (λ q. matching_step q succeeded count) h in
+      let g' : count' ≡ matching_step (keyword_name k.0) succeeded count = g
+      ∙ ap (λ q. matching_step q succeeded count) h in
       subst (λ x. KeywordsLoop S n above place v quiet takes rest x branch' count' names names' indexes indexes' old
       left keyword instance c d) (sym e)
       (subst (λ x. KeywordsLoop S n above place v quiet takes rest (valid && b) x count' names names' indexes indexes'
@@ -322,8 +325,9 @@ module _ {M H K C P : Type 0} (S : SchemaSet P) (text_of : M → Text) (takes : 
         (map text_of w₁.names.items) w.indexes.items w₁.indexes.items w.left w₁.left w.keyword w.instance c d
         → KeywordDone S text_of takes n path' place v k count (asked_by S n path' place v k branch
         (map text_of (drop start.names w₁.names.items)) (drop start.indexes w₁.indexes.items)) j w₁ w₂ d e
-        → KeywordsLoop S n above place v quiet takes rest (valid && j.passes) (condition_step (keyword_name k.0) j.succeeded
-        branch) (matching_step (keyword_name k.0) j.succeeded count) (map text_of w.names.items) (map text_of w₂.names.items)
+        → KeywordsLoop S n above place v quiet takes rest (valid && j.passes) (condition_step (keyword_name k.0)
+        j.succeeded branch) (matching_step (keyword_name k.0) j.succeeded count) (map text_of w.names.items)
+        (map text_of w₂.names.items)
         w.indexes.items w₂.indexes.items w.left w₂.left w.keyword w.instance c e
     node_more later ascending k rest valid branch count w w₁ w₂ start j path' c d e m ep ek ei loop done =
         let next = at_next S n above place v quiet takes valid branch count (map text_of w.names.items) (map text_of

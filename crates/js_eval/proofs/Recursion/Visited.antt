@@ -41,7 +41,8 @@ condition_same Assertion succeeded before h = refl
 condition_same (Other _) succeeded before h = refl
 condition_same _ succeeded before h = cc
 
-matching_same : (κ : KeywordName) (succeeded before : ℕ) → may_apply κ ≡ false → matching_step κ succeeded before ≡ before
+matching_same : (κ : KeywordName) (succeeded before : ℕ) → may_apply κ ≡ false
+    → matching_step κ succeeded before ≡ before
 matching_same Assertion succeeded before h = refl
 matching_same (Other _) succeeded before h = refl
 matching_same _ succeeded before h = cc
@@ -66,7 +67,8 @@ none_asked S path place siblings v c ns is k _ h = cc
 -- ---- a keyword that isn't visited
 
 module _ (quiet : Bool) (k : Keyword) (h : is_visited quiet k ≡ false) where
-  pub condition_kept : (succeeded : ℕ) (before : Option Bool) → condition_step (keyword_name k.0) succeeded before ≡ before
+  pub condition_kept : (succeeded : ℕ) (before : Option Bool) → condition_step (keyword_name k.0) succeeded before
+      ≡ before
   condition_kept succeeded before = condition_same (keyword_name k.0) succeeded before (unvisited quiet k h)
 
   pub matching_kept : (succeeded before : ℕ) → matching_step (keyword_name k.0) succeeded before ≡ before

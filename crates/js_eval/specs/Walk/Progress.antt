@@ -91,7 +91,8 @@ module _ {Place : Type 0} (S : SchemaSet Place) (n : ℕ) where
 
     -- they are evaluated: names and indexes grow by what they have evaluated, and their nodes are subtracted from those
     -- left
-    pub record EachWalked (κ : KeywordName) (apps : List (Application Place)) (asked succeeded : ℕ) (names names' : List Text)
+    pub record EachWalked (κ : KeywordName) (apps : List (Application Place)) (asked succeeded : ℕ)
+        (names names' : List Text)
         (indexes indexes' : List ℕ) (old left : ℕ) : Type 0 where
       pub settled : list_all settled_at apps ≡ true
       pub many : asked ≡ length apps
