@@ -31,7 +31,7 @@ use Rattle.js_eval.specs.code.Turns.{turn_by, turn_of, is_ever, in_order}
 use Rattle.js_bundle.specs.declared.keyword_name.KeywordName.{KeywordName}
 use Rattle.js_bundle.specs.declared.keyword_name.KeywordName.TheVariants.{Assertion, Other}
 use Rattle.js_bundle.specs.declared.keyword_name.OtherName.TheVariants.{Unknown}
-use Rattle.js_eval.specs.declared.turns.turn.Turn.TheVariants.{First, Last}
+use Rattle.js_eval.specs.declared.order.turn.Turn.TheVariants.{First, Last}
 use Rattle.js_eval.proofs.AssertionThere.{place_is, same_members}
 use Rattle.js_eval.proofs.Standard.{others_have, turn_is}
 use Rattle.js_eval.proofs.Turns.{else_has_node, else_before}

@@ -125,7 +125,7 @@ below_at false all test t e = absurd (cc)
 
 -- ---- what a keyword's name says
 
-agrees : Bool → Bool → Bool
+abbrev agrees : Bool → Bool → Bool
 agrees f g = not g || f
 
 agreed : (f g : Bool) → agrees f g ≡ true → g ≡ true → f ≡ true

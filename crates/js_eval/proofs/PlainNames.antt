@@ -51,7 +51,7 @@ abbrev is_other : KeywordName → Bool
 is_other (Other _) = true
 is_other _ = false
 
-other_or_plain : List ℕ → KeywordName → Bool
+abbrev other_or_plain : List ℕ → KeywordName → Bool
 other_or_plain name which = is_other which || list_all is_plain name
 
 not_applying_is : (b : Bool) (name : List ℕ) → is_some (keyword_named name) ≡ b

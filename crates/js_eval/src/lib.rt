@@ -6,7 +6,7 @@
 //! against the schema at a place, and reports each node of the result tree when it opens and, after the nodes below it,
 //! when it closes. These reports are the *events*.
 //!
-//! `evaluation` has the recursion, over any `World` and any `Reporter`; `turns` the keywords of a schema and their
+//! `evaluation` has the recursion, over any `World` and any `Reporter`; `order` the keywords of a schema and their
 //! order; `keywords` what each applies, when it passes and its note; `finished_world` the `World` of finished schemas;
 //! `public_walks` the public calls.
 #![tactic(auto)]
@@ -18,12 +18,12 @@ mod instance;
 mod keywords;
 pub mod laws;
 mod marks;
+mod order;
 mod public_walks;
 mod reporters;
 mod schema;
 mod schema_lookup;
 mod searching;
-mod turns;
 
 pub use evaluation::{Limits, WalkFault};
 pub use public_walks::{

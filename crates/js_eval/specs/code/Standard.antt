@@ -10,8 +10,8 @@ use Rattle.js_bundle.specs.declared.keyword_name.KeywordName.{KeywordName}
 use Rattle.js_bundle.specs.declared.keyword_name.KeywordName.TheVariants as name
 use Rattle.js_bundle.specs.declared.keyword_name.OtherName.TheVariants.{Unknown}
 use Rattle.js_eval.specs.Keywords.{is_after_if}
-use Rattle.js_eval.specs.declared.turns.turn.Turn.{Turn}
-use Rattle.js_eval.specs.declared.turns.turn.Turn.TheVariants as turn
+use Rattle.js_eval.specs.declared.order.turn.Turn.{Turn}
+use Rattle.js_eval.specs.declared.order.turn.Turn.TheVariants as turn
 
 -- by the side of `if` on which a name stands
 abbrev pub turn_by_side : List ℕ → Turn

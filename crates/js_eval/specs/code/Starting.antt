@@ -12,7 +12,7 @@ use Rattle.js_eval.specs.Seen.{keyword_of}
 use Rattle.js_eval.specs.Sited.{numbered_site}
 use Rattle.js_eval.specs.code.Holding.{IsIn}
 use Rattle.js_eval.specs.code.Standing.{IsSchemaAt}
-use Rattle.js_eval.specs.declared.turns.keyword.KeywordAt.{KeywordAt}
+use Rattle.js_eval.specs.declared.order.keyword.KeywordAt.{KeywordAt}
 
 -- the place has the schema
 abbrev pub IsAtPlace : Documents → KeywordAt → Type 0

@@ -16,7 +16,7 @@ use crate::keywords::conditional::held_if;
 use crate::keywords::in_place::held;
 use crate::keywords::references::{referred, referred_dynamically};
 use crate::keywords::{arrays, conditional, contains, in_place, objects, unevaluated};
-use crate::turns::keyword::KeywordAt;
+use crate::order::keyword::KeywordAt;
 use js_bundle::{KeywordName, Schemas};
 use js_doc::Memory;
 use std::alloc::Global;

@@ -12,8 +12,8 @@ ghost use Rattle.js_assert.specs.ErrorText as texts;
 ghost use Rattle.js_eval.specs.Note as notes;
 
 use crate::instance::Instance;
+use crate::order::keyword::Keyword;
 use crate::searching::searchers::{NamedPattern, Searchers};
-use crate::turns::keyword::Keyword;
 use js_assert::{Assertion, Pattern};
 use js_bundle::{Place, Schemas};
 use js_doc::{Doc, Memory, Text};

@@ -21,7 +21,7 @@ use crate::keywords::assertions::{error_of, error_or_none, look_up_assertion};
 use crate::keywords::contains::matching_items;
 use crate::keywords::in_place::branches_hold;
 use crate::keywords::objects::{copies, member_names_among, names_on_object};
-use crate::turns::keyword::Keyword;
+use crate::order::keyword::Keyword;
 use js_assert::Assertion;
 use js_bundle::{KeywordName, Place};
 use js_doc::{Doc, Memory, Text};

@@ -8,7 +8,7 @@ use crate::evaluation::{HeldText, KeywordVerdict, Reporter, Trail, World};
 use crate::finished_world::FinishedSchemas;
 use crate::instance::Instance;
 use crate::keywords::notes::{Findings, make_keyword_note, make_schema_note};
-use crate::turns::keyword::{Keyword, is_written_as_it_is};
+use crate::order::keyword::{Keyword, is_written_as_it_is};
 use js_bundle::Place;
 use js_doc::{Doc, Memory, push_fragment_token};
 use js_tree::RelativeRows;
