@@ -10,6 +10,8 @@ from tests.reference.json_text import pointer_text, text
 
 URI = cases.U
 STANDARD = ALONE | LISTS | OBJECTS | TEXTS | {"$comment", "$vocabulary"}
+# Those that neither apply schemas nor judge a value.
+OTHERS = {"$schema", "$id", "$anchor", "$dynamicAnchor", "$vocabulary", "$comment", "$defs", "definitions"}
 JUDGED = (("minimum", 7), ("const", 7), ("maxLength", "abc"), ("title", 7))
 EMBEDDED = '{"$id":"x","$defs":{"p":{"$id":"y","not":true}},"allOf":[{"$anchor":"q"}]}'
 TREE = ('{"$id":"https://example.com/tree","$dynamicAnchor":"node","type":"object","properties":{"data":true,'
@@ -227,10 +229,13 @@ def of_place(place, number):
 
 def word(keyword):
     """The variant of `KeywordName` of this keyword."""
-    if keyword in STANDARD:
-        name = keyword.removeprefix("$")
-        return name[0].upper() + name[1:]
-    return ("Assertion" if keyword in SHAPES else "Other") + ("BehindIf" if keyword > "if" else "UpToIf")
+    name = keyword.removeprefix("$")
+    variant = name[0].upper() + name[1:]
+    if keyword in SHAPES:
+        return "Assertion"
+    if keyword in OTHERS:
+        return f"Other({variant})"
+    return variant if keyword in STANDARD else "Other(Unknown)"
 
 
 def step_asked(keyword, step):

@@ -1,8 +1,6 @@
--- Which keyword of the standard a name is (JSON Schema Core, sections 8, 10 and 11; Validation, section 6); the
--- assertions share two values, and so do all other names.
+-- Which keyword of the standard a name is (JSON Schema Core, sections 8, 10 and 11; Validation, section 6). The
+-- assertions share one value, and so do all names that the standard doesn't know.
 use Rattle.std.specs.Prelude.{List, [], ◌∷◌, Bool, Option, Some, None, is_some, codes, bytes_eq, map, if◌then◌else◌}
-use Rattle.std.specs.Ordering.{is_gt}
-use Rattle.js_doc.specs.Members.{name_cmp}
 use Rattle.js_doc.specs.Parts.{members_of}
 use Rattle.js_assert.specs.Keyword.{keyword_named}
 use Rattle.js_bundle.specs.declared.keyword_name.KeywordName.{KeywordName}
@@ -11,10 +9,9 @@ use Rattle.js_bundle.specs.declared.keyword_name.KeywordName.TheVariants.{Then, 
 use Rattle.js_bundle.specs.declared.keyword_name.KeywordName.TheVariants.{Items, Contains, Properties}
 use Rattle.js_bundle.specs.declared.keyword_name.KeywordName.TheVariants.{PatternProperties, AdditionalProperties}
 use Rattle.js_bundle.specs.declared.keyword_name.KeywordName.TheVariants.{PropertyNames, UnevaluatedItems}
-use Rattle.js_bundle.specs.declared.keyword_name.KeywordName.TheVariants.{UnevaluatedProperties, AssertionUpToIf}
-use Rattle.js_bundle.specs.declared.keyword_name.KeywordName.TheVariants.{AssertionBehindIf, Schema, Id, Anchor}
-use Rattle.js_bundle.specs.declared.keyword_name.KeywordName.TheVariants.{DynamicAnchor, Vocabulary, Comment, Defs}
-use Rattle.js_bundle.specs.declared.keyword_name.KeywordName.TheVariants.{Definitions, OtherUpToIf, OtherBehindIf}
+use Rattle.js_bundle.specs.declared.keyword_name.KeywordName.TheVariants.{UnevaluatedProperties, Assertion, Other}
+use Rattle.js_bundle.specs.declared.keyword_name.OtherName.TheVariants.{Schema, Id, Anchor, DynamicAnchor, Vocabulary}
+use Rattle.js_bundle.specs.declared.keyword_name.OtherName.TheVariants.{Comment, Defs, Definitions, Unknown}
 use Rattle.js_bundle.specs.Keyword.{Text}
 use Rattle.js_bundle.specs.Resource.{Site}
 
@@ -37,9 +34,9 @@ applying =
 -- those that identify schemas, hold them for reference, or comment (8.1 to 8.3); `definitions` is taken as `$defs`
 abbrev pub identifying : TableOfNames
 identifying =
-    (codes "$schema", Schema) ∷ (codes "$id", Id) ∷ (codes "$anchor", Anchor) ∷ (codes "$dynamicAnchor", DynamicAnchor)
-    ∷ (codes "$vocabulary", Vocabulary) ∷ (codes "$comment", Comment) ∷ (codes "$defs", Defs)
-    ∷ (codes "definitions", Definitions) ∷ []
+    (codes "$schema", Other Schema) ∷ (codes "$id", Other Id) ∷ (codes "$anchor", Other Anchor)
+    ∷ (codes "$dynamicAnchor", Other DynamicAnchor) ∷ (codes "$vocabulary", Other Vocabulary)
+    ∷ (codes "$comment", Other Comment) ∷ (codes "$defs", Other Defs) ∷ (codes "definitions", Other Definitions) ∷ []
 
 -- what the row with the name has, if there is one
 abbrev pub found_in : TableOfNames → Text → Option KeywordName
@@ -51,19 +48,10 @@ abbrev pub name_in : TableOfNames → KeywordName → Text → KeywordName
 name_in [] other name = other
 name_in (row ∷ rows) other name = if bytes_eq name row.0 then row.1 else name_in rows other name
 
--- where names ascend, it stands behind `if`
-abbrev pub stands_behind_if : Text → Bool
-stands_behind_if name = is_gt (name_cmp name (codes "if"))
-
--- by the side of `if` on which a name stands
-abbrev pub by_side : KeywordName → KeywordName → Text → KeywordName
-by_side up_to behind name = if stands_behind_if name then behind else up_to
-
 -- what a name is that applies no schemas
 abbrev pub not_applying : Text → KeywordName
 not_applying name =
-    if is_some (keyword_named name) then by_side AssertionUpToIf AssertionBehindIf name
-    else name_in identifying (by_side OtherUpToIf OtherBehindIf name) name
+    if is_some (keyword_named name) then Assertion else name_in identifying (Other Unknown) name
 
 unfoldable pub keyword_name : Text → KeywordName
 keyword_name name = name_in applying (not_applying name) name

@@ -1,8 +1,8 @@
 //! Which keyword of the standard a name is.
 ghost use Rattle.std.specs.Prelude.{◌≡◌};
-ghost use Rattle.js_bundle.specs.KeywordName.{applying, by_side, found_in, identifying, keyword_name, name_in};
-ghost use Rattle.js_bundle.specs.KeywordName.{not_applying};
-ghost use Rattle.js_bundle.specs.declared.keyword_name.KeywordName.TheVariants.{OtherBehindIf, OtherUpToIf};
+ghost use Rattle.js_bundle.specs.KeywordName.{applying, found_in, identifying, keyword_name, name_in, not_applying};
+ghost use Rattle.js_bundle.specs.declared.keyword_name.KeywordName.TheVariants.{Other};
+ghost use Rattle.js_bundle.specs.declared.keyword_name.OtherName.TheVariants.{Unknown};
 
 use js_assert::is_assertion;
 
@@ -47,10 +47,16 @@ pub enum KeywordName {
     UnevaluatedItems,
     /// `unevaluatedProperties`
     UnevaluatedProperties,
-    /// One that judges a value by itself (Validation, section 6), whose name stands before `if`
-    AssertionUpToIf,
-    /// One that judges a value by itself, whose name stands behind `if`
-    AssertionBehindIf,
+    /// One that judges a value by itself (Validation, section 6)
+    Assertion,
+    /// Each other name
+    Other(OtherName),
+}
+
+/// The names of keywords that neither apply schemas nor judge a value: they identify schemas, hold them for reference,
+/// comment or annotate (JSON Schema Core, section 8).
+#[derive(Clone, Copy, Debug, Drop, PartialEq, Eq)]
+pub enum OtherName {
     /// `$schema`
     Schema,
     /// `$id`
@@ -67,10 +73,8 @@ pub enum KeywordName {
     Defs,
     /// `definitions`, which is taken as `$defs`
     Definitions,
-    /// Each other name, known or not, that stands before `if`
-    OtherUpToIf,
-    /// Each other name, known or not, that stands behind `if`
-    OtherBehindIf,
+    /// Each other name, known or not: its argument is an annotation
+    Unknown,
 }
 
 impl KeywordName {
@@ -118,35 +122,24 @@ fn not_applying(name: &str) -> KeywordName
     ensures { result ≡ not_applying name.now }
 {
     if is_assertion(name) {
-        by_side(
-            name,
-            KeywordName::AssertionUpToIf,
-            KeywordName::AssertionBehindIf,
-        )
+        KeywordName::Assertion
     } else {
-        identifying(name)
+        KeywordName::Other(identifying(name))
     }
 }
 
-fn identifying(name: &str) -> KeywordName
-    ensures { result ≡ name_in identifying (by_side OtherUpToIf OtherBehindIf name.now) name.now }
+fn identifying(name: &str) -> OtherName
+    ensures { Other result ≡ name_in identifying (Other Unknown) name.now }
 {
     match name {
-        "$schema" => KeywordName::Schema,
-        "$id" => KeywordName::Id,
-        "$anchor" => KeywordName::Anchor,
-        "$dynamicAnchor" => KeywordName::DynamicAnchor,
-        "$vocabulary" => KeywordName::Vocabulary,
-        "$comment" => KeywordName::Comment,
-        "$defs" => KeywordName::Defs,
-        "definitions" => KeywordName::Definitions,
-        _ => by_side(name, KeywordName::OtherUpToIf, KeywordName::OtherBehindIf),
+        "$schema" => OtherName::Schema,
+        "$id" => OtherName::Id,
+        "$anchor" => OtherName::Anchor,
+        "$dynamicAnchor" => OtherName::DynamicAnchor,
+        "$vocabulary" => OtherName::Vocabulary,
+        "$comment" => OtherName::Comment,
+        "$defs" => OtherName::Defs,
+        "definitions" => OtherName::Definitions,
+        _ => OtherName::Unknown,
     }
-}
-
-// By the side of `if` on which the name stands.
-fn by_side(name: &str, up_to: KeywordName, behind: KeywordName) -> KeywordName
-    ensures { result ≡ by_side up_to behind name.now }
-{
-    if name > "if" { behind } else { up_to }
 }

@@ -24,7 +24,7 @@ pub mod uri;
 
 pub use bundle::Bundle;
 pub use document::Document;
-pub use keyword_name::KeywordName;
+pub use keyword_name::{KeywordName, OtherName};
 pub use place::{Place, Step};
 pub use refusal::{EntryFault, Refusal, RefusalKind};
 pub use schemas::Schemas;

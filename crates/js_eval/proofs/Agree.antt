@@ -11,12 +11,14 @@ use Rattle.js_doc.specs.Members.{get}
 use Rattle.js_assert.specs.Argument.{entries}
 use Rattle.js_eval.specs.Applications.{Application, application, asks_of}
 use Rattle.js_eval.specs.Keywords.{Keyword, keywords, keywords_that, comes_before_else, comes_after_else, is_else}
-use Rattle.js_eval.specs.Kind.{kind, is_unevaluated}
+use Rattle.js_bundle.specs.KeywordName.{keyword_name}
+use Rattle.js_eval.specs.Unevaluated.{is_unevaluated}
 use Rattle.js_eval.specs.SchemaSet.{Text, SchemaSet, Alone}
 use Rattle.js_eval.specs.Verdict as verdict
 use Rattle.js_eval.specs.Verdict.{Known, with_one_more, nothing, within}
-use Rattle.js_eval.specs.declared.kinds.kind.Kind.{Kind}
-use Rattle.js_eval.specs.declared.kinds.kind.Kind.TheVariants.{UnevaluatedItems, UnevaluatedProperties, Contains}
+use Rattle.js_bundle.specs.declared.keyword_name.KeywordName.{KeywordName}
+use Rattle.js_bundle.specs.declared.keyword_name.KeywordName.TheVariants.{UnevaluatedItems}
+use Rattle.js_bundle.specs.declared.keyword_name.KeywordName.TheVariants.{UnevaluatedProperties, Contains}
 use Rattle.js_eval.proofs.Lists.{and_same, all_more, all_same, map_same, filter_same}
 use Rattle.js_eval.proofs.Lists.{flat_map_same, all_filtered, found}
 
@@ -41,7 +43,7 @@ found_keyword f schema name y e t h =
 
 -- what another keyword asks for doesn't look at what is evaluated
 pub plain : {Place : Type 0} (S : SchemaSet Place) (path : List Place) (place : Place) (siblings : Named) (v : Value)
-    (c : Option Bool) (ns : List Text) (is : List ℕ) (k : Keyword) (κ : Kind) → is_unevaluated κ ≡ false
+    (c : Option Bool) (ns : List Text) (is : List ℕ) (k : Keyword) (κ : KeywordName) → is_unevaluated κ ≡ false
     → asks_of S path place siblings v c ns is k κ ≡ asks_of S path place siblings v c [] [] k κ
 plain S path place siblings v c ns is k UnevaluatedItems h = cc
 plain S path place siblings v c ns is k UnevaluatedProperties h = cc
@@ -123,7 +125,7 @@ module _ {Place : Type 0} (S : SchemaSet Place) (w x : Known Place) (agree : Agr
 
   condition_at : (o : Option Value) → get (codes "if") (entries (S.schema place)) ≡ o → KeywordsSettled
       → condition_by w o ≡ condition_by x o
-  unfolding kind
+  unfolding keyword_name
   condition_at None e h = refl
   condition_at (Some y) e h =
       let s = and_parts _ _ (found_keyword (verdict.keyword_settled S w above place v) (S.schema place)
@@ -144,7 +146,7 @@ module _ {Place : Type 0} (S : SchemaSet Place) (w x : Known Place) (agree : Agr
 
   matching_at : (o : Option Value) → get (codes "contains") (entries (S.schema place)) ≡ o → KeywordsSettled
       → matching_by w o ≡ matching_by x o
-  unfolding kind
+  unfolding keyword_name
   matching_at None e h = refl
   matching_at (Some y) e h =
       ap length (holding_same (under_contains w y)
@@ -155,19 +157,21 @@ module _ {Place : Type 0} (S : SchemaSet Place) (w x : Known Place) (agree : Agr
   matching_same h = matching_at (get (codes "contains") (entries (S.schema place))) refl h
 
   -- what another keyword asks for is settled
-  other_settled : (k : Keyword) → verdict.keyword_settled S w above place v k ≡ true → is_unevaluated (kind k.0) ≡ false
+  other_settled : (k : Keyword) → verdict.keyword_settled S w above place v k ≡ true
+      → is_unevaluated (keyword_name k.0) ≡ false
       → list_all done (verdict.others_ask S w above place v k) ≡ true
   other_settled k h e =
       ap (list_all done) (sym (plain S path place (entries (S.schema place)) v (verdict.condition S w above place v)
-      (verdict.evaluated_names S w above place v) (verdict.evaluated_indexes S w above place v) k (kind k.0) e)) ∙ h
+      (verdict.evaluated_names S w above place v) (verdict.evaluated_indexes S w above place v) k (keyword_name k.0)
+      e)) ∙ h
 
   others_ask_same : KeywordsSettled → (k : Keyword)
       → verdict.others_ask S w above place v k ≡ verdict.others_ask S x above place v k
   others_ask_same h k = ap
-      (λ c. asks_of S path place (entries (S.schema place)) v c [] [] k (kind k.0)) (condition_same h)
+      (λ c. asks_of S path place (entries (S.schema place)) v c [] [] k (keyword_name k.0)) (condition_same h)
 
   abbrev is_other : Keyword → Bool
-  is_other k = not (is_unevaluated (kind k.0))
+  is_other k = not (is_unevaluated (keyword_name k.0))
 
   others_settled : KeywordsSettled → list_all (λ k. verdict.keyword_settled S w above place v k && is_other k)
       (verdict.other_keywords S w above place v) ≡ true
@@ -188,7 +192,7 @@ module _ {Place : Type 0} (S : SchemaSet Place) (w x : Known Place) (agree : Agr
       (λ k s. let p = and_parts _ _ s in
       alike (verdict.matching S w above place v) (verdict.matching S x above place v) k
       (verdict.others_ask S w above place v k) (verdict.others_ask S x above place v k)
-      (matching_same h) (others_ask_same h k) (other_settled k p.0 (not_true (is_unevaluated (kind k.0)) p.1)))
+      (matching_same h) (others_ask_same h k) (other_settled k p.0 (not_true (is_unevaluated (keyword_name k.0)) p.1)))
       (verdict.other_keywords S w above place v) (others_settled h)
 
   evaluated_names_same : KeywordsSettled

@@ -12,11 +12,10 @@ use Rattle.js_doc.specs.Value.{Named}
 use Rattle.js_doc.specs.Members.{name_cmp, IsBelowHead, IsAscending}
 use Rattle.js_eval.specs.Keywords.{Keyword, comes_before_else, is_else, comes_after_else}
 use Rattle.js_eval.specs.Walk.Visited.{may_apply, is_visited}
-use Rattle.js_eval.specs.code.Applicator.{applicators_from, applies, has_applicator}
+use Rattle.js_eval.specs.code.Applicator.{applicators_from, has_applicator}
 use Rattle.js_eval.specs.code.Standard.{keyword_names_of}
 use Rattle.js_eval.specs.code.Turns.{in_order}
 use Rattle.js_eval.proofs.FoundByName.{Below, all_of_filter, below_all}
-use Rattle.js_eval.proofs.Standard.{kind_is}
 
 -- ---- a walk that isn't quiet visits all
 
@@ -27,9 +26,9 @@ all_visited (m ∷ ms) = ap (λ xs. m ∷ xs) (all_visited ms)
 
 -- ---- a member that applies schemas is visited
 
-applies_visited : (m : Keyword) → applies (keyword_name m.0) ≡ is_visited true m
+applies_visited : (m : Keyword) → may_apply (keyword_name m.0) ≡ is_visited true m
 unfolding is_visited
-applies_visited m = ap may_apply (kind_is m.0)
+applies_visited m = refl
 
 none_at : (b c : Bool) (m : Keyword) (xs : Named) → (b || c) ≡ false → (c ≡ false → xs ≡ []) → cond b (m ∷ xs) xs ≡ []
 none_at true c m xs h r = cc
@@ -39,7 +38,7 @@ pub none_visited : (ms : Named) → has_applicator (keyword_names_of ms) ≡ fal
 none_visited [] h = refl
 none_visited (m ∷ ms) h =
     ap (λ b. cond b (m ∷ filter (is_visited true) ms) (filter (is_visited true) ms)) (sym (applies_visited m))
-    ∙ none_at (applies (keyword_name m.0)) (has_applicator (keyword_names_of ms)) m
+    ∙ none_at (may_apply (keyword_name m.0)) (has_applicator (keyword_names_of ms)) m
     (filter (is_visited true) ms) h (none_visited ms)
 
 -- ---- one rank after another
@@ -57,11 +56,11 @@ if_visited b ms rank m = cond b (m ∷ applicators_from ms (rank + 1)) (applicat
 
 one_on : (ms : Named) (rank : ℕ) (which : KeywordName) (m : Keyword) → slice_get (keyword_names_of ms) rank ≡ Some which
     → slice_get ms rank ≡ Some m
-    → applicators_from ms rank ≡ if_visited (applies which) ms rank m
+    → applicators_from ms rank ≡ if_visited (may_apply which) ms rank m
 one_on ms rank which m h e =
     ap (filter (is_visited true)) (drop_more ms rank m (slice_get_within ms rank m e)
     ∙ ap (λ x. x ∷ drop (rank + 1) ms) (get_or_from_slice_get ms rank m m e))
-    ∙ ap (λ b. if_visited b ms rank m) (sym (ap applies (named_at ms rank which m h e) ∙ applies_visited m))
+    ∙ ap (λ b. if_visited b ms rank m) (sym (ap may_apply (named_at ms rank which m h e) ∙ applies_visited m))
 
 -- each name is that of a member
 never_none : (ms : Named) (rank : ℕ) (which : KeywordName) → slice_get (keyword_names_of ms) rank ≡ Some which
@@ -80,14 +79,14 @@ name_at ms names rank which same h e = ap (λ ns. slice_get ns rank) (sym same)
 
 -- the member at the rank applies schemas
 pub taken : (ms : Named) (names : List KeywordName) (rank : ℕ) (which : KeywordName) (m : Keyword)
-    → applies which ≡ true → slice_get ms rank ≡ Some m → names ≡ keyword_names_of ms
+    → may_apply which ≡ true → slice_get ms rank ≡ Some m → names ≡ keyword_names_of ms
     → rank < length names → which ≡ get_or names rank which
     → applicators_from ms rank ≡ m ∷ applicators_from ms (rank + 1)
 taken ms names rank which m t there same h e =
     one_on ms rank which m (name_at ms names rank which same h e) there ∙ ap (λ b. if_visited b ms rank m) t
 
 -- it doesn't
-pub passed_over : (ms : Named) (names : List KeywordName) (rank : ℕ) (which : KeywordName) → applies which ≡ false
+pub passed_over : (ms : Named) (names : List KeywordName) (rank : ℕ) (which : KeywordName) → may_apply which ≡ false
     → names ≡ keyword_names_of ms
     → rank < length names → which ≡ get_or names rank which → applicators_from ms (rank + 1) ≡ applicators_from ms rank
 passed_over ms names rank which f same h e = at (slice_get ms rank) refl

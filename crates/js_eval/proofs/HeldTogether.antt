@@ -6,13 +6,13 @@ use Rattle.std.proofs.lemmas.List.Elements.{filter-append}
 use Rattle.std.proofs.lemmas.List.Folds.{list_all-append}
 use Rattle.js_doc.specs.Value.{Value}
 use Rattle.js_eval.specs.Keywords.{Keyword}
-use Rattle.js_eval.specs.Kind.{kind}
+use Rattle.js_bundle.specs.KeywordName.{keyword_name}
 use Rattle.js_eval.specs.SchemaSet.{SchemaSet}
 use Rattle.js_eval.specs.Walk.Steps.{IsJudged}
 use Rattle.js_eval.specs.Walk.Progress.{keywords_at, kind_at, passes_at}
 use Rattle.js_eval.specs.Walk.Visited.{AreJudged, IsListed, is_visited, may_apply}
-use Rattle.js_eval.specs.declared.kinds.kind.Kind.{Kind}
-use Rattle.js_eval.specs.declared.kinds.kind.Kind.TheVariants.{Assertion}
+use Rattle.js_bundle.specs.declared.keyword_name.KeywordName.{KeywordName}
+use Rattle.js_bundle.specs.declared.keyword_name.KeywordName.TheVariants.{Assertion}
 
 left_holds : (a b : Bool) → (a && b) ≡ true → a ≡ true
 left_holds true b e = refl
@@ -38,7 +38,7 @@ module _ (p q : Keyword → Bool) where
       first_holds (q k) k after refl t
       (right_holds (list_all p (filter q before)) (list_all p (filter q (k ∷ after))) parts)
 
-not_visited : (κ : Kind) → κ ≡ Assertion → not (not true || may_apply κ) ≡ true
+not_visited : (κ : KeywordName) → κ ≡ Assertion → not (not true || may_apply κ) ≡ true
 not_visited κ e = ap (λ x. not (not true || may_apply x)) e
 
 passes_alone : {P : Type 0} (S : SchemaSet P) (place : P) (v : Value) (k : Keyword) (matching count : ℕ)
@@ -48,7 +48,7 @@ unfolding keywords_at kind_at is_visited
 passes_alone S place v k matching count judged (before, after, split) e =
     let all = judged.verdict in
     one_holds (λ x. passes_at S place v matching x []) (λ x. not (is_visited true x)) before after k
-    (not_visited (kind k.0) e)
+    (not_visited (keyword_name k.0) e)
     (ap (λ ks. list_all (λ x. passes_at S place v matching x [])
     (filter (λ x. not (is_visited true x)) ks)) split ∙ sym all)
 

@@ -1,5 +1,6 @@
 -- The keywords of a schema that apply no schemas, judged by the assertions of its place and counted by its names.
-use Rattle.std.specs.Prelude.{◌≡◌, ℕ, ◌+◌, Bool, true, false, not, ◌&&◌, cond, List, [], ◌∷◌, ◌++◌, Option, Some}
+use Rattle.std.specs.Prelude.{◌≡◌, ℕ, ◌+◌, Bool, true, false, not, ◌&&◌}
+use Rattle.std.specs.Prelude.{cond, if◌then◌else◌, List, [], ◌∷◌, ◌++◌, Option, Some}
 use Rattle.std.specs.Prelude.{None, is_some, option_map, option_to_list, filter, length, refl}
 use Rattle.std.specs.List.{AllByRecursion, list_all, flat_map}
 use Rattle.std.specs.Option.{option_map_or}
@@ -15,56 +16,61 @@ use Rattle.js_assert.specs.Assertion.{Asserted, asserted, says}
 use Rattle.js_assert.specs.Keyword.{keyword_named}
 use Rattle.js_bundle.specs.AssertionsAndPatterns.{assertion_at, assertions_at}
 use Rattle.js_bundle.specs.Document.{Documents}
-use Rattle.js_bundle.specs.KeywordName.{keyword_name}
+use Rattle.js_bundle.specs.KeywordName.{TableOfNames, applying, identifying, name_in, not_applying, keyword_name}
 use Rattle.js_bundle.specs.Resource.{Site}
 use Rattle.js_bundle.specs.Schemas.{is_place, place_at}
-use Rattle.js_bundle.specs.declared.keyword_name.KeywordName.{KeywordName}
-use Rattle.js_bundle.specs.declared.keyword_name.KeywordName.TheVariants.{AssertionUpToIf, AssertionBehindIf}
 use Rattle.js_eval.specs.Bundle.{schemas_of}
 use Rattle.js_eval.specs.Keywords.{Keyword, has_node, is_else, is_after_if, comes_before_else, comes_after_else}
-use Rattle.js_eval.specs.Kind.{Applicator, applicators, kind, kind_in}
 use Rattle.js_eval.specs.Passes.{passes_of}
 use Rattle.js_eval.specs.Sited.{numbered_site}
 use Rattle.js_eval.specs.Walk.Progress.{keywords_at, passes_at}
 use Rattle.js_eval.specs.Walk.Visited.{AreJudged, is_visited, may_apply}
 use Rattle.js_eval.specs.code.Leaves.{has_leaf}
-use Rattle.js_eval.specs.code.Standard.{kind_by, turn_by_name, keyword_names_of}
+use Rattle.js_eval.specs.code.Standard.{turn_by_keyword, keyword_names_of}
 use Rattle.js_eval.specs.code.Turns.{turn_by, turn_of, is_ever, in_order}
-use Rattle.js_eval.specs.declared.kinds.kind.Kind.{Kind}
-use Rattle.js_eval.specs.declared.kinds.kind.Kind.TheVariants.{Assertion, Annotation}
+use Rattle.js_bundle.specs.declared.keyword_name.KeywordName.{KeywordName}
+use Rattle.js_bundle.specs.declared.keyword_name.KeywordName.TheVariants.{Assertion, Other}
+use Rattle.js_bundle.specs.declared.keyword_name.OtherName.TheVariants.{Unknown}
+use Rattle.js_eval.specs.declared.order.turn.Turn.TheVariants.{First, Last}
 use Rattle.js_eval.proofs.AssertionThere.{place_is, same_members}
-use Rattle.js_eval.proofs.Standard.{kind_is, turn_is}
+use Rattle.js_eval.proofs.Standard.{others_have, turn_is}
 use Rattle.js_eval.proofs.Turns.{else_has_node, else_before}
 
 -- ---- a keyword makes an assertion if it is of that kind
 
-abbrev is_assertion : Kind → Bool
+abbrev is_assertion : KeywordName → Bool
 is_assertion Assertion = true
 is_assertion _ = false
 
-either_kind : (b : Bool) → b ≡ is_assertion (cond b Assertion Annotation)
-either_kind true = refl
-either_kind false = refl
-
-asserts_in : (rows : List Applicator) (name : List ℕ)
+asserts_in : (rows : TableOfNames) (otherwise : KeywordName) (name : List ℕ)
     → AllByRecursion (λ row. is_some (keyword_named row.0) ≡ is_assertion row.1) rows
-    → is_some (keyword_named name) ≡ is_assertion (kind_in rows name)
-asserts_in [] name h = either_kind (is_some (keyword_named name))
-asserts_in (row ∷ rows) name h = at (bytes_eq name row.0) refl (asserts_in rows name h.1)
+    → is_some (keyword_named name) ≡ is_assertion otherwise
+    → is_some (keyword_named name) ≡ is_assertion (name_in rows otherwise name)
+asserts_in [] otherwise name h e = e
+asserts_in (row ∷ rows) otherwise name h e =
+    at (bytes_eq name row.0) refl (asserts_in rows otherwise name h.1 e)
   where
-    at : (b : Bool) → bytes_eq name row.0 ≡ b → is_some (keyword_named name) ≡ is_assertion (kind_in rows name)
-        → is_some (keyword_named name) ≡ is_assertion (cond b row.1 (kind_in rows name))
-    at true e r = ap (λ n. is_some (keyword_named n)) ((bytes_eq-Decides name row.0).0 e) ∙ h.0
-    at false e r = r
+    at : (b : Bool) → bytes_eq name row.0 ≡ b
+        → is_some (keyword_named name) ≡ is_assertion (name_in rows otherwise name)
+        → is_some (keyword_named name) ≡ is_assertion (cond b row.1 (name_in rows otherwise name))
+    at true q r = ap (λ n. is_some (keyword_named n)) ((bytes_eq-Decides name row.0).0 q) ∙ h.0
+    at false q r = r
 
-applicators_assert_nothing : AllByRecursion (λ row. is_some (keyword_named row.0) ≡ is_assertion row.1) applicators
+asserts_other : (b : Bool) (name : List ℕ) → is_some (keyword_named name) ≡ b
+    → is_some (keyword_named name) ≡ is_assertion (cond b Assertion (name_in identifying (Other Unknown) name))
+asserts_other true name e = e
+asserts_other false name e = e ∙ sym (others_have is_assertion false identifying (Other Unknown) name
+    (refl, (refl, (refl, (refl, (refl, (refl, (refl, (refl, tt)))))))) refl)
+
+applicators_assert_nothing : AllByRecursion (λ row. is_some (keyword_named row.0) ≡ is_assertion row.1) applying
 unfolding keyword_named
 applicators_assert_nothing =
-    each_same (λ row. is_some (keyword_named row.0)) (λ row. is_assertion row.1) applicators refl
+    each_same (λ row. is_some (keyword_named row.0)) (λ row. is_assertion row.1) applying refl
 
-asserts : (name : List ℕ) → is_some (keyword_named name) ≡ is_assertion (kind name)
-unfolding kind
-asserts name = asserts_in applicators name applicators_assert_nothing
+asserts : (name : List ℕ) → is_some (keyword_named name) ≡ is_assertion (keyword_name name)
+unfolding keyword_name
+asserts name = asserts_in applying (not_applying name) name applicators_assert_nothing
+    (asserts_other (is_some (keyword_named name)) name refl)
 
 some_mapped : {A B : Type 0} (f : A → B) (o : Option A) → is_some (option_map f o) ≡ is_some o
 some_mapped f None = refl
@@ -72,16 +78,28 @@ some_mapped f (Some x) = refl
 
 -- ---- an assertion has a node
 
-node_by : (which : KeywordName) → is_assertion (kind_by which) ≡ true → is_ever (turn_by_name which) ≡ true
-node_by AssertionUpToIf e = refl
-node_by AssertionBehindIf e = refl
-node_by _ e = cc
+side_is_ever : (b : Bool) → is_ever (if b then Last else First) ≡ true
+side_is_ever true = refl
+side_is_ever false = refl
 
-node_of : (name : List ℕ) → is_assertion (kind name) ≡ true → is_ever (turn_of name) ≡ true
-node_of name e = ap is_ever (turn_is name) ∙ node_by (keyword_name name) (ap is_assertion (kind_is name) ∙ e)
+node_by : (which : KeywordName) (name : List ℕ) → is_assertion which ≡ true
+    → is_ever (turn_by_keyword which name) ≡ true
+node_by Assertion name e = side_is_ever (is_after_if name)
+node_by _ name e = cc
 
-leaf_of : (name : List ℕ) → has_leaf (keyword_name name) ≡ (is_ever (turn_of name) && not (may_apply (kind name)))
-leaf_of name = ap₂ (λ t κ. is_ever t && not (may_apply κ)) (sym (turn_is name)) (kind_is name)
+node_of : (name : List ℕ) → is_assertion (keyword_name name) ≡ true → is_ever (turn_of name) ≡ true
+node_of name e = ap is_ever (turn_is name) ∙ node_by (keyword_name name) name e
+
+leaf_by : (which : KeywordName) (name : List ℕ)
+    → has_leaf which ≡ (is_ever (turn_by_keyword which name) && not (may_apply which))
+leaf_by Assertion name = ap (λ b. b && true) (sym (side_is_ever (is_after_if name)))
+leaf_by (Other Unknown) name = ap (λ b. b && true) (sym (side_is_ever (is_after_if name)))
+leaf_by _ name = refl
+
+leaf_of : (name : List ℕ)
+    → has_leaf (keyword_name name) ≡ (is_ever (turn_of name) && not (may_apply (keyword_name name)))
+leaf_of name = leaf_by (keyword_name name) name
+    ∙ ap (λ t. is_ever t && not (may_apply (keyword_name name))) (sym (turn_is name))
 
 -- ---- counting in the order of nodes, and over all members
 
@@ -228,21 +246,21 @@ module _ (siblings : Named) (v : Value) (matching : ℕ) where
   abbrev asserted_says : Option Asserted → Bool
   asserted_says o = option_map_or (λ a. says a v matching) o true
 
-  by_kind : (k : Keyword) (κ : Kind) (ever : Bool) (o : Option Asserted) → asserted k.0 k.1 siblings ≡ o
+  by_kind : (k : Keyword) (κ : KeywordName) (ever : Bool) (o : Option Asserted) → asserted k.0 k.1 siblings ≡ o
       → is_some o ≡ is_assertion κ → (is_assertion κ ≡ true → ever ≡ true)
       → cond (ever && not (may_apply κ)) (passes_of siblings v matching k [] κ) true ≡ asserted_says o
   by_kind k Assertion true o e some node = ap asserted_says e
   by_kind k Assertion false o e some node = absurd (let i : false ≡ true = node refl in cc)
-  by_kind k Annotation true None e some node = refl
-  by_kind k Annotation false None e some node = refl
+  by_kind k (Other _) true None e some node = refl
+  by_kind k (Other _) false None e some node = refl
   by_kind k _ true None e some node = refl
   by_kind k _ false None e some node = refl
   by_kind k _ ever (Some a) e some node = cc
 
-  by_member : (m : Keyword) → cond (is_ever (turn_of m.0) && not (may_apply (kind m.0)))
-      (passes_of siblings v matching m [] (kind m.0)) true ≡ asserted_says (asserted m.0 m.1 siblings)
+  by_member : (m : Keyword) → cond (is_ever (turn_of m.0) && not (may_apply (keyword_name m.0)))
+      (passes_of siblings v matching m [] (keyword_name m.0)) true ≡ asserted_says (asserted m.0 m.1 siblings)
   by_member m =
-      by_kind m (kind m.0) (is_ever (turn_of m.0)) (asserted m.0 m.1 siblings) refl
+      by_kind m (keyword_name m.0) (is_ever (turn_of m.0)) (asserted m.0 m.1 siblings) refl
       (some_mapped _ (keyword_named m.0) ∙ asserts m.0) (node_of m.0)
 
   said : (o : Option Asserted) → list_all (λ a. says a v matching) (option_to_list o) ≡ asserted_says o
@@ -254,8 +272,8 @@ module _ (siblings : Named) (v : Value) (matching : ℕ) where
       alone false = refl
 
   each_said : (ms : Named) → list_all (λ a. says a v matching) (flat_map (assertion_at siblings) ms)
-      ≡ list_all (λ m. cond (is_ever (turn_of m.0) && not (may_apply (kind m.0)))
-      (passes_of siblings v matching m [] (kind m.0)) true) ms
+      ≡ list_all (λ m. cond (is_ever (turn_of m.0) && not (may_apply (keyword_name m.0)))
+      (passes_of siblings v matching m [] (keyword_name m.0)) true) ms
   each_said [] = refl
   each_said (m ∷ ms) =
       list_all-append (λ a. says a v matching) (assertion_at siblings m) (flat_map (assertion_at siblings) ms)
@@ -282,7 +300,8 @@ judged_together documents n v matching assertions names pass count there built n
     record {
       verdict =
           passes ∙ (ap (list_all (λ a. says a v matching)) (same ∙ assertions_are s)
-          ∙ (each_said ms v matching ms ∙ sym (all_hold (λ k. passes_of ms v matching k [] (kind k.0)) unvisited ms)));
+          ∙ (each_said ms v matching ms ∙ sym (all_hold (λ k. passes_of ms v matching k [] (keyword_name k.0))
+          unvisited ms)));
       many = counted ∙ (ap (λ l. length (filter has_leaf l)) named
           ∙ (leaves_counted ms ∙ sym (all_counted unvisited ms)));
     }

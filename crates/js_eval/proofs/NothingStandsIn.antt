@@ -1,8 +1,8 @@
 -- In documents that are accepted each application that a keyword of a place asks for is of a place that is found.
-use Rattle.std.specs.Prelude.{◌≡◌, ℕ, suc, ◌+◌, Bool, true, false, cond, List, [], ◌∷◌, ◌++◌, Option}
+use Rattle.std.specs.Prelude.{◌≡◌, ℕ, suc, ◌+◌, Bool, true, false, not, ◌||◌, cond, List, [], ◌∷◌, ◌++◌, Option}
 use Rattle.std.specs.Prelude.{Some, None, is_some, option_and_then, option_map, unwrap_or, slice_get}
 use Rattle.std.specs.Prelude.{find, filter, map, length, nat_lt, codes, refl}
-use Rattle.std.specs.List.{AllByRecursion, flat_map}
+use Rattle.std.specs.List.{AllByRecursion, flat_map, list_all}
 use Rattle.std.specs.Option.{option_or}
 use Rattle.std.specs.Str.{bytes_eq}
 use Rattle.std.specs.Ordering.{match_ordering}
@@ -32,24 +32,30 @@ use Rattle.js_bundle.specs.Schemas.{below, fits, step_tokens, Holds, Step, Alone
 use Rattle.js_bundle.specs.Target.{reference, first_target, ref_target, dynamic_anchor, outermost}
 use Rattle.js_bundle.specs.Target.{is_dynamic, dynamic_of, dynamic_ref_target}
 use Rattle.js_bundle.specs.Url.{decoded_fragment}
+use Rattle.js_bundle.proofs.Finding.StepsFit.{applies_fits}
 use Rattle.js_bundle.proofs.SchemaBelow.{is_one, is_listed, is_named}
 use Rattle.js_bundle.proofs.Standing.{standing}
 use Rattle.js_eval.specs.Applications.{Application, asks_of, indexed, indexed_from}
 use Rattle.js_eval.specs.Bundle.{schemas_of}
 use Rattle.js_eval.specs.Keywords.{Keyword, keywords}
-use Rattle.js_eval.specs.Kind.{Applicator, applicators, kind, kind_in}
+use Rattle.js_bundle.specs.KeywordName.{applying, keyword_name}
 use Rattle.js_eval.specs.Laws.{looked_for, IsFound, IsOfFound, NothingStandsIn}
 use Rattle.js_eval.specs.SchemaSet.{SchemaSet}
-use Rattle.js_eval.specs.code.Holding.{IsIn, held_at}
-use Rattle.js_eval.specs.declared.kinds.kind.Kind.{Kind}
-use Rattle.js_eval.specs.declared.kinds.kind.Kind.TheVariants.{Reference, DynamicReference, AllOf, AnyOf, OneOf, Not}
-use Rattle.js_eval.specs.declared.kinds.kind.Kind.TheVariants.{If, Then, Else, DependentSchemas, PrefixItems, Items}
-use Rattle.js_eval.specs.declared.kinds.kind.Kind.TheVariants.{Contains, Properties, PatternProperties}
-use Rattle.js_eval.specs.declared.kinds.kind.Kind.TheVariants.{AdditionalProperties, PropertyNames, UnevaluatedItems}
-use Rattle.js_eval.specs.declared.kinds.kind.Kind.TheVariants.{UnevaluatedProperties, Assertion, Annotation}
+use Rattle.js_eval.specs.code.Holding.{IsIn}
+use Rattle.js_bundle.specs.Ranked.{applies_at}
+use Rattle.js_bundle.specs.declared.keyword_name.KeywordName.{KeywordName}
+use Rattle.js_bundle.specs.declared.keyword_name.OtherName.{OtherName}
+use Rattle.js_bundle.specs.declared.keyword_name.KeywordName.TheVariants.{Ref, DynamicRef, AllOf, AnyOf, OneOf, Not}
+use Rattle.js_bundle.specs.declared.keyword_name.KeywordName.TheVariants.{If, Then, Else}
+use Rattle.js_bundle.specs.declared.keyword_name.KeywordName.TheVariants.{DependentSchemas, PrefixItems, Items}
+use Rattle.js_bundle.specs.declared.keyword_name.KeywordName.TheVariants.{Contains, Properties, PatternProperties}
+use Rattle.js_bundle.specs.declared.keyword_name.KeywordName.TheVariants.{AdditionalProperties}
+use Rattle.js_bundle.specs.declared.keyword_name.KeywordName.TheVariants.{PropertyNames, UnevaluatedItems}
+use Rattle.js_bundle.specs.declared.keyword_name.KeywordName.TheVariants.{UnevaluatedProperties, Assertion, Other}
 use Rattle.js_eval.proofs.AssertionThere.{same_members}
 use Rattle.js_eval.proofs.FoundByName.{all_of_filter, keywords_among}
 use Rattle.js_eval.proofs.Holding.{argument_is, items_are}
+use Rattle.js_eval.proofs.Standard.{by_keyword}
 
 -- ---- what is found is among the places
 
@@ -119,68 +125,53 @@ below_at false all test t e = absurd (cc)
 
 -- ---- what a keyword's name says
 
-by_rows : (f : Text → Bool) (g : Kind → Bool) (rows : List Applicator) (name : Text) → g Assertion ≡ false
-    → g Annotation ≡ false → AllByRecursion (λ row. f row.0 ≡ g row.1) rows
-    → g (kind_in rows name) ≡ true → f name ≡ true
-by_rows f g [] name p q all e = at (is_some (keyword_named name)) e
-  where
-    at : (b : Bool) → g (cond b Assertion Annotation) ≡ true → f name ≡ true
-    at true h = let z : false ≡ true = sym p ∙ h in absurd (cc)
-    at false h = let z : false ≡ true = sym q ∙ h in absurd (cc)
-by_rows f g (row ∷ rows) name p q all e = at (bytes_eq name row.0) refl e (by_rows f g rows name p q all.1)
-  where
-    at : (b : Bool) → bytes_eq name row.0 ≡ b → g (cond b row.1 (kind_in rows name)) ≡ true
-        → (g (kind_in rows name) ≡ true → f name ≡ true) → f name ≡ true
-    at true d h rest = ap f ((bytes_eq-Decides name row.0).0 d) ∙ all.0 ∙ h
-    at false d h rest = rest h
+abbrev agrees : Bool → Bool → Bool
+agrees f g = not g || f
 
-by_kind : (f : Text → Bool) (g : Kind → Bool) (name : Text) → g Assertion ≡ false → g Annotation ≡ false
-    → AllByRecursion (λ row. f row.0 ≡ g row.1) applicators → g (kind name) ≡ true → f name ≡ true
-unfolding kind
-by_kind f g name = by_rows f g applicators name
+agreed : (f g : Bool) → agrees f g ≡ true → g ≡ true → f ≡ true
+agreed true g a h = refl
+agreed false true a h = absurd (cc)
+agreed false false a h = absurd (cc)
 
-held_fits : (name : Text) (step : Step) → held_at (kind name) step ≡ true → fits (holding name) step ≡ true
-unfolding holding
-held_fits name Alone e =
-    by_kind (λ k. fits (holding k) Alone) (λ w. held_at w Alone) name refl refl
-    (each_same (λ row. fits (holding row.0) Alone) (λ row. held_at row.1 Alone) applicators refl) e
-held_fits name (Index i) e =
-    by_kind (λ k. fits (holding k) (Index i)) (λ w. held_at w (Index i)) name refl refl
-    (each_same (λ row. fits (holding row.0) (Index i)) (λ row. held_at row.1 (Index i)) applicators refl) e
-held_fits name (Name n) e =
-    by_kind (λ k. fits (holding k) (Name n)) (λ w. held_at w (Name n)) name refl refl
-    (each_same (λ row. fits (holding row.0) (Name n)) (λ row. held_at row.1 (Name n)) applicators refl) e
+unsaid : (f g : Bool) → g ≡ false → agrees f g ≡ true
+unsaid f true h = absurd (cc)
+unsaid f false h = refl
 
-abbrev is_reference : Kind → Bool
-is_reference Reference = true
+-- a test of names that agrees with one of keywords in each row
+by_table : (f : Text → Bool) (g : KeywordName → Bool) (name : Text) → g Assertion ≡ false
+    → ((other : OtherName) → g (Other other) ≡ false)
+    → list_all (λ row. agrees (f row.0) (g row.1)) applying ≡ true → g (keyword_name name) ≡ true → f name ≡ true
+by_table f g name a o rows =
+    agreed (f name) (g (keyword_name name)) (by_keyword (λ n w. agrees (f n) (g w))
+    (λ n. unsaid (f n) (g Assertion) a) (λ n other. unsaid (f n) (g (Other other)) (o other)) rows name)
+
+abbrev is_reference : KeywordName → Bool
+is_reference Ref = true
 is_reference _ = false
 
-abbrev is_dynamic_reference : Kind → Bool
-is_dynamic_reference DynamicReference = true
+abbrev is_dynamic_reference : KeywordName → Bool
+is_dynamic_reference DynamicRef = true
 is_dynamic_reference _ = false
 
-reference_named : (name : Text) → is_reference (kind name) ≡ true → name ≡ codes "$ref"
+reference_named : (name : Text) → is_reference (keyword_name name) ≡ true → name ≡ codes "$ref"
 reference_named name e =
     (bytes_eq-Decides name (codes "$ref")).0
-    (by_kind (λ n. bytes_eq n (codes "$ref")) is_reference name refl refl
-    (each_same (λ row. bytes_eq row.0 (codes "$ref")) (λ row. is_reference row.1) applicators refl) e)
+    (by_table (λ n. bytes_eq n (codes "$ref")) is_reference name refl (λ _. refl) refl e)
 
-abbrev is_pattern_properties : Kind → Bool
+abbrev is_pattern_properties : KeywordName → Bool
 is_pattern_properties PatternProperties = true
 is_pattern_properties _ = false
 
-pub patterns_named : (name : Text) → kind name ≡ PatternProperties → name ≡ codes "patternProperties"
+pub patterns_named : (name : Text) → keyword_name name ≡ PatternProperties → name ≡ codes "patternProperties"
 patterns_named name e =
     (bytes_eq-Decides name (codes "patternProperties")).0
-    (by_kind (λ n. bytes_eq n (codes "patternProperties")) is_pattern_properties name refl refl
-    (each_same (λ row. bytes_eq row.0 (codes "patternProperties")) (λ row. is_pattern_properties row.1) applicators
-    refl) (ap is_pattern_properties e))
+    (by_table (λ n. bytes_eq n (codes "patternProperties")) is_pattern_properties name refl (λ _. refl) refl
+    (ap is_pattern_properties e))
 
-dynamic_reference_named : (name : Text) → is_dynamic_reference (kind name) ≡ true → name ≡ codes "$dynamicRef"
+dynamic_reference_named : (name : Text) → is_dynamic_reference (keyword_name name) ≡ true → name ≡ codes "$dynamicRef"
 dynamic_reference_named name e =
     (bytes_eq-Decides name (codes "$dynamicRef")).0
-    (by_kind (λ n. bytes_eq n (codes "$dynamicRef")) is_dynamic_reference name refl refl
-    (each_same (λ row. bytes_eq row.0 (codes "$dynamicRef")) (λ row. is_dynamic_reference row.1) applicators refl) e)
+    (by_table (λ n. bytes_eq n (codes "$dynamicRef")) is_dynamic_reference name refl (λ _. refl) refl e)
 
 -- ---- parts of an argument
 
@@ -283,57 +274,58 @@ module _ (documents : Documents) (place : Site) (finds : FindsAll documents plac
   has_named : (name : Text) → k.0 ≡ name → has_argument name place.schema ≡ true
   has_named name e = ap (λ n. has_argument n place.schema) (sym e) ∙ ap is_some argument_there
 
-  module _ (κ : Kind) (does : kind k.0 ≡ κ) where
-    one_found : held_at κ Alone ≡ true → IsFound documents (below documents place k.0 Alone) (S.below place k.0 Alone)
+  module _ (κ : KeywordName) (does : keyword_name k.0 ≡ κ) where
+    one_found : applies_at κ Alone ≡ true → IsFound documents (below documents place k.0 Alone)
+        (S.below place k.0 Alone)
     one_found h = held_found Alone k.1
-        (is_one (holding k.0) (held_fits k.0 Alone (ap (λ c. held_at c Alone) does ∙ h)), argument_there)
+        (is_one (holding k.0) (applies_fits k.0 Alone (ap (λ c. applies_at c Alone) does ∙ h)), argument_there)
 
-    item_found : (i : ℕ) → held_at κ (Index i) ≡ true → is_some (slice_get (values k.1) i) ≡ true
+    item_found : (i : ℕ) → applies_at κ (Index i) ≡ true → is_some (slice_get (values k.1) i) ≡ true
         → IsFound documents (below documents place k.0 (Index i)) (S.below place k.0 (Index i))
     item_found i h e =
         let u = some_there (slice_get (values k.1) i) e in
         held_found (Index i) u.0 (
-          is_listed (holding k.0) i (held_fits k.0 (Index i) (ap (λ c. held_at c (Index i)) does ∙ h)),
+          is_listed (holding k.0) i (applies_fits k.0 (Index i) (ap (λ c. applies_at c (Index i)) does ∙ h)),
           (k.1, argument_there, ap (λ us. slice_get us i) (items_are k.1) ∙ u.1),
         )
 
-    member_found : (n : Text) → held_at κ (Name n) ≡ true → has n (entries k.1) ≡ true
+    member_found : (n : Text) → applies_at κ (Name n) ≡ true → has n (entries k.1) ≡ true
         → IsFound documents (below documents place k.0 (Name n)) (S.below place k.0 (Name n))
     member_found n h e =
         let u = some_there (get n (entries k.1)) e in
         held_found (Name n) u.0 (
-          is_named (holding k.0) n (held_fits k.0 (Name n) (ap (λ c. held_at c (Name n)) does ∙ h)),
+          is_named (holding k.0) n (applies_fits k.0 (Name n) (ap (λ c. applies_at c (Name n)) does ∙ h)),
           (k.1, argument_there, ap (get n) (same_members k.1) ∙ u.1),
         )
 
   module _ (path : List Site) (siblings : Named) (v : Value) (condition : Option Bool) (names : List Text)
       (indexes : List ℕ) where
-    abbrev Found : Kind → Application Site → Type 0
+    abbrev Found : KeywordName → Application Site → Type 0
     Found κ a = IsFound documents (looked_for documents path place k.0 a.step κ) a.place
 
-    abbrev asked : Kind → List (Application Site)
+    abbrev asked : KeywordName → List (Application Site)
     asked κ = asks_of S path place siblings v condition names indexes k κ
 
-    then_found : (c : Option Bool) → kind k.0 ≡ Then → AllByRecursion (Found Then)
+    then_found : (c : Option Bool) → keyword_name k.0 ≡ Then → AllByRecursion (Found Then)
         (asks_of S path place siblings v c names indexes k Then)
     then_found None e = tt
     then_found (Some true) e = (one_found Then e refl, tt)
     then_found (Some false) e = tt
 
-    else_found : (c : Option Bool) → kind k.0 ≡ Else → AllByRecursion (Found Else)
+    else_found : (c : Option Bool) → keyword_name k.0 ≡ Else → AllByRecursion (Found Else)
         (asks_of S path place siblings v c names indexes k Else)
     else_found None e = tt
     else_found (Some true) e = tt
     else_found (Some false) e = (one_found Else e refl, tt)
 
-    found_by : (κ : Kind) → kind k.0 ≡ κ → AllByRecursion (Found κ) (asked κ)
-    found_by Reference e =
+    found_by : (κ : KeywordName) → keyword_name k.0 ≡ κ → AllByRecursion (Found κ) (asked κ)
+    found_by Ref e =
         let t = finds.target (has_named (codes "$ref") (reference_named k.0 (ap is_reference e))) in (
           is_found (ref_target (sites documents) place) t.0 t.1
               (named_among (sites documents) (reference (codes "$ref") place)),
           tt,
         )
-    found_by DynamicReference e =
+    found_by DynamicRef e =
         let t = finds.dynamic_target path (has_named (codes "$dynamicRef")
         (dynamic_reference_named k.0 (ap is_dynamic_reference e))) in
         let uri = reference (codes "$dynamicRef") place in (
@@ -378,7 +370,7 @@ module _ (documents : Documents) (place : Site) (finds : FindsAll documents plac
     found_by UnevaluatedProperties e = each_mapped _ (Found UnevaluatedProperties) _
         (λ m h. one_found UnevaluatedProperties e refl) _ (any_of _)
     found_by Assertion e = tt
-    found_by Annotation e = tt
+    found_by (Other _) e = tt
 
 -- ---- of each keyword of a place
 
@@ -398,11 +390,12 @@ module _ (documents : Documents) (place : Site) (finds : FindsAll documents plac
     (condition : Option Bool) (names : List Text) (indexes : List ℕ) where
   each_found : (ks : List Keyword) → AllByRecursion (IsIn place.schema) ks
       → AllByRecursion (λ k. AllByRecursion (IsOfFound documents path place k)
-      (asks_of (schemas_of documents) path place (entries place.schema) v condition names indexes k (kind k.0))) ks
+      (asks_of (schemas_of documents) path place (entries place.schema) v condition names indexes k
+      (keyword_name k.0))) ks
   each_found [] all = tt
   each_found (k ∷ ks) all = (
     found_by documents place finds k all.0 path (entries place.schema) v condition names
-        indexes (kind k.0) refl,
+        indexes (keyword_name k.0) refl,
     each_found ks all.1,
   )
 

@@ -1,6 +1,6 @@
 -- The names of the standard's applicators and assertions are written as they are in a pointer, in a fragment and in a
 -- JSON string, and indexes in a pointer.
-use Rattle.std.proofs.Common.{◌≡◌, ℕ, ◌<◌, ◌^◌, Bool, true, false, cond, ◌==◌, List, [], ◌∷◌, Some}
+use Rattle.std.proofs.Common.{◌≡◌, ℕ, ◌<◌, ◌^◌, Bool, true, false, cond, ◌||◌, ◌==◌, List, [], ◌∷◌, Some}
 use Rattle.std.proofs.Common.{is_some, decimal, refl, sym, ap, subst, arith}
 use Rattle.std.specs.List.{AllByRecursion, list_all}
 use Rattle.std.specs.Str.{bytes_eq}
@@ -14,9 +14,13 @@ use Rattle.js_doc.specs.Pointer.{escape}
 use Rattle.js_doc.specs.Plain.{is_kept, is_plain}
 use Rattle.js_doc.proofs.PlainTokens.{all_kept, all_plain, all_stand, kept_too}
 use Rattle.js_assert.specs.Keyword.{NamedKeyword, keyword_named, assertion_keywords, row_named}
-use Rattle.js_eval.specs.Kind.{Applicator, applicators, kind, kind_in}
+use Rattle.js_bundle.specs.KeywordName.{applying, identifying, name_in, not_applying, keyword_name}
 use Rattle.js_eval.specs.code.Standard.{IsWrittenAsItIs}
-use Rattle.js_eval.specs.declared.kinds.kind.Kind.TheVariants.{Annotation, Assertion}
+use Rattle.js_bundle.specs.declared.keyword_name.KeywordName.{KeywordName}
+use Rattle.js_bundle.specs.declared.keyword_name.KeywordName.TheVariants.{Other, Assertion}
+use Rattle.js_bundle.specs.declared.keyword_name.OtherName.{OtherName}
+use Rattle.js_bundle.specs.declared.keyword_name.OtherName.TheVariants.{Unknown}
+use Rattle.js_eval.proofs.Standard.{in_rows, others_have}
 
 -- ---- names of keywords
 
@@ -39,29 +43,37 @@ assertion_plain (row ∷ rows) name h e = at (bytes_eq name row.0) refl e (asser
 all_assertions : AllByRecursion (λ row. IsPlain row.0) assertion_keywords
 all_assertions = each_same (λ row. list_all is_plain row.0) (λ _. true) assertion_keywords refl
 
-named_plain : (name : List ℕ) (b : Bool) → is_some (keyword_named name) ≡ b
-    → (cond b Assertion Annotation ≡ Annotation → ⊥) → IsPlain name
+named_plain : (name : List ℕ) → is_some (keyword_named name) ≡ true → IsPlain name
 unfolding keyword_named
-named_plain name true e h = assertion_plain assertion_keywords name all_assertions e
-named_plain name false e h = absurd (h refl)
+named_plain name e = assertion_plain assertion_keywords name all_assertions e
 
-applicator_plain : (rows : List Applicator) (name : List ℕ) → AllByRecursion (λ row. IsPlain row.0) rows
-    → (kind_in rows name ≡ Annotation → ⊥) → IsPlain name
-applicator_plain [] name h other = named_plain name (is_some (keyword_named name)) refl other
-applicator_plain (row ∷ rows) name h other = at (bytes_eq name row.0) refl other (applicator_plain rows name h.1)
-  where
-    at : (b : Bool) → bytes_eq name row.0 ≡ b → (cond b row.1 (kind_in rows name) ≡ Annotation → ⊥)
-        → ((kind_in rows name ≡ Annotation → ⊥) → IsPlain name) → IsPlain name
-    at true e other more = same_name name row.0 e h.0
-    at false e other more = more other
+abbrev is_other : KeywordName → Bool
+is_other (Other _) = true
+is_other _ = false
 
-all_applicators : AllByRecursion (λ row. IsPlain row.0) applicators
-all_applicators = each_same (λ row. list_all is_plain row.0) (λ _. true) applicators refl
+abbrev other_or_plain : List ℕ → KeywordName → Bool
+other_or_plain name which = is_other which || list_all is_plain name
 
-pub written_by_kind : (name : List ℕ) → (kind name ≡ Annotation → ⊥) → IsWrittenAsItIs name
-unfolding kind
-written_by_kind name other =
-    let plain : IsPlain name = applicator_plain applicators name all_applicators other in
+not_applying_is : (b : Bool) (name : List ℕ) → is_some (keyword_named name) ≡ b
+    → other_or_plain name (cond b Assertion (name_in identifying (Other Unknown) name)) ≡ true
+not_applying_is true name e = named_plain name e
+not_applying_is false name e = others_have (other_or_plain name) true identifying (Other Unknown) name
+    (refl, (refl, (refl, (refl, (refl, (refl, (refl, (refl, tt)))))))) refl
+
+each_is : (name : List ℕ) → other_or_plain name (keyword_name name) ≡ true
+unfolding keyword_name
+each_is name = in_rows other_or_plain applying (not_applying name) name refl
+    (not_applying_is (is_some (keyword_named name)) name refl)
+
+plain_unless_other : (which : KeywordName) (name : List ℕ) → other_or_plain name which ≡ true
+    → ((other : OtherName) → which ≡ Other other → ⊥) → IsPlain name
+plain_unless_other (Other other) name h not_so = absurd (not_so other refl)
+plain_unless_other _ name h not_so = h
+
+pub written_by_keyword : (name : List ℕ) → ((other : OtherName) → keyword_name name ≡ Other other → ⊥)
+    → IsWrittenAsItIs name
+written_by_keyword name other =
+    let plain : IsPlain name = plain_unless_other (keyword_name name) name (each_is name) other in
     record {
       in_pointer = all_kept name (kept_too name plain);
       in_fragment = ap (λ bs. 47 ∷ bs) (all_plain name plain);

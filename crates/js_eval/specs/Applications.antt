@@ -12,12 +12,14 @@ use Rattle.js_assert.specs.Argument.{values, entries, has}
 use Rattle.js_assert.specs.Pattern.{matches}
 use Rattle.js_eval.specs.Keywords.{Keyword}
 use Rattle.js_eval.specs.SchemaSet.{Text, SchemaSet, Step, Alone, Index, Name}
-use Rattle.js_eval.specs.declared.kinds.kind.Kind.{Kind}
-use Rattle.js_eval.specs.declared.kinds.kind.Kind.TheVariants.{Reference, DynamicReference, AllOf, AnyOf, OneOf, Not}
-use Rattle.js_eval.specs.declared.kinds.kind.Kind.TheVariants.{If, Then, Else, DependentSchemas, PrefixItems, Items}
-use Rattle.js_eval.specs.declared.kinds.kind.Kind.TheVariants.{Contains, Properties, PatternProperties}
-use Rattle.js_eval.specs.declared.kinds.kind.Kind.TheVariants.{AdditionalProperties, PropertyNames, UnevaluatedItems}
-use Rattle.js_eval.specs.declared.kinds.kind.Kind.TheVariants.{UnevaluatedProperties, Assertion, Annotation}
+use Rattle.js_bundle.specs.declared.keyword_name.KeywordName.{KeywordName}
+use Rattle.js_bundle.specs.declared.keyword_name.KeywordName.TheVariants.{Ref, DynamicRef, AllOf, AnyOf, OneOf, Not}
+use Rattle.js_bundle.specs.declared.keyword_name.KeywordName.TheVariants.{If, Then, Else}
+use Rattle.js_bundle.specs.declared.keyword_name.KeywordName.TheVariants.{DependentSchemas, PrefixItems, Items}
+use Rattle.js_bundle.specs.declared.keyword_name.KeywordName.TheVariants.{Contains, Properties, PatternProperties}
+use Rattle.js_bundle.specs.declared.keyword_name.KeywordName.TheVariants.{AdditionalProperties}
+use Rattle.js_bundle.specs.declared.keyword_name.KeywordName.TheVariants.{PropertyNames, UnevaluatedItems}
+use Rattle.js_bundle.specs.declared.keyword_name.KeywordName.TheVariants.{UnevaluatedProperties, Assertion, Other}
 
 -- a schema applied to a value
 pub record Application (Place : Type 0) : Type 0 where
@@ -89,11 +91,11 @@ module _ {Place : Type 0} (S : SchemaSet Place) (path : List Place) (place : Pla
   abbrev applied_to_member : Step → Text × Value → Application Place
   applied_to_member step m = application S place k.0 step (Name m.0) m.1
 
-  abbrev pub asks_of : Kind → List (Application Place)
+  abbrev pub asks_of : KeywordName → List (Application Place)
   -- 8.2.3.1: the schema that the reference leads to, on v
-  asks_of Reference = record { place = S.target place; step = Alone; at = Alone; value = v } ∷ []
+  asks_of Ref = record { place = S.target place; step = Alone; at = Alone; value = v } ∷ []
   -- 8.2.3.2: the schema that the reference leads to in the dynamic scope, on v
-  asks_of DynamicReference = record { place = S.dynamic_target path place; step = Alone; at = Alone; value = v } ∷ []
+  asks_of DynamicRef = record { place = S.dynamic_target path place; step = Alone; at = Alone; value = v } ∷ []
   -- 10.2.1.1: each schema of the list, on v
   asks_of AllOf = map (λ e. in_place (Index e.0)) (indexed k.1)
   -- 10.2.1.2
@@ -134,4 +136,4 @@ module _ {Place : Type 0} (S : SchemaSet Place) (path : List Place) (place : Pla
   asks_of UnevaluatedProperties = map (applied_to_member Alone) (filter (λ m. not (among_names m.0 names)) (entries v))
   -- assertions and annotations ask for nothing
   asks_of Assertion = []
-  asks_of Annotation = []
+  asks_of (Other _) = []

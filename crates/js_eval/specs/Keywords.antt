@@ -3,9 +3,10 @@
 use Rattle.std.specs.Prelude.{ℕ, List, [], ◌∷◌, ◌++◌, Bool, not, ◌&&◌, filter, codes}
 use Rattle.std.specs.Str.{bytes_eq}
 use Rattle.std.specs.List.{list_any}
+use Rattle.std.specs.Ordering.{is_gt}
+use Rattle.js_doc.specs.Members.{name_cmp}
 use Rattle.js_doc.specs.Value.{Value}
 use Rattle.js_assert.specs.Argument.{entries}
-use Rattle.js_bundle.specs.KeywordName.{stands_behind_if}
 
 -- a keyword's name, and its argument
 abbrev pub Keyword : Type 0
@@ -27,7 +28,7 @@ abbrev pub is_else : List ℕ → Bool
 is_else name = bytes_eq name (codes "else")
 
 abbrev pub is_after_if : List ℕ → Bool
-is_after_if name = stands_behind_if name
+is_after_if name = is_gt (name_cmp name (codes "if"))
 
 -- it has a node before that of `else`
 abbrev pub comes_before_else : List ℕ → Bool

@@ -1,4 +1,4 @@
-pub mod Kind
+pub mod Unevaluated
 pub mod Keywords
 pub mod SchemaSet
 pub mod Bundle

@@ -13,11 +13,14 @@ use Rattle.js_eval.specs.Applications.{Application, among_names}
 use Rattle.js_eval.specs.Evaluated.{names_applied, indexes_applied}
 use Rattle.js_eval.specs.Keywords.{Keyword}
 use Rattle.js_eval.specs.SchemaSet.{Text}
-use Rattle.js_eval.specs.declared.kinds.kind.Kind.{Kind}
-use Rattle.js_eval.specs.declared.kinds.kind.Kind.TheVariants.{AnyOf, OneOf, Not, PrefixItems, Items, Contains}
-use Rattle.js_eval.specs.declared.kinds.kind.Kind.TheVariants.{Properties, PatternProperties, AdditionalProperties}
-use Rattle.js_eval.specs.declared.kinds.kind.Kind.TheVariants.{UnevaluatedItems, UnevaluatedProperties, Assertion}
-use Rattle.js_eval.specs.declared.kinds.kind.Kind.TheVariants.{Annotation}
+use Rattle.js_bundle.specs.declared.keyword_name.KeywordName.{KeywordName}
+use Rattle.js_bundle.specs.declared.keyword_name.KeywordName.TheVariants.{AnyOf, OneOf, Not}
+use Rattle.js_bundle.specs.declared.keyword_name.KeywordName.TheVariants.{PrefixItems, Items, Contains}
+use Rattle.js_bundle.specs.declared.keyword_name.KeywordName.TheVariants.{Properties}
+use Rattle.js_bundle.specs.declared.keyword_name.KeywordName.TheVariants.{PatternProperties, AdditionalProperties}
+use Rattle.js_bundle.specs.declared.keyword_name.KeywordName.TheVariants.{UnevaluatedItems}
+use Rattle.js_bundle.specs.declared.keyword_name.KeywordName.TheVariants.{UnevaluatedProperties, Assertion}
+use Rattle.js_bundle.specs.declared.keyword_name.KeywordName.TheVariants.{Other}
 
 -- ---- the terms of the tables
 
@@ -64,7 +67,7 @@ member_names_among v among = filter (λ name. among_names name among) (map (λ m
 module _ {Place : Type 0} (siblings : Named) (v : Value) (matching : ℕ) (k : Keyword)
     (apps holding : List (Application Place)) where
   -- if it fails (12.3.4); a keyword that fails because its applications do has no error of its own
-  abbrev pub error_of : Kind → Note
+  abbrev pub error_of : KeywordName → Note
   error_of AnyOf = error (codes "no branch holds")
   error_of OneOf = error (decimal (length holding) ++ codes " branches hold")
   error_of Not = error (codes "the subschema holds")
@@ -74,7 +77,7 @@ module _ {Place : Type 0} (siblings : Named) (v : Value) (matching : ℕ) (k : K
   error_of _ = silent
 
   -- if it passes (10.3, 11)
-  abbrev pub annotation_of : Kind → Note
+  abbrev pub annotation_of : KeywordName → Note
   -- 10.3.1.1: `true` if it was applied to every item, else the largest index that it was applied to
   annotation_of PrefixItems = true_or (are_all_items v (indexes_applied apps)) (largest (indexes_applied apps))
   -- 10.3.1.2: `true` if it was applied to any item
@@ -90,10 +93,10 @@ module _ {Place : Type 0} (siblings : Named) (v : Value) (matching : ℕ) (k : K
   annotation_of UnevaluatedItems = if_any (indexes_applied apps)
   annotation_of UnevaluatedProperties = said_of_object v (names (names_applied apps))
   -- 6.5, 7.7: a keyword that does nothing else annotates its value
-  annotation_of Annotation = value k.1
+  annotation_of (Other _) = value k.1
   annotation_of _ = silent
 
-  abbrev pub keyword_note : Bool → Kind → Note
+  abbrev pub keyword_note : Bool → KeywordName → Note
   keyword_note true κ = annotation_of κ
   keyword_note false κ = error_of κ
 

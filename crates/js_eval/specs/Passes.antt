@@ -10,9 +10,9 @@ use Rattle.js_assert.specs.Argument.{entries, on_array}
 use Rattle.js_assert.specs.Assertion.{Asserted, asserted, says}
 use Rattle.js_eval.specs.Keywords.{Keyword}
 use Rattle.js_eval.specs.SchemaSet.{Text}
-use Rattle.js_eval.specs.declared.kinds.kind.Kind.{Kind}
-use Rattle.js_eval.specs.declared.kinds.kind.Kind.TheVariants.{AnyOf, OneOf, Not, If, Contains}
-use Rattle.js_eval.specs.declared.kinds.kind.Kind.TheVariants.{Assertion, Annotation}
+use Rattle.js_bundle.specs.declared.keyword_name.KeywordName.{KeywordName}
+use Rattle.js_bundle.specs.declared.keyword_name.KeywordName.TheVariants.{AnyOf, OneOf, Not, If, Contains}
+use Rattle.js_bundle.specs.declared.keyword_name.KeywordName.TheVariants.{Assertion, Other}
 
 abbrev pub all : List Bool → Bool
 all verdicts = list_all (λ holds. holds) verdicts
@@ -38,7 +38,7 @@ assertion_in schema name =
 -- applications. `matching`: how many items of v match the adjacent `contains`.
 
 module _ (siblings : Named) (v : Value) (matching : ℕ) (k : Keyword) (verdicts : List Bool) where
-  abbrev pub passes_of : Kind → Bool
+  abbrev pub passes_of : KeywordName → Bool
   -- 10.2.1.2
   passes_of AnyOf = any verdicts
   -- 10.2.1.3
@@ -51,6 +51,6 @@ module _ (siblings : Named) (v : Value) (matching : ℕ) (k : Keyword) (verdicts
   passes_of Contains = on_array v (λ _. any verdicts || may_contain_none siblings)
   -- Validation, section 6
   passes_of Assertion = option_map_or (λ a. says a v matching) (asserted k.0 k.1 siblings) true
-  passes_of Annotation = true
+  passes_of (Other _) = true
   -- any other keyword passes if all its applications hold
   passes_of _ = all verdicts

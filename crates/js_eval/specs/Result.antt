@@ -11,7 +11,7 @@ pub use Rattle.js_tree.specs.OutputUnit.{OutputUnit}
 pub use Rattle.js_tree.specs.Result.{ResultTree}
 use Rattle.js_eval.specs.Applications.{Application}
 use Rattle.js_eval.specs.Keywords.{Keyword, keywords}
-use Rattle.js_eval.specs.Kind.{kind}
+use Rattle.js_bundle.specs.KeywordName.{keyword_name}
 use Rattle.js_eval.specs.Location.{Location, at_keyword_named, at_application}
 use Rattle.js_eval.specs.Note.{keyword_note, schema_note}
 use Rattle.js_eval.specs.SchemaSet.{SchemaSet}
@@ -36,7 +36,7 @@ module _ {Place : Type 0} (S : SchemaSet Place) (n : ℕ) (above : List Place) (
       keyword_note (siblings S (within S n) above place v) v (matching S (within S n) above place v) k
       (asks S (within S n) above place v k)
       (filter (application_holds S (within S n) above place v) (asks S (within S n) above place v k))
-      (passes S (within S n) above place v k) (kind k.0)
+      (passes S (within S n) above place v k) (keyword_name k.0)
 
   abbrev pub keyword_unit : Keyword → OutputUnit
   keyword_unit k = record {

@@ -5,7 +5,7 @@ use Rattle.js_doc.specs.Seen.{value_of}
 use Rattle.js_doc.specs.Value.{Value, text}
 use Rattle.js_eval.specs.Keywords as table
 pub use Rattle.js_bundle.specs.Schemas.{step_of}
-use Rattle.js_eval.specs.declared.kinds.keyword.Keyword.{Keyword}
+use Rattle.js_eval.specs.declared.order.keyword.Keyword.{Keyword}
 use Rattle.js_eval.specs.declared.instance.Instance.{Instance}
 use Rattle.js_eval.specs.declared.instance.Instance.TheVariants.{Doc, Name}
 

@@ -10,14 +10,14 @@ use crate::instance::{Applied, Instance};
 use crate::keywords::applications::{Facts, Scene, asking_of_keyword};
 use crate::keywords::others::judge_others;
 use crate::keywords::passing::judge_keyword;
-use crate::kinds::keyword::{Keyword, KeywordAt, is_written_as_it_is};
-use crate::kinds::keyword_cursor::Keywords;
-use crate::kinds::kind::Kind;
+use crate::order::applying::applies;
+use crate::order::keyword::{Keyword, KeywordAt, is_written_as_it_is};
+use crate::order::keyword_cursor::Keywords;
 use crate::schema::is_accepting;
 use crate::schema_lookup::names_at;
 use crate::searching::pattern_answers::keep_all;
 use crate::searching::searchers::Searchers;
-use js_bundle::{Place, Schemas, Step};
+use js_bundle::{KeywordName, Place, Schemas, Step};
 use js_doc::{Doc, Memory};
 use std::alloc::Global;
 
@@ -114,13 +114,13 @@ impl<'a> World for FinishedSchemas<'a> {
     }
 
     #[tactic(auto, unfolding(crate::specs::Walk::Progress::kind_at))]
-    fn kind(&self, keyword: Keyword<'a>) -> Kind {
-        keyword.kind
+    fn kind(&self, keyword: Keyword<'a>) -> KeywordName {
+        keyword.which
     }
 
     #[tactic(auto, unfolding(crate::specs::Walk::Progress::asked_by))]
     fn asks(&self, keyword: Keyword<'a>) -> bool {
-        keyword.kind.is_applicator()
+        applies(keyword.which)
     }
 
     #[tactic(auto, unfolding(crate::specs::Walk::Progress::asked_by, crate::specs::Walk::Progress::IsKeywordAt))]
@@ -136,7 +136,7 @@ impl<'a> World for FinishedSchemas<'a> {
         names: &[&'a str],
         indexes: &[usize],
     ) -> Result<Asking<'a>, Memory> {
-        if matches!(keyword.kind, Kind::AdditionalProperties) {
+        if matches!(keyword.which, KeywordName::AdditionalProperties) {
             keep_all(alloc, self.schemas, &self.searchers, place, schema, value)?;
         }
         let at = KeywordAt {
@@ -214,7 +214,7 @@ impl<'a> World for FinishedSchemas<'a> {
         keyword: Keyword<'a>,
         trail: &mut Trail<H>,
     ) -> Result<(), Memory> {
-        if is_written_as_it_is(keyword.kind, keyword.name) {
+        if is_written_as_it_is(keyword.which, keyword.name) {
             trail.push_kept(keyword.name)
         } else {
             trail.push_name(keyword.name)

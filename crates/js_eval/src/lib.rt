@@ -6,8 +6,8 @@
 //! against the schema at a place, and reports each node of the result tree when it opens and, after the nodes below it,
 //! when it closes. These reports are the *events*.
 //!
-//! `evaluation` has the recursion, over any `World` and any `Reporter`; `kinds` the kinds of keywords and their order;
-//! `keywords` what each applies, when it passes and its note; `finished_world` the `World` of finished schemas;
+//! `evaluation` has the recursion, over any `World` and any `Reporter`; `order` the keywords of a schema and their
+//! order; `keywords` what each applies, when it passes and its note; `finished_world` the `World` of finished schemas;
 //! `public_walks` the public calls.
 #![tactic(auto)]
 
@@ -16,9 +16,9 @@ mod evaluation;
 mod finished_world;
 mod instance;
 mod keywords;
-mod kinds;
 pub mod laws;
 mod marks;
+mod order;
 mod public_walks;
 mod reporters;
 mod schema;

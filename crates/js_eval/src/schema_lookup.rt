@@ -15,7 +15,7 @@ ghost use Rattle.js_eval.specs.code.Terms.{resource_of, schemas_of, step_of, val
 ghost use Rattle.js_eval.specs.SchemaSet as spec;
 
 use crate::evaluation::Path;
-use crate::kinds::keyword::{Keyword, KeywordAt};
+use crate::order::keyword::{Keyword, KeywordAt};
 use js_bundle::place_laws::{a_number_determines_a_resource, numbers_determine_the_dynamic_scope};
 use js_bundle::{KeywordName, Place, Schemas, Step};
 use js_doc::Doc;

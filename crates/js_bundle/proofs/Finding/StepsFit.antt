@@ -7,24 +7,24 @@ use Rattle.std.proofs.lemmas.Slice.Eq.{bytes_eq-Decides}
 use Rattle.js_doc.proofs.EachSame.{each_same}
 use Rattle.js_assert.specs.Keyword.{keyword_named}
 use Rattle.js_bundle.specs.declared.keyword_name.KeywordName.{KeywordName}
-use Rattle.js_bundle.specs.declared.keyword_name.KeywordName.TheVariants.{AssertionUpToIf, AssertionBehindIf}
-use Rattle.js_bundle.specs.declared.keyword_name.KeywordName.TheVariants.{OtherUpToIf, OtherBehindIf}
+use Rattle.js_bundle.specs.declared.keyword_name.KeywordName.TheVariants.{Assertion, Other}
+use Rattle.js_bundle.specs.declared.keyword_name.OtherName.TheVariants.{Unknown}
 use Rattle.js_bundle.specs.Keyword.{Text}
-use Rattle.js_bundle.specs.KeywordName.{TableOfNames, applying, identifying, name_in, by_side}
-use Rattle.js_bundle.specs.KeywordName.{not_applying, stands_behind_if, keyword_name}
+use Rattle.js_bundle.specs.KeywordName.{TableOfNames, applying, identifying, name_in}
+use Rattle.js_bundle.specs.KeywordName.{not_applying, keyword_name}
 use Rattle.js_bundle.specs.Place.{holding}
 use Rattle.js_bundle.specs.Ranked.{applies_at}
 use Rattle.js_bundle.specs.Schemas.{Step, fits}
 
-side_of : (g : KeywordName → Bool) (b : Bool) (m n : KeywordName) → g m ≡ false → g n ≡ false → g (cond b n m) ≡ false
-side_of g true m n e f = f
-side_of g false m n e f = e
+either_of : (g : KeywordName → Bool) (b : Bool) (m n : KeywordName) → g m ≡ false → g n ≡ false → g (cond b n m) ≡ false
+either_of g true m n e f = f
+either_of g false m n e f = e
 
 none_in : (g : KeywordName → Bool) (rows : TableOfNames) (other : KeywordName) (name : Text)
     → AllByRecursion (λ row. g row.1 ≡ false) rows → g other ≡ false → g (name_in rows other name) ≡ false
 none_in g [] other name all e = e
 none_in g (row ∷ rows) other name all e =
-    side_of g (bytes_eq name row.0) (name_in rows other name) row.1 (none_in g rows other name all.1 e) all.0
+    either_of g (bytes_eq name row.0) (name_in rows other name) row.1 (none_in g rows other name all.1 e) all.0
 
 -- a test of names that agrees with one of keywords in each row
 by_rows : (f : Text → Bool) (g : KeywordName → Bool) (rows : TableOfNames) (other : KeywordName) (name : Text)
@@ -40,18 +40,14 @@ by_rows f g (row ∷ rows) other name none all e =
     at false q h rest = rest h
 
 by_name : (f : Text → Bool) (g : KeywordName → Bool) (name : Text) → AllByRecursion (λ row. g row.1 ≡ false) identifying
-    → g AssertionUpToIf ≡ false → g AssertionBehindIf ≡ false → g OtherUpToIf ≡ false → g OtherBehindIf ≡ false
+    → g Assertion ≡ false → g (Other Unknown) ≡ false
     → AllByRecursion (λ row. f row.0 ≡ g row.1) applying
     → g (keyword_name name) ≡ true → f name ≡ true
 unfolding keyword_name
-by_name f g name none a b c d all e =
-    let behind = stands_behind_if name in
+by_name f g name none a b all e =
     by_rows f g applying (not_applying name) name
-    (side_of g (is_some (keyword_named name)) (name_in identifying (by_side OtherUpToIf OtherBehindIf name) name)
-    (by_side AssertionUpToIf AssertionBehindIf name)
-    (none_in g identifying (by_side OtherUpToIf OtherBehindIf name) name none
-    (side_of g behind OtherUpToIf OtherBehindIf c d))
-    (side_of g behind AssertionUpToIf AssertionBehindIf a b))
+    (either_of g (is_some (keyword_named name)) (name_in identifying (Other Unknown) name) Assertion
+    (none_in g identifying (Other Unknown) name none b) a)
     all e
 
 pub applies_fits : (name : Text) (step : Step)
@@ -59,6 +55,6 @@ pub applies_fits : (name : Text) (step : Step)
 unfolding holding
 applies_fits name step e =
     by_name (λ k. fits (holding k) step) (λ w. applies_at w step) name
-    (refl, (refl, (refl, (refl, (refl, (refl, (refl, (refl, tt)))))))) refl refl refl refl
+    (refl, (refl, (refl, (refl, (refl, (refl, (refl, (refl, tt)))))))) refl refl
     (each_same (λ row. fits (holding row.0) step) (λ row. applies_at row.1 step) applying refl)
     e

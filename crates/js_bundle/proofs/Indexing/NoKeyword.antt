@@ -9,7 +9,8 @@ use Rattle.js_doc.specs.Parts.{members_of}
 use Rattle.js_doc.proofs.TokenLookup.{is_text-sound}
 use Rattle.js_assert.specs.Keyword as assertion
 use Rattle.js_bundle.specs.declared.keyword_name.KeywordName.{KeywordName}
-use Rattle.js_bundle.specs.declared.keyword_name.KeywordName.TheVariants.{DynamicAnchor}
+use Rattle.js_bundle.specs.declared.keyword_name.KeywordName.TheVariants.{Other}
+use Rattle.js_bundle.specs.declared.keyword_name.OtherName.TheVariants.{DynamicAnchor}
 use Rattle.js_bundle.specs.contracts.keyword_name.KeywordNamePartialEq.TheImpl.{ghosts}
 use Rattle.js_bundle.specs.Keyword.{Text, text_argument, as_text}
 use Rattle.js_bundle.specs.KeywordName.{keyword_name, member_keywords}
@@ -37,7 +38,7 @@ absent k w is (m ∷ ms) h =
     (list_any (λ y. ghosts.eq y w) (map (λ n. keyword_name n.0) ms)) h in
     get_first k m.0 m.1 ms ∙ absent_by k w is m.0 m.1 ms (bytes_eq k m.0) refl parts.0 (absent k w is ms parts.1)
 
-named_dynamic_anchor : ghosts.eq (keyword_name (codes "$dynamicAnchor")) DynamicAnchor ≡ true
+named_dynamic_anchor : ghosts.eq (keyword_name (codes "$dynamicAnchor")) (Other DynamicAnchor) ≡ true
 unfolding keyword_name assertion.keyword_named
 named_dynamic_anchor = refl
 
@@ -50,7 +51,7 @@ no_text k w place names found is same recorded h =
 
 -- a place that makes no name by `$dynamicAnchor`
 pub no_dynamic_anchor : (place : Site) (names : List KeywordName) (found : Bool) → names ≡ member_keywords place
-    → found ≡ list_any (λ y. ghosts.eq y DynamicAnchor) names → found ≡ false
+    → found ≡ list_any (λ y. ghosts.eq y (Other DynamicAnchor)) names → found ≡ false
     → None ≡ text_argument (codes "$dynamicAnchor") place.schema
 no_dynamic_anchor place names found same recorded h =
-    no_text (codes "$dynamicAnchor") DynamicAnchor place names found named_dynamic_anchor same recorded h
+    no_text (codes "$dynamicAnchor") (Other DynamicAnchor) place names found named_dynamic_anchor same recorded h

@@ -20,7 +20,7 @@ use crate::index::place_by_uri::number_at;
 use crate::index::positions::Positions;
 use crate::index::sparse_list::mark_at;
 use crate::keyword::text_argument;
-use crate::keyword_name::KeywordName;
+use crate::keyword_name::{KeywordName, OtherName};
 use crate::scan::site::Site;
 use js_doc::{Memory, Pointer};
 use std::alloc::Global;
@@ -193,7 +193,7 @@ fn dynamic_name<'s>(site: &'s Site<'_>, names: &[KeywordName]) -> Option<&'s str
     requires { names.now ≡ member_keywords (site_of site.now) }
     ensures { option_copied result ≡ text_argument (codes "$dynamicAnchor") (site_of site.now).schema }
 {
-    if names.contains(&KeywordName::DynamicAnchor) {
+    if names.contains(&KeywordName::Other(OtherName::DynamicAnchor)) {
         return text_argument(site.schema, "$dynamicAnchor");
     }
     None

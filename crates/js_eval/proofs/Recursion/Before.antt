@@ -22,7 +22,8 @@ use Rattle.js_assert.specs.ErrorText as text
 use Rattle.js_eval.specs.Applications.{Application, application, asks_of}
 use Rattle.js_eval.specs.Evaluated.{names_origin, indexes_origin}
 use Rattle.js_eval.specs.Keywords.{Keyword, keywords, keywords_that, comes_before_else, comes_after_else, is_else}
-use Rattle.js_eval.specs.Kind.{kind, is_unevaluated_items, is_unevaluated_properties}
+use Rattle.js_bundle.specs.KeywordName.{keyword_name}
+use Rattle.js_eval.specs.Unevaluated.{is_unevaluated_items, is_unevaluated_properties}
 use Rattle.js_doc.specs.Pointer.{pointer_text}
 use Rattle.js_eval.specs.Location.{Location, at_keyword_named}
 use Rattle.js_eval.specs.Result.{OutputUnit}
@@ -31,9 +32,10 @@ use Rattle.js_eval.specs.Passes.{passes_of}
 use Rattle.js_eval.specs.SchemaSet.{Text, SchemaSet, Alone}
 use Rattle.js_eval.specs.Verdict as verdict
 use Rattle.js_eval.specs.Verdict.{Known, within, asks, passes}
-use Rattle.js_eval.specs.declared.kinds.kind.Kind.{Kind}
-use Rattle.js_eval.specs.declared.kinds.kind.Kind.TheVariants.{Then, Else, Assertion, Annotation}
-use Rattle.js_eval.specs.declared.kinds.kind.Kind.TheVariants.{UnevaluatedItems, UnevaluatedProperties}
+use Rattle.js_bundle.specs.declared.keyword_name.KeywordName.{KeywordName}
+use Rattle.js_bundle.specs.declared.keyword_name.KeywordName.TheVariants.{Then, Else, Assertion, Other}
+use Rattle.js_bundle.specs.declared.keyword_name.KeywordName.TheVariants.{UnevaluatedItems, UnevaluatedProperties}
+use Rattle.js_eval.proofs.Standard.{by_keyword}
 use Rattle.js_eval.proofs.FoundByName.{IsAmong, AreAmong, all_of_filter, keywords_among}
 use Rattle.js_eval.proofs.NoCircle.{names_in_no_circle, indexes_in_no_circle}
 use Rattle.js_eval.specs.declared.evaluation.keeping.Origin.{Origin}
@@ -41,7 +43,7 @@ use Rattle.js_eval.specs.declared.evaluation.keeping.Origin.TheVariants.{Nowhere
 use Rattle.js_eval.specs.Walk.Progress.{IsKeywordAt, asked_by, passes_by, unit_by, passes_at}
 use Rattle.js_eval.proofs.Recursion.AllKeywords.{IsAsBefore}
 use Rattle.js_eval.proofs.Recursion.Sources.{no_names_given, no_indexes_given}
-use Rattle.js_eval.proofs.Recursion.Order.{itself, is_branch, matches, by_kind, all_pass, behind_first, found_before}
+use Rattle.js_eval.proofs.Recursion.Order.{itself, is_branch, matches, all_pass, behind_first, found_before}
 use Rattle.js_eval.proofs.Recursion.Order.{then_later, condition_in, matching_in, names_in, indexes_in}
 
 -- ---- a keyword that comes first doesn't look at what `contains` matches
@@ -57,12 +59,12 @@ pub record CountsLater : Type 0 where
 
 module _ (later : CountsLater) (siblings : Named) (v : Value) (m n : ℕ) (k : Keyword)
     (first : comes_before_else k.0 ≡ true) where
-  pub passes_first : (verdicts : List Bool) (κ : Kind)
+  pub passes_first : (verdicts : List Bool) (κ : KeywordName)
       → passes_of siblings v m k verdicts κ ≡ passes_of siblings v n k verdicts κ
   passes_first verdicts Assertion = later.says k.0 k.1 siblings v m n first
   passes_first verdicts _ = refl
 
-  pub note_first : {P : Type 0} (apps holding : List (Application P)) (b : Bool) (κ : Kind)
+  pub note_first : {P : Type 0} (apps holding : List (Application P)) (b : Bool) (κ : KeywordName)
       → keyword_note siblings v m k apps holding b κ ≡ keyword_note siblings v n k apps holding b κ
   note_first apps holding true Assertion = refl
   note_first apps holding true _ = refl
@@ -196,10 +198,10 @@ nowhere : (s : Origin) → is_nowhere s ≡ true → s ≡ Nowhere
 nowhere Nowhere h = refl
 nowhere _ h = cc
 
-abbrev placed : (Kind → Bool) → Text → Text → Kind → Bool
+abbrev placed : (KeywordName → Bool) → Text → Text → KeywordName → Bool
 placed is w n κ = not (is κ) || (not (comes_before_else n) && (not (is_else n) && bytes_eq n w))
 
-abbrev silent_after : (Kind → Origin) → Text → Text → Kind → Bool
+abbrev silent_after : (KeywordName → Origin) → Text → Text → KeywordName → Bool
 silent_after source w n κ = not (is_lt (name_cmp w n)) || is_nowhere (source κ)
 
 implied : (a b : Bool) → (not a || b) ≡ true → a ≡ true → b ≡ true
@@ -214,71 +216,71 @@ excluded : (a b : Bool) → (a ≡ true → b ≡ false) → b ≡ true → a �
 excluded true b f h = absurd (let e = f refl in let z : true ≡ false = sym h ∙ e in cc)
 excluded false b f h = refl
 
-module _ (is : Kind → Bool) (w : Text) (source : Kind → Origin)
-    (where_it_is : (name : Text) → placed is w name (kind name) ≡ true) (silent_behind : (name : Text)
-    → silent_after source w name (kind name) ≡ true) where
-  place_of : (name : Text) → is (kind name) ≡ true
+module _ (is : KeywordName → Bool) (w : Text) (source : KeywordName → Origin)
+    (where_it_is : (name : Text) → placed is w name (keyword_name name) ≡ true) (silent_behind : (name : Text)
+    → silent_after source w name (keyword_name name) ≡ true) where
+  place_of : (name : Text) → is (keyword_name name) ≡ true
       → (comes_before_else name ≡ false) × (is_else name ≡ false) × (name ≡ w)
   place_of name h =
-      let a = implied (is (kind name)) (not (comes_before_else name) && (not (is_else name) && bytes_eq name w))
+      let a = implied (is (keyword_name name)) (not (comes_before_else name) && (not (is_else name) && bytes_eq name w))
       (where_it_is name) h in
       let b = and_parts (not (comes_before_else name)) (not (is_else name) && bytes_eq name w) a in
       let c = and_parts (not (is_else name)) (bytes_eq name w) b.1 in
       (not_so (comes_before_else name) b.0, not_so (is_else name) c.0, (bytes_eq-Decides name w).0 c.1)
 
-  below_not : (k x : Keyword) → is (kind k.0) ≡ true → name_cmp x.0 k.0 ≡ Less → is (kind x.0) ≡ false
-  below_not k x h l = at (is (kind x.0)) refl
+  below_not : (k x : Keyword) → is (keyword_name k.0) ≡ true → name_cmp x.0 k.0 ≡ Less → is (keyword_name x.0) ≡ false
+  below_not k x h l = at (is (keyword_name x.0)) refl
     where
-      at : (b : Bool) → is (kind x.0) ≡ b → b ≡ false
+      at : (b : Bool) → is (keyword_name x.0) ≡ b → b ≡ false
       at true e = absurd (let p = place_of k.0 h in let q = place_of x.0 e in
           let z : Less ≡ Equal = sym l ∙ (ap (λ n. name_cmp n k.0) (q.2 ∙ sym p.2) ∙ itself k.0) in cc)
       at false e = refl
 
-  behind_silent : (k x : Keyword) → is (kind k.0) ≡ true → name_cmp k.0 x.0 ≡ Less → source (kind x.0) ≡ Nowhere
+  behind_silent : (k x : Keyword) → is (keyword_name k.0) ≡ true → name_cmp k.0 x.0 ≡ Less
+      → source (keyword_name x.0) ≡ Nowhere
   behind_silent k x h l =
       let p = place_of k.0 h in
-      nowhere (source (kind x.0)) (implied (is_lt (name_cmp w x.0)) (is_nowhere (source (kind x.0))) (silent_behind x.0)
+      nowhere (source (keyword_name x.0)) (implied (is_lt (name_cmp w x.0)) (is_nowhere (source (keyword_name x.0)))
+      (silent_behind x.0)
       (ap is_lt (ap (λ n. name_cmp n x.0) (sym p.2) ∙ l)))
 
   module _ (schema : Value) (ascending : IsAscending (entries schema)) (done more : List Keyword) (k : Keyword)
-      (split : done ++ k ∷ more ≡ keywords schema) (h : is (kind k.0) ≡ true)
-      {A : Type 0} (f : Keyword → List A) (f_silent : (x : Keyword) → source (kind x.0) ≡ Nowhere → f x ≡ []) where
-    pub others_before : flat_map f (filter (λ x. not (is (kind x.0))) (keywords schema)) ≡ flat_map f done
+      (split : done ++ k ∷ more ≡ keywords schema) (h : is (keyword_name k.0) ≡ true)
+      {A : Type 0} (f : Keyword → List A) (f_silent : (x : Keyword) → source (keyword_name x.0) ≡ Nowhere
+      → f x ≡ []) where
+    pub others_before : flat_map f (filter (λ x. not (is (keyword_name x.0))) (keywords schema)) ≡ flat_map f done
     others_before =
         let p = place_of k.0 h in
-        all_before schema ascending done more k split (λ x. is (kind x.0)) p.0 p.1
-        (λ x c. excluded (is (kind x.0)) (comes_before_else x.0) (λ e. (place_of x.0 e).0) c)
-        (λ x c. excluded (is (kind x.0)) (is_else x.0) (λ e. (place_of x.0 e).1) c)
+        all_before schema ascending done more k split (λ x. is (keyword_name x.0)) p.0 p.1
+        (λ x c. excluded (is (keyword_name x.0)) (comes_before_else x.0) (λ e. (place_of x.0 e).0) c)
+        (λ x c. excluded (is (keyword_name x.0)) (is_else x.0) (λ e. (place_of x.0 e).1) c)
         (λ x l. below_not k x h l) h f (λ x l. f_silent x (behind_silent k x h l))
 
-names_placed : (name : Text) → placed is_unevaluated_properties (codes "unevaluatedProperties") name (kind name) ≡ true
-names_placed name = by_kind (placed is_unevaluated_properties (codes "unevaluatedProperties")) (λ n b.
-    elim b as (λ c. placed is_unevaluated_properties (codes "unevaluatedProperties") n (cond c Assertion Annotation)
-    ≡ true) [ true ↦ refl | false ↦ refl ]) refl name
+names_placed : (name : Text) → placed is_unevaluated_properties (codes "unevaluatedProperties") name
+    (keyword_name name) ≡ true
+names_placed name = by_keyword (placed is_unevaluated_properties (codes "unevaluatedProperties"))
+    (λ n. refl) (λ n other. refl) refl name
 
 or_true : (b : Bool) → (b || true) ≡ true
 or_true true = refl
 or_true false = refl
 
-names_silent : (name : Text) → silent_after names_origin (codes "unevaluatedProperties") name (kind name) ≡ true
-names_silent name = by_kind (silent_after names_origin (codes "unevaluatedProperties"))
-    (λ n b. elim b as (λ c. silent_after names_origin (codes "unevaluatedProperties") n (cond c Assertion Annotation)
-    ≡ true) [ true ↦ or_true _ | false ↦ or_true _ ]) refl name
+names_silent : (name : Text) → silent_after names_origin (codes "unevaluatedProperties") name (keyword_name name) ≡ true
+names_silent name = by_keyword (silent_after names_origin (codes "unevaluatedProperties"))
+    (λ n. or_true _) (λ n other. or_true _) refl name
 
-indexes_placed : (name : Text) → placed is_unevaluated_items (codes "unevaluatedItems") name (kind name) ≡ true
-indexes_placed name = by_kind (placed is_unevaluated_items (codes "unevaluatedItems"))
-    (λ n b. elim b as (λ c. placed is_unevaluated_items (codes "unevaluatedItems") n (cond c Assertion Annotation)
-    ≡ true) [ true ↦ refl | false ↦ refl ]) refl name
+indexes_placed : (name : Text) → placed is_unevaluated_items (codes "unevaluatedItems") name (keyword_name name) ≡ true
+indexes_placed name = by_keyword (placed is_unevaluated_items (codes "unevaluatedItems"))
+    (λ n. refl) (λ n other. refl) refl name
 
-indexes_silent : (name : Text) → silent_after indexes_origin (codes "unevaluatedItems") name (kind name) ≡ true
-indexes_silent name = by_kind (silent_after indexes_origin (codes "unevaluatedItems"))
-    (λ n b. elim b as (λ c. silent_after indexes_origin (codes "unevaluatedItems") n (cond c Assertion Annotation)
-    ≡ true) [ true ↦ or_true _ | false ↦ or_true _ ]) refl name
+indexes_silent : (name : Text) → silent_after indexes_origin (codes "unevaluatedItems") name (keyword_name name) ≡ true
+indexes_silent name = by_keyword (silent_after indexes_origin (codes "unevaluatedItems"))
+    (λ n. or_true _) (λ n other. or_true _) refl name
 
 module _ {P : Type 0} (later : CountsLater) (S : SchemaSet P) (known : Known P) (above : List P) (place : P) (v : Value)
     (ascending : IsAscending (entries (S.schema place))) (done more : List Keyword) (k : Keyword)
     (split : done ++ k ∷ more ≡ keywords (S.schema place)) where
-  names_before : is_unevaluated_properties (kind k.0) ≡ true
+  names_before : is_unevaluated_properties (keyword_name k.0) ≡ true
       → names_in S known above place v done ≡ verdict.evaluated_names S known above place v
   names_before h =
       sym (others_before is_unevaluated_properties (codes "unevaluatedProperties") names_origin names_placed
@@ -286,7 +288,7 @@ module _ {P : Type 0} (later : CountsLater) (S : SchemaSet P) (known : Known P) 
       (verdict.gives_names S known above place v) (no_names_given S known above place v))
       ∙ names_in_no_circle S known above place v
 
-  indexes_before : is_unevaluated_items (kind k.0) ≡ true
+  indexes_before : is_unevaluated_items (keyword_name k.0) ≡ true
       → indexes_in S known above place v done ≡ verdict.evaluated_indexes S known above place v
   indexes_before h =
       sym (others_before is_unevaluated_items (codes "unevaluatedItems") indexes_origin indexes_placed indexes_silent
@@ -305,7 +307,7 @@ module _ {P : Type 0} (later : CountsLater) (S : SchemaSet P) (known : Known P) 
       (found_before (S.schema place) ascending done more k split (codes "contains") refl h)
 
   -- what is known of the keywords before it serves a keyword as well as what there is to be known
-  asks_before_at : (κ : Kind) → kind k.0 ≡ κ
+  asks_before_at : (κ : KeywordName) → keyword_name k.0 ≡ κ
       → asks_of S (above ++ place ∷ []) place (entries (S.schema place)) v (condition_in S known above place v done)
       (names_in S known above place v done) (indexes_in S known above place v done) k κ
       ≡ asks_of S (above ++ place ∷ []) place (entries (S.schema place)) v (verdict.condition S known above place v)
@@ -320,31 +322,36 @@ module _ {P : Type 0} (later : CountsLater) (S : SchemaSet P) (known : Known P) 
 
   pub asks_before : asks_of S (above ++ place ∷ []) place (entries (S.schema place)) v
       (condition_in S known above place v done) (names_in S known above place v done)
-      (indexes_in S known above place v done) k (kind k.0) ≡ verdict.asks S known above place v k
-  asks_before = asks_before_at (kind k.0) refl
+      (indexes_in S known above place v done) k (keyword_name k.0) ≡ verdict.asks S known above place v k
+  asks_before = asks_before_at (keyword_name k.0) refl
 
   passes_before_at : (b : Bool) → comes_before_else k.0 ≡ b → (verdicts : List Bool)
-      → passes_of (entries (S.schema place)) v (matching_in S known above place v done) k verdicts (kind k.0)
-      ≡ passes_of (entries (S.schema place)) v (verdict.matching S known above place v) k verdicts (kind k.0)
-  passes_before_at true e verdicts = passes_first later (entries (S.schema place)) v _ _ k e verdicts (kind k.0)
+      → passes_of (entries (S.schema place)) v (matching_in S known above place v done) k verdicts (keyword_name k.0)
+      ≡ passes_of (entries (S.schema place)) v (verdict.matching S known above place v) k verdicts (keyword_name k.0)
+  passes_before_at true e verdicts = passes_first later (entries (S.schema place)) v _ _ k e verdicts (keyword_name k.0)
   passes_before_at false e verdicts =
-      ap (λ m. passes_of (entries (S.schema place)) v m k verdicts (kind k.0)) (matching_before e)
+      ap (λ m. passes_of (entries (S.schema place)) v m k verdicts (keyword_name k.0)) (matching_before e)
 
   pub passes_before : (verdicts : List Bool)
-      → passes_of (entries (S.schema place)) v (matching_in S known above place v done) k verdicts (kind k.0)
-      ≡ passes_of (entries (S.schema place)) v (verdict.matching S known above place v) k verdicts (kind k.0)
+      → passes_of (entries (S.schema place)) v (matching_in S known above place v done) k verdicts (keyword_name k.0)
+      ≡ passes_of (entries (S.schema place)) v (verdict.matching S known above place v) k verdicts (keyword_name k.0)
   passes_before = passes_before_at (comes_before_else k.0) refl
 
   note_before_at : (b : Bool) → comes_before_else k.0 ≡ b → (apps holding : List (Application P)) (p : Bool)
-      → keyword_note (entries (S.schema place)) v (matching_in S known above place v done) k apps holding p (kind k.0)
-      ≡ keyword_note (entries (S.schema place)) v (verdict.matching S known above place v) k apps holding p (kind k.0)
-  note_before_at true e apps holding p = note_first later (entries (S.schema place)) v _ _ k e apps holding p (kind k.0)
+      → keyword_note (entries (S.schema place)) v (matching_in S known above place v done) k apps holding p
+      (keyword_name k.0)
+      ≡ keyword_note (entries (S.schema place)) v (verdict.matching S known above place v) k apps holding p
+      (keyword_name k.0)
+  note_before_at true e apps holding p = note_first later (entries (S.schema place)) v _ _ k e apps holding p
+      (keyword_name k.0)
   note_before_at false e apps holding p =
-      ap (λ m. keyword_note (entries (S.schema place)) v m k apps holding p (kind k.0)) (matching_before e)
+      ap (λ m. keyword_note (entries (S.schema place)) v m k apps holding p (keyword_name k.0)) (matching_before e)
 
   pub note_before : (apps holding : List (Application P)) (p : Bool)
-      → keyword_note (entries (S.schema place)) v (matching_in S known above place v done) k apps holding p (kind k.0)
-      ≡ keyword_note (entries (S.schema place)) v (verdict.matching S known above place v) k apps holding p (kind k.0)
+      → keyword_note (entries (S.schema place)) v (matching_in S known above place v done) k apps holding p
+      (keyword_name k.0)
+      ≡ keyword_note (entries (S.schema place)) v (verdict.matching S known above place v) k apps holding p
+      (keyword_name k.0)
   note_before = note_before_at (comes_before_else k.0) refl
 
 abbrev unit_with : {P : Type 0} → SchemaSet P → List P → P → Location → Keyword → Bool → Note → OutputUnit
@@ -372,7 +379,7 @@ is_as_before later S m above place v a done more k split =
           (asks S (within S m) above place v k)) (passes S (within S m) above place v k) in
           ap (λ b. unit_with S above place at k b (keyword_note (entries (S.schema place)) v (matching_in S
           (within S m) above place v done) k (asks S (within S m) above place v k) (filter (λ x. (within S m).holds
-          (above ++ place ∷ []) x.place x.value) (asks S (within S m) above place v k)) b (kind k.0))) p
+          (above ++ place ∷ []) x.place x.value) (asks S (within S m) above place v k)) b (keyword_name k.0))) p
           ∙ ap (unit_with S above place at k (passes S (within S m) above place v k)) n;
     }
 

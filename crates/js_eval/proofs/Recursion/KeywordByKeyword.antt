@@ -14,7 +14,7 @@ use Rattle.js_assert.specs.Argument.{entries}
 use Rattle.js_tree.specs.Forest.{empty, tree, ◌⊹◌}
 use Rattle.js_eval.specs.Applications.{Application}
 use Rattle.js_eval.specs.Keywords.{Keyword, keywords}
-use Rattle.js_eval.specs.Kind.{kind}
+use Rattle.js_bundle.specs.KeywordName.{keyword_name}
 use Rattle.js_eval.specs.Location.{Location, at_keyword_named}
 use Rattle.js_eval.specs.Note.{Note, schema_note}
 use Rattle.js_eval.specs.Result.{AreSchemaNodes, keyword_unit}
@@ -251,8 +251,8 @@ module _ {P : Type 0} (S : SchemaSet P) (m : ℕ) (above : List P) (place : P) (
         (indexes'' : List ℕ) (left' : ℕ)
         → KeywordWalked S m (above ++ place ∷ []) place v k count apps b succeeded names' names''
         indexes' indexes'' left left'
-        → KeywordsSoFar (done ++ k ∷ []) rest (valid && b) (condition_step (kind k.0) succeeded branch)
-        (matching_step (kind k.0) succeeded count) names names'' indexes indexes'' old left'
+        → KeywordsSoFar (done ++ k ∷ []) rest (valid && b) (condition_step (keyword_name k.0) succeeded branch)
+        (matching_step (keyword_name k.0) succeeded count) names names'' indexes indexes'' old left'
     unfolding names_given indexes_given passes_by unit_by
     keyword_more here b succeeded names'' indexes'' left' w =
         let e = apps_is in
@@ -276,12 +276,12 @@ module _ {P : Type 0} (S : SchemaSet P) (m : ℕ) (above : List P) (place : P) (
               and_more (accepts (S.schema place)) (list_all (passes S (within S m) above place v) (visited done))
               (passes S (within S m) above place v k) valid b _ so.verdict r q;
           of_names = one_gives_more (gives_names S (within S m) above place v) done k names names' names''
-              (names_given S m (above ++ place ∷ []) (kind k.0)) _ _ p e w.of_names refl so.of_names;
+              (names_given S m (above ++ place ∷ []) (keyword_name k.0)) _ _ p e w.of_names refl so.of_names;
           of_indexes = one_gives_more (gives_indexes S (within S m) above place v) done k indexes indexes' indexes''
-              (indexes_given S m (above ++ place ∷ []) (kind k.0)) _ _ p e w.of_indexes refl so.of_indexes;
-          condition = ap (condition_step (kind k.0) succeeded) so.condition
+              (indexes_given S m (above ++ place ∷ []) (keyword_name k.0)) _ _ p e w.of_indexes refl so.of_indexes;
+          condition = ap (condition_step (keyword_name k.0) succeeded) so.condition
               ∙ sym (condition_more S (within S m) above place v done k succeeded h);
-          matching = ap (matching_step (kind k.0) succeeded) so.matching
+          matching = ap (matching_step (keyword_name k.0) succeeded) so.matching
               ∙ sym (matching_more S (within S m) above place v done k succeeded h);
           spent =
               let f = ap (sum_by (nodes_at S m (above ++ place ∷ []))) e in

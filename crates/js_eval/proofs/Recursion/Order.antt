@@ -17,12 +17,13 @@ use Rattle.js_doc.specs.Members.{get, name_cmp, IsAscending}
 use Rattle.js_assert.specs.Argument.{entries}
 use Rattle.js_eval.specs.Applications.{Application, application, asks_of}
 use Rattle.js_eval.specs.Keywords.{Keyword, keywords, keywords_that, comes_before_else, comes_after_else, is_else}
-use Rattle.js_eval.specs.Kind.{Applicator, kind, kind_in, applicators}
+use Rattle.js_bundle.specs.KeywordName.{keyword_name}
 use Rattle.js_eval.specs.SchemaSet.{Text, SchemaSet, Alone}
 use Rattle.js_eval.specs.Verdict as verdict
 use Rattle.js_eval.specs.Verdict.{Known}
-use Rattle.js_eval.specs.declared.kinds.kind.Kind.{Kind}
-use Rattle.js_eval.specs.declared.kinds.kind.Kind.TheVariants.{If, Then, Else, Contains, Assertion, Annotation}
+use Rattle.js_bundle.specs.declared.keyword_name.KeywordName.{KeywordName}
+use Rattle.js_bundle.specs.declared.keyword_name.KeywordName.TheVariants.{If, Then, Else, Contains, Assertion, Other}
+use Rattle.js_eval.proofs.Standard.{by_keyword}
 use Rattle.js_eval.proofs.FoundByName.{IsAmong, AreAmong, keywords_among}
 use Rattle.js_eval.specs.Walk.Keeping.{condition_step, matching_step}
 
@@ -144,27 +145,9 @@ module _ (schema : Value) (ascending : IsAscending (entries schema)) (done more 
       (found_chosen comes_before_else x (entries schema) y h e))
       (λ z e. found_among (entries schema) x done z are_among e)
 
--- ---- a name's kind, by its row
+-- ---- by the keyword that a name is
 
-row_at : (q : Text → Kind → Bool) (b : Bool) (row : Applicator) (rows : List Applicator) (name : Text)
-    → bytes_eq name row.0 ≡ b → q row.0 row.1 ≡ true → q name (kind_in rows name) ≡ true
-    → q name (cond b row.1 (kind_in rows name)) ≡ true
-row_at q true row rows name e h r = ap (λ n. q n row.1) ((bytes_eq-Decides name row.0).0 e) ∙ h
-row_at q false row rows name e h r = r
-
-in_rows : (q : Text → Kind → Bool) → ((name : Text) (b : Bool) → q name (cond b Assertion Annotation) ≡ true) → (rows :
-    List Applicator) → list_all (λ row. q row.0 row.1) rows ≡ true → (name : Text) → q name (kind_in rows name) ≡ true
-in_rows q other [] h name = other name _
-in_rows q other (row ∷ rows) h name = let p = and_parts _ _ h in
-    row_at q (bytes_eq name row.0) row rows name refl p.0 (in_rows q other rows p.1 name)
-
--- what holds of each row, and of each other name, holds of each name
-pub by_kind : (q : Text → Kind → Bool) → ((name : Text) (b : Bool) → q name (cond b Assertion Annotation) ≡ true)
-    → list_all (λ row. q row.0 row.1) applicators ≡ true → (name : Text) → q name (kind name) ≡ true
-unfolding kind
-by_kind q other h name = in_rows q other applicators h name
-
-abbrev pub is_branch : Kind → Bool
+abbrev pub is_branch : KeywordName → Bool
 is_branch Then = true
 is_branch Else = true
 is_branch _ = false
@@ -173,12 +156,12 @@ either : (b : Bool) → (not b || true) ≡ true
 either true = refl
 either false = refl
 
-branch_later : (name : Text) → (not (is_branch (kind name)) || not (comes_before_else name)) ≡ true
-branch_later name = by_kind (λ n κ. not (is_branch κ) || not (comes_before_else n))
-    (λ n b. elim b as (λ c. (not (is_branch (cond c Assertion Annotation)) || not (comes_before_else n)) ≡ true)
-    [ true ↦ refl | false ↦ refl ]) refl name
+branch_later : (name : Text) → (not (is_branch (keyword_name name)) || not (comes_before_else name)) ≡ true
+branch_later name = by_keyword (λ n κ. not (is_branch κ) || not (comes_before_else n))
+    (λ n. refl) (λ n other. refl) refl name
 
-pub then_later : (name : Text) (b : Bool) → is_branch (kind name) ≡ true → comes_before_else name ≡ b → b ≡ false
+pub then_later : (name : Text) (b : Bool) → is_branch (keyword_name name) ≡ true → comes_before_else name ≡ b
+    → b ≡ false
 then_later name true h e = absurd (let q = branch_later name in cc)
 then_later name false h e = refl
 
@@ -243,37 +226,36 @@ module _ {P : Type 0} (S : SchemaSet P) (known : Known P) (above : List P) (plac
   some_or None h = refl
   some_or (Some w) h = refl
 
-  abbrev spelled : Kind → Text → Bool
+  abbrev spelled : KeywordName → Text → Bool
   spelled If name = bytes_eq name (codes "if")
   spelled Contains name = bytes_eq name (codes "contains")
   spelled _ name = true
 
-  -- of the kind of `if` and of `contains` there is one name each
-  by_spelling : (name : Text) → spelled (kind name) name ≡ true
-  by_spelling name = by_kind (λ n κ. spelled κ n)
-      (λ n b. elim b as (λ c. spelled (cond c Assertion Annotation) n ≡ true) [ true ↦ refl | false ↦ refl ]) refl name
+  -- `if` and `contains` have one name each
+  by_spelling : (name : Text) → spelled (keyword_name name) name ≡ true
+  by_spelling name = by_keyword (λ n κ. spelled κ n) (λ n. refl) (λ n other. refl) refl name
 
-  named_if : (name : Text) → kind name ≡ If → name ≡ codes "if"
+  named_if : (name : Text) → keyword_name name ≡ If → name ≡ codes "if"
   named_if name e = let s : spelled If name ≡ true = subst (λ κ. spelled κ name ≡ true) e (by_spelling name) in
       (bytes_eq-Decides name (codes "if")).0 s
 
-  named_contains : (name : Text) → kind name ≡ Contains → name ≡ codes "contains"
+  named_contains : (name : Text) → keyword_name name ≡ Contains → name ≡ codes "contains"
   named_contains name e = let s : spelled Contains name ≡ true =
       subst (λ κ. spelled κ name ≡ true) e (by_spelling name) in (bytes_eq-Decides name (codes "contains")).0 s
 
-  if_is_if : kind (codes "if") ≡ If
-  unfolding kind
+  if_is_if : keyword_name (codes "if") ≡ If
+  unfolding keyword_name
   if_is_if = refl
 
-  contains_is : kind (codes "contains") ≡ Contains
-  unfolding kind
+  contains_is : keyword_name (codes "contains") ≡ Contains
+  unfolding keyword_name
   contains_is = refl
 
   one_if : (b : Bool) (a : Application P) → Some b ≡ Some (length (cond b (a ∷ []) []) == 1)
   one_if true a = refl
   one_if false a = refl
 
-  condition_more_at : (κ : Kind) (ks : List Keyword) (k : Keyword) (succeeded : ℕ) → kind k.0 ≡ κ
+  condition_more_at : (κ : KeywordName) (ks : List Keyword) (k : Keyword) (succeeded : ℕ) → keyword_name k.0 ≡ κ
       → succeeded ≡ length (filter (verdict.application_holds S known above place v)
       (verdict.asks S known above place v k))
       → condition_in (ks ++ k ∷ []) ≡ condition_step κ succeeded (condition_in ks)
@@ -287,15 +269,16 @@ module _ {P : Type 0} (S : SchemaSet P) (known : Known P) (above : List P) (plac
       ∷ [] = rw (e, n) refl in ap (λ l. length (filter (verdict.application_holds S known above place v) l)) i)))))
   condition_more_at _ ks k succeeded e h = ap (option_map
       (λ _. verdict.application_holds S known above place v (application S place (codes "if") Alone Alone v))) (another
-      (codes "if") ks k (λ q. let n = equal_names (codes "if") k.0 q in let i = ap kind n in let j = if_is_if in cc))
+      (codes "if") ks k (λ q. let n = equal_names (codes "if") k.0 q in let i = ap keyword_name n in
+      let j = if_is_if in cc))
 
   pub condition_more : (ks : List Keyword) (k : Keyword) (succeeded : ℕ)
       → succeeded ≡ length (filter (verdict.application_holds S known above place v)
       (verdict.asks S known above place v k))
-      → condition_in (ks ++ k ∷ []) ≡ condition_step (kind k.0) succeeded (condition_in ks)
-  condition_more ks k succeeded h = condition_more_at (kind k.0) ks k succeeded refl h
+      → condition_in (ks ++ k ∷ []) ≡ condition_step (keyword_name k.0) succeeded (condition_in ks)
+  condition_more ks k succeeded h = condition_more_at (keyword_name k.0) ks k succeeded refl h
 
-  matching_more_at : (κ : Kind) (ks : List Keyword) (k : Keyword) (succeeded : ℕ) → kind k.0 ≡ κ
+  matching_more_at : (κ : KeywordName) (ks : List Keyword) (k : Keyword) (succeeded : ℕ) → keyword_name k.0 ≡ κ
       → succeeded ≡ length (filter (verdict.application_holds S known above place v)
       (verdict.asks S known above place v k))
       → matching_in (ks ++ k ∷ []) ≡ matching_step κ succeeded (matching_in ks)
@@ -306,10 +289,10 @@ module _ {P : Type 0} (S : SchemaSet P) (known : Known P) (above : List P) (plac
       [] [] (codes "contains", v) Contains = rw (e, n) refl in
       ap (λ l. length (filter (verdict.application_holds S known above place v) l)) i))
   matching_more_at _ ks k succeeded e h = ap (λ o. option_map_or (λ _. matches) o 0) (another (codes "contains") ks k
-      (λ q. let n = equal_names (codes "contains") k.0 q in let i = ap kind n in let j = contains_is in cc))
+      (λ q. let n = equal_names (codes "contains") k.0 q in let i = ap keyword_name n in let j = contains_is in cc))
 
   pub matching_more : (ks : List Keyword) (k : Keyword) (succeeded : ℕ)
       → succeeded ≡ length (filter (verdict.application_holds S known above place v)
       (verdict.asks S known above place v k))
-      → matching_in (ks ++ k ∷ []) ≡ matching_step (kind k.0) succeeded (matching_in ks)
-  matching_more ks k succeeded h = matching_more_at (kind k.0) ks k succeeded refl h
+      → matching_in (ks ++ k ∷ []) ≡ matching_step (keyword_name k.0) succeeded (matching_in ks)
+  matching_more ks k succeeded h = matching_more_at (keyword_name k.0) ks k succeeded refl h

@@ -11,10 +11,10 @@ use Rattle.js_assert.specs.Argument.{entries}
 use Rattle.js_tree.specs.Forest.{empty}
 use Rattle.js_eval.specs.Applications.{Application}
 use Rattle.js_eval.specs.Keywords.{Keyword, keywords}
-use Rattle.js_eval.specs.Kind.{kind}
+use Rattle.js_bundle.specs.KeywordName.{keyword_name}
 use Rattle.js_eval.specs.Location.{step_tokens}
 use Rattle.js_eval.specs.SchemaSet.{Text, SchemaSet, Step}
-use Rattle.js_eval.specs.declared.kinds.kind.Kind.{Kind}
+use Rattle.js_bundle.specs.declared.keyword_name.KeywordName.{KeywordName}
 use Rattle.js_tree.specs.Events.{Event, Passes, opening, closing}
 use Rattle.js_tree.specs.Note.{silent}
 use Rattle.js_eval.specs.Walk.Keeping.{condition_step, matching_step}
@@ -75,7 +75,7 @@ unfolding at_step
 step_back old new s mark m e = ap (λ n. take n new) m
     ∙ (ap (take (length old)) e ∙ take-append_seam old (pointer_text (step_tokens s)))
 
-pub kind_is : (k : Keyword) → kind_at k ≡ kind k.0
+pub kind_is : (k : Keyword) → kind_at k ≡ keyword_name k.0
 unfolding kind_at
 kind_is k = refl
 
@@ -90,32 +90,35 @@ on_too_large P Q TooLarge f h = f h
 module _ {C P : Type 0} (S : SchemaSet P) (takes : C → Event → C
     → Type 0) (n : ℕ) (above : List P) (place : P) (v : Value) (quiet : Bool) where
   pub loop_as : (k : Keyword) (rest : List Keyword) (valid b valid' : Bool) (branch branch' : Option Bool)
-      (count count' succeeded : ℕ) (κ : Kind) (names names' : List Text) (indexes indexes' : List ℕ) (old left : ℕ)
+      (count count' succeeded : ℕ) (κ : KeywordName) (names names' : List Text) (indexes indexes' : List ℕ)
+      (old left : ℕ)
       (keyword instance : Text) (c d : C)
       → valid' ≡ (valid && b) → branch' ≡ condition_step κ succeeded branch
       → count' ≡ matching_step κ succeeded count → κ ≡ kind_at k
-      → KeywordsLoop S n above place v quiet takes rest (valid && b) (condition_step (kind k.0) succeeded branch)
-      (matching_step (kind k.0) succeeded count) names names' indexes indexes' old left keyword instance c d
+      → KeywordsLoop S n above place v quiet takes rest (valid && b) (condition_step (keyword_name k.0) succeeded
+      branch)
+      (matching_step (keyword_name k.0) succeeded count) names names' indexes indexes' old left keyword instance c d
       → KeywordsLoop S n above place v quiet takes rest valid' branch' count' names names' indexes indexes' old
       left keyword instance c d
   unfolding kind_at
   loop_as k rest valid b valid' branch branch' count count' succeeded κ names names' indexes indexes' old left keyword
       instance c d e f g h loop =
-      let f' : branch' ≡ condition_step (kind k.0) succeeded branch = f
+      let f' : branch' ≡ condition_step (keyword_name k.0) succeeded branch = f
       ∙ ap (λ q. condition_step q succeeded branch) h in
-      let g' : count' ≡ matching_step (kind k.0) succeeded count = g ∙ ap (λ q. matching_step q succeeded count) h in
+      let g' : count' ≡ matching_step (keyword_name k.0) succeeded count = g
+      ∙ ap (λ q. matching_step q succeeded count) h in
       subst (λ x. KeywordsLoop S n above place v quiet takes rest x branch' count' names names' indexes indexes' old
       left keyword instance c d) (sym e)
       (subst (λ x. KeywordsLoop S n above place v quiet takes rest (valid && b) x count' names names' indexes indexes'
       old left keyword instance c d) (sym f')
       (subst (λ x. KeywordsLoop S n above place v quiet takes rest (valid && b)
-      (condition_step (kind k.0) succeeded branch)
+      (condition_step (keyword_name k.0) succeeded branch)
       x names names' indexes indexes' old left keyword instance c d) (sym g') loop))
 
 module _ {M H K C P : Type 0} (S : SchemaSet P) (text_of : M → Text) (takes : C → Event → C → Type 0) (n : ℕ) where
   -- ---- applications
 
-  module _ (path : List P) (κ : Kind) (all rest : List (Application P)) (a : Application P) (names : List Text)
+  module _ (path : List P) (κ : KeywordName) (all rest : List (Application P)) (a : Application P) (names : List Text)
       (indexes : List ℕ) (old : ℕ) (keyword instance : Text) where
     pub each_step : (len : K → ℕ) (tally : Tally) (w w₁ w₂ w₃ : WalkState M H K) (mark : Mark K) (p : P)
         (path' : List P) (v : Value) (holds : Bool) (c d e : C)
@@ -158,7 +161,7 @@ module _ {M H K C P : Type 0} (S : SchemaSet P) (text_of : M → Text) (takes : 
 
   module _ (path : List P) (place : P) (v : Value) (k : Keyword) (matching : ℕ) (apps : List (Application P)) where
     pub keyword_step : (len : K → ℕ) (w w₁ w₂ w₃ : WalkState M H K) (here : Mark K) (tally : Tally) (passes : Bool)
-        (path' : List P) (κ : Kind) (apps' : List (Application P)) (c c' d' d : C)
+        (path' : List P) (κ : KeywordName) (apps' : List (Application P)) (c c' d' d : C)
         → MarkOf len w here → KeywordOpened S text_of takes place k w w₁ c c' → path' ≡ path
         → κ ≡ kind_at k → apps' ≡ apps
         → EachDone S text_of takes n path' κ apps' tally w₁ w₂ c' d'
@@ -207,7 +210,7 @@ module _ {M H K C P : Type 0} (S : SchemaSet P) (text_of : M → Text) (takes : 
         }
 
   -- a keyword that asks for nothing
-  nothing_done : (path : List P) (κ : Kind) (w : WalkState M H K) (c : C)
+  nothing_done : (path : List P) (κ : KeywordName) (w : WalkState M H K) (c : C)
       → EachDone S text_of takes n path κ [] (record { asked = 0; succeeded = 0 }) w w c c
   nothing_done path κ w c = record {
     walked = record {
@@ -322,8 +325,9 @@ module _ {M H K C P : Type 0} (S : SchemaSet P) (text_of : M → Text) (takes : 
         (map text_of w₁.names.items) w.indexes.items w₁.indexes.items w.left w₁.left w.keyword w.instance c d
         → KeywordDone S text_of takes n path' place v k count (asked_by S n path' place v k branch
         (map text_of (drop start.names w₁.names.items)) (drop start.indexes w₁.indexes.items)) j w₁ w₂ d e
-        → KeywordsLoop S n above place v quiet takes rest (valid && j.passes) (condition_step (kind k.0) j.succeeded
-        branch) (matching_step (kind k.0) j.succeeded count) (map text_of w.names.items) (map text_of w₂.names.items)
+        → KeywordsLoop S n above place v quiet takes rest (valid && j.passes) (condition_step (keyword_name k.0)
+        j.succeeded branch) (matching_step (keyword_name k.0) j.succeeded count) (map text_of w.names.items)
+        (map text_of w₂.names.items)
         w.indexes.items w₂.indexes.items w.left w₂.left w.keyword w.instance c e
     node_more later ascending k rest valid branch count w w₁ w₂ start j path' c d e m ep ek ei loop done =
         let next = at_next S n above place v quiet takes valid branch count (map text_of w.names.items) (map text_of

@@ -11,12 +11,12 @@ use Rattle.js_assert.specs.Argument.{entries}
 use Rattle.js_tree.specs.Events.{Event, Passes}
 use Rattle.js_eval.specs.Applications.{asks_of}
 use Rattle.js_eval.specs.Keywords.{Keyword}
-use Rattle.js_eval.specs.Kind.{kind}
+use Rattle.js_bundle.specs.KeywordName.{keyword_name}
 use Rattle.js_eval.specs.SchemaSet.{Text, SchemaSet}
 use Rattle.js_eval.specs.Size.{nodes_of_keyword}
 use Rattle.js_eval.specs.Verdict.{Known, asks, gives_names, gives_indexes, passes_by}
-use Rattle.js_eval.specs.declared.kinds.kind.Kind.{Kind}
-use Rattle.js_eval.specs.declared.kinds.kind.Kind.TheVariants.{Assertion, Annotation}
+use Rattle.js_bundle.specs.declared.keyword_name.KeywordName.{KeywordName}
+use Rattle.js_bundle.specs.declared.keyword_name.KeywordName.TheVariants.{Assertion, Other}
 use Rattle.js_eval.specs.Evaluated.{names_origin, indexes_origin}
 use Rattle.js_eval.specs.Walk.Keeping.{condition_step, matching_step}
 use Rattle.js_eval.specs.declared.evaluation.keeping.Origin.TheVariants.{Nowhere}
@@ -24,7 +24,7 @@ use Rattle.js_eval.specs.Walk.Progress.{passes_at}
 use Rattle.js_eval.specs.Walk.Visited.{may_apply, is_visited}
 use Rattle.js_eval.proofs.Recursion.Sources.{no_names_given, no_indexes_given}
 
-pub unvisited : (quiet : Bool) (k : Keyword) → is_visited quiet k ≡ false → may_apply (kind k.0) ≡ false
+pub unvisited : (quiet : Bool) (k : Keyword) → is_visited quiet k ≡ false → may_apply (keyword_name k.0) ≡ false
 unfolding is_visited
 unvisited true k h = h
 unvisited false k h = cc
@@ -33,57 +33,59 @@ pub all_visited : (k : Keyword) → is_visited false k ≡ true
 unfolding is_visited
 all_visited k = refl
 
--- ---- by the kind
+-- ---- by the keyword
 
-condition_same : (κ : Kind) (succeeded : ℕ) (before : Option Bool) → may_apply κ ≡ false
+condition_same : (κ : KeywordName) (succeeded : ℕ) (before : Option Bool) → may_apply κ ≡ false
     → condition_step κ succeeded before ≡ before
 condition_same Assertion succeeded before h = refl
-condition_same Annotation succeeded before h = refl
+condition_same (Other _) succeeded before h = refl
 condition_same _ succeeded before h = cc
 
-matching_same : (κ : Kind) (succeeded before : ℕ) → may_apply κ ≡ false → matching_step κ succeeded before ≡ before
+matching_same : (κ : KeywordName) (succeeded before : ℕ) → may_apply κ ≡ false
+    → matching_step κ succeeded before ≡ before
 matching_same Assertion succeeded before h = refl
-matching_same Annotation succeeded before h = refl
+matching_same (Other _) succeeded before h = refl
 matching_same _ succeeded before h = cc
 
-names_nowhere : (κ : Kind) → may_apply κ ≡ false → names_origin κ ≡ Nowhere
+names_nowhere : (κ : KeywordName) → may_apply κ ≡ false → names_origin κ ≡ Nowhere
 names_nowhere Assertion h = refl
-names_nowhere Annotation h = refl
+names_nowhere (Other _) h = refl
 names_nowhere _ h = cc
 
-indexes_nowhere : (κ : Kind) → may_apply κ ≡ false → indexes_origin κ ≡ Nowhere
+indexes_nowhere : (κ : KeywordName) → may_apply κ ≡ false → indexes_origin κ ≡ Nowhere
 indexes_nowhere Assertion h = refl
-indexes_nowhere Annotation h = refl
+indexes_nowhere (Other _) h = refl
 indexes_nowhere _ h = cc
 
 none_asked : {P : Type 0} (S : SchemaSet P) (path : List P) (place : P) (siblings : Named) (v : Value) (c : Option Bool)
-    (ns : List Text) (is : List ℕ) (k : Keyword) (κ : Kind) → may_apply κ ≡ false
+    (ns : List Text) (is : List ℕ) (k : Keyword) (κ : KeywordName) → may_apply κ ≡ false
     → asks_of S path place siblings v c ns is k κ ≡ []
 none_asked S path place siblings v c ns is k Assertion h = refl
-none_asked S path place siblings v c ns is k Annotation h = refl
+none_asked S path place siblings v c ns is k (Other _) h = refl
 none_asked S path place siblings v c ns is k _ h = cc
 
 -- ---- a keyword that isn't visited
 
 module _ (quiet : Bool) (k : Keyword) (h : is_visited quiet k ≡ false) where
-  pub condition_kept : (succeeded : ℕ) (before : Option Bool) → condition_step (kind k.0) succeeded before ≡ before
-  condition_kept succeeded before = condition_same (kind k.0) succeeded before (unvisited quiet k h)
+  pub condition_kept : (succeeded : ℕ) (before : Option Bool) → condition_step (keyword_name k.0) succeeded before
+      ≡ before
+  condition_kept succeeded before = condition_same (keyword_name k.0) succeeded before (unvisited quiet k h)
 
-  pub matching_kept : (succeeded before : ℕ) → matching_step (kind k.0) succeeded before ≡ before
-  matching_kept succeeded before = matching_same (kind k.0) succeeded before (unvisited quiet k h)
+  pub matching_kept : (succeeded before : ℕ) → matching_step (keyword_name k.0) succeeded before ≡ before
+  matching_kept succeeded before = matching_same (keyword_name k.0) succeeded before (unvisited quiet k h)
 
   module _ {P : Type 0} (S : SchemaSet P) (known : Known P) (above : List P) (place : P) (v : Value) where
     pub asks_none : asks S known above place v k ≡ []
     asks_none = none_asked S (above ++ place ∷ []) place (entries (S.schema place)) v _ _ _ k
-        (kind k.0) (unvisited quiet k h)
+        (keyword_name k.0) (unvisited quiet k h)
 
     pub gives_no_names : gives_names S known above place v k ≡ []
     gives_no_names =
-        no_names_given S known above place v k (names_nowhere (kind k.0) (unvisited quiet k h))
+        no_names_given S known above place v k (names_nowhere (keyword_name k.0) (unvisited quiet k h))
 
     pub gives_no_indexes : gives_indexes S known above place v k ≡ []
     gives_no_indexes =
-        no_indexes_given S known above place v k (indexes_nowhere (kind k.0) (unvisited quiet k h))
+        no_indexes_given S known above place v k (indexes_nowhere (keyword_name k.0) (unvisited quiet k h))
 
 -- ---- lists of keywords
 

@@ -10,7 +10,7 @@ use Rattle.js_tree.specs.Forest.{Forest, empty, tree}
 use Rattle.js_eval.specs.Applications.{Application, asks_of}
 use Rattle.js_eval.specs.Evaluated.{names_of, indexes_of}
 use Rattle.js_eval.specs.Keywords.{Keyword, keywords}
-use Rattle.js_eval.specs.Kind.{kind}
+use Rattle.js_bundle.specs.KeywordName.{keyword_name}
 use Rattle.js_eval.specs.Location.{Location, at_keyword_named, step_tokens}
 use Rattle.js_eval.specs.Note.{Note, keyword_note, schema_note}
 use Rattle.js_eval.specs.Passes.{passes_of}
@@ -18,7 +18,7 @@ use Rattle.js_eval.specs.Result.{OutputUnit, ResultTree, IsNode, AreSchemaNodes}
 use Rattle.js_eval.specs.SchemaSet.{Text, SchemaSet, Step}
 use Rattle.js_eval.specs.Size.{node_total}
 use Rattle.js_eval.specs.Verdict.{within, accepts}
-use Rattle.js_eval.specs.declared.kinds.kind.Kind.{Kind}
+use Rattle.js_bundle.specs.declared.keyword_name.KeywordName.{KeywordName}
 use Rattle.js_eval.specs.Walk.Said.{keyword_says}
 use Rattle.js_tree.specs.Events.{Event, Passes, closing, events, events_of, opening}
 use Rattle.js_eval.specs.declared.evaluation.walk_state.WalkState.{WalkState}
@@ -44,14 +44,14 @@ module _ {Place : Type 0} (S : SchemaSet Place) (place : Place) where
   schema_says = schema_note (S.schema place)
 
   unfoldable pub passes_at : Value → ℕ → Keyword → List Bool → Bool
-  passes_at v matching k verdicts = passes_of (entries (S.schema place)) v matching k verdicts (kind k.0)
+  passes_at v matching k verdicts = passes_of (entries (S.schema place)) v matching k verdicts (keyword_name k.0)
 
   unfoldable pub says_at : Value → ℕ → Keyword → ℕ → List Text → List ℕ → Bool → Note
   says_at v matching k succeeded names indexes b =
-      keyword_says (entries (S.schema place)) v matching k succeeded names indexes b (kind k.0)
+      keyword_says (entries (S.schema place)) v matching k succeeded names indexes b (keyword_name k.0)
 
-unfoldable pub kind_at : Keyword → Kind
-kind_at k = kind k.0
+unfoldable pub kind_at : Keyword → KeywordName
+kind_at k = keyword_name k.0
 
 -- the trail at a keyword, and at a step
 unfoldable pub at_name : Text → Keyword → Text
@@ -81,17 +81,18 @@ module _ {Place : Type 0} (S : SchemaSet Place) (n : ℕ) where
     nodes_at a = node_total S n path a.place a.value
 
     -- the members and the items that a keyword of this kind with these applications has evaluated if it passes
-    unfoldable pub names_given : Kind → List (Application Place) → List Text
+    unfoldable pub names_given : KeywordName → List (Application Place) → List Text
     names_given κ apps = names_of apps (filter holds_at apps)
         (flat_map (λ a. (within S n).names path a.place a.value) (filter holds_at apps)) κ
 
-    unfoldable pub indexes_given : Kind → List (Application Place) → List ℕ
+    unfoldable pub indexes_given : KeywordName → List (Application Place) → List ℕ
     indexes_given κ apps = indexes_of apps (filter holds_at apps)
         (flat_map (λ a. (within S n).indexes path a.place a.value) (filter holds_at apps)) κ
 
     -- they are evaluated: names and indexes grow by what they have evaluated, and their nodes are subtracted from those
     -- left
-    pub record EachWalked (κ : Kind) (apps : List (Application Place)) (asked succeeded : ℕ) (names names' : List Text)
+    pub record EachWalked (κ : KeywordName) (apps : List (Application Place)) (asked succeeded : ℕ)
+        (names names' : List Text)
         (indexes indexes' : List ℕ) (old left : ℕ) : Type 0 where
       pub settled : list_all settled_at apps ≡ true
       pub many : asked ≡ length apps
@@ -114,7 +115,7 @@ module _ {Place : Type 0} (S : SchemaSet Place) (n : ℕ) where
     module _ (place : Place) (v : Value) (k : Keyword) where
       unfoldable pub asked_by : Option Bool → List Text → List ℕ → List (Application Place)
       asked_by condition names indexes =
-          asks_of S path place (entries (S.schema place)) v condition names indexes k (kind k.0)
+          asks_of S path place (entries (S.schema place)) v condition names indexes k (keyword_name k.0)
 
       unfoldable pub passes_by : ℕ → List (Application Place) → Bool
       passes_by matching apps = passes_at S place v matching k (map holds_at apps)
@@ -126,7 +127,7 @@ module _ {Place : Type 0} (S : SchemaSet Place) (n : ℕ) where
         absolute = S.absolute place (Some k.0);
         instance = pointer_text at.instance;
         note = keyword_note (entries (S.schema place)) v matching k apps (filter holds_at apps)
-            (passes_by matching apps) (kind k.0);
+            (passes_by matching apps) (keyword_name k.0);
       }
 
       pub record KeywordWalked (matching : ℕ) (apps : List (Application Place)) (valid : Bool) (succeeded : ℕ)
@@ -134,8 +135,8 @@ module _ {Place : Type 0} (S : SchemaSet Place) (n : ℕ) where
         pub settled : list_all settled_at apps ≡ true
         pub verdict : valid ≡ passes_by matching apps
         pub holding : succeeded ≡ length (filter holds_at apps)
-        pub of_names : names' ≡ names ++ cond (passes_by matching apps) (names_given (kind k.0) apps) []
-        pub of_indexes : indexes' ≡ indexes ++ cond (passes_by matching apps) (indexes_given (kind k.0) apps) []
+        pub of_names : names' ≡ names ++ cond (passes_by matching apps) (names_given (keyword_name k.0) apps) []
+        pub of_indexes : indexes' ≡ indexes ++ cond (passes_by matching apps) (indexes_given (keyword_name k.0) apps) []
         pub spent : (left + sum_by nodes_at apps) + 1 ≡ old
 
       pub record KeywordReported {C : Type 0} (takes : C → Event → C

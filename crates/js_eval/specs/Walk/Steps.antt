@@ -8,7 +8,7 @@ use Rattle.js_eval.specs.Keywords.{Keyword}
 use Rattle.js_eval.specs.Location.{Location}
 use Rattle.js_eval.specs.Passes.{how_many}
 use Rattle.js_eval.specs.SchemaSet.{Text, SchemaSet}
-use Rattle.js_eval.specs.declared.kinds.kind.Kind.{Kind}
+use Rattle.js_bundle.specs.declared.keyword_name.KeywordName.{KeywordName}
 use Rattle.js_tree.specs.Events.{Event, opening, closing}
 use Rattle.js_eval.specs.Walk.Keeping.{keeps}
 use Rattle.js_eval.specs.Walk.Progress.{IsAt, IsStateRestored, NodeWalked, NodeReported, KeywordWalked, KeywordReported}
@@ -43,7 +43,7 @@ pub record WentDown {M H K P : Type 0} (a : Application P) (w w' : WalkState M H
   pub left : w'.left ≡ w.left
 
 pub record CameBack {M H K P : Type 0} (text_of : M → Text) (len : K
-    → ℕ) (κ : Kind) (a : Application P) (here : Mark K) (holds : Bool) (w w' : WalkState M H K) : Type 0 where
+    → ℕ) (κ : KeywordName) (a : Application P) (here : Mark K) (holds : Bool) (w w' : WalkState M H K) : Type 0 where
   pub path : w'.path ≡ w.path
   pub scope : w'.scope ≡ w.scope
   pub keyword : w'.keyword ≡ take (len here.keyword) w.keyword
@@ -123,7 +123,7 @@ module _ {M H K C P : Type 0} (S : SchemaSet P) (text_of : M → Text) (takes : 
     pub back : IsStateRestored w w'
     pub falls : w'.left < w.left
 
-  pub record EachDone (n : ℕ) (path : List P) (κ : Kind) (apps : List (Application P)) (t : Tally)
+  pub record EachDone (n : ℕ) (path : List P) (κ : KeywordName) (apps : List (Application P)) (t : Tally)
       (w w' : WalkState M H K) (c d : C) : Type 0 where
     pub walked : EachWalked S n path κ apps t.asked t.succeeded (map text_of w.names.items) (map text_of w'.names.items)
         w.indexes.items w'.indexes.items w.left w'.left

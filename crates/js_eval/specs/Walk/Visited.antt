@@ -4,22 +4,22 @@ use Rattle.std.specs.Prelude.{◌≡◌, ℕ, Bool, true, false, not, ◌||◌, 
 use Rattle.std.specs.List.{list_all}
 use Rattle.js_doc.specs.Value.{Value}
 use Rattle.js_eval.specs.Keywords.{Keyword, keywords}
-use Rattle.js_eval.specs.Kind.{kind}
+use Rattle.js_bundle.specs.KeywordName.{keyword_name}
 use Rattle.js_eval.specs.SchemaSet.{SchemaSet}
-use Rattle.js_eval.specs.declared.kinds.kind.Kind.{Kind}
-use Rattle.js_eval.specs.declared.kinds.kind.Kind.TheVariants.{Assertion, Annotation}
+use Rattle.js_bundle.specs.declared.keyword_name.KeywordName.{KeywordName}
+use Rattle.js_bundle.specs.declared.keyword_name.KeywordName.TheVariants.{Assertion, Other}
 use Rattle.js_eval.specs.declared.evaluation.tally.Others.{Others}
 use Rattle.js_eval.specs.declared.evaluation.tally.Together.{Together}
 use Rattle.js_eval.specs.Walk.Progress.{keywords_at, passes_at}
 
 -- a keyword of this kind may apply schemas
-abbrev pub may_apply : Kind → Bool
+abbrev pub may_apply : KeywordName → Bool
 may_apply Assertion = false
-may_apply Annotation = false
+may_apply (Other _) = false
 may_apply _ = true
 
 unfoldable pub is_visited : Bool → Keyword → Bool
-is_visited quiet k = not quiet || may_apply (kind k.0)
+is_visited quiet k = not quiet || may_apply (keyword_name k.0)
 
 module _ {Place : Type 0} (S : SchemaSet Place) (place : Place) where
   -- the keywords of a place that a quiet walk doesn't visit

@@ -5,14 +5,9 @@ use Rattle.std.specs.List.{list_any}
 use Rattle.js_doc.specs.Value.{Named}
 use Rattle.js_bundle.specs.declared.keyword_name.KeywordName.{KeywordName}
 use Rattle.js_eval.specs.Walk.Visited.{may_apply, is_visited}
-use Rattle.js_eval.specs.code.Standard.{kind_by}
-
--- the keyword applies schemas (Core, sections 8.2.3, 10 and 11)
-abbrev pub applies : KeywordName → Bool
-applies which = may_apply (kind_by which)
 
 abbrev pub has_applicator : List KeywordName → Bool
-has_applicator names = list_any applies names
+has_applicator names = list_any may_apply names
 
 -- the members from the rank on that apply schemas
 abbrev pub applicators_from : Named → ℕ → Named

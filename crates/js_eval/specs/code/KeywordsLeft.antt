@@ -6,12 +6,12 @@ use Rattle.js_eval.specs.Keywords as table
 use Rattle.js_eval.specs.Seen.{keyword_of}
 use Rattle.js_eval.specs.code.Applicator.{applicators_from}
 use Rattle.js_eval.specs.code.Turns.{ever, first_turn, second_turn, last_turn}
-use Rattle.js_eval.specs.declared.kinds.in_turn.InTurn.{InTurn}
-use Rattle.js_eval.specs.declared.kinds.in_turn.InTurn.TheVariants.{Every, Applying}
-use Rattle.js_eval.specs.declared.kinds.keyword.Keyword.{Keyword}
-use Rattle.js_eval.specs.declared.kinds.keyword_cursor.KeywordCursor.{KeywordCursor}
-use Rattle.js_eval.specs.declared.kinds.keyword_cursor.Keywords.{Keywords}
-use Rattle.js_eval.specs.declared.kinds.keyword_cursor.Keywords.TheVariants.{Nothing, Of}
+use Rattle.js_eval.specs.declared.order.in_turn.InTurn.{InTurn}
+use Rattle.js_eval.specs.declared.order.in_turn.InTurn.TheVariants.{Every, Applying}
+use Rattle.js_eval.specs.declared.order.keyword.Keyword.{Keyword}
+use Rattle.js_eval.specs.declared.order.keyword_cursor.KeywordCursor.{KeywordCursor}
+use Rattle.js_eval.specs.declared.order.keyword_cursor.Keywords.{Keywords}
+use Rattle.js_eval.specs.declared.order.keyword_cursor.Keywords.TheVariants.{Nothing, Of}
 
 -- the members that are still to come, of all or of those alone that apply schemas
 abbrev pub members_left : InTurn → Named

@@ -1,6 +1,5 @@
--- The kind of a keyword and its turn, by which keyword of the standard it is, and how its name is written (of private
--- functions).
-use Rattle.std.specs.Prelude.{◌≡◌, ℕ, true, List, ◌∷◌, map}
+-- The turn of a keyword, by which keyword of the standard it is, and how its name is written (of private functions).
+use Rattle.std.specs.Prelude.{◌≡◌, ℕ, true, List, ◌∷◌, map, if◌then◌else◌}
 use Rattle.std.specs.List.{list_all}
 use Rattle.js_doc.specs.Escapes.{stands}
 use Rattle.js_doc.specs.Fragment.{fragment_token}
@@ -9,49 +8,38 @@ use Rattle.js_doc.specs.Value.{Named}
 use Rattle.js_bundle.specs.KeywordName.{keyword_name}
 use Rattle.js_bundle.specs.declared.keyword_name.KeywordName.{KeywordName}
 use Rattle.js_bundle.specs.declared.keyword_name.KeywordName.TheVariants as name
-use Rattle.js_eval.specs.declared.kinds.kind.Kind.{Kind}
-use Rattle.js_eval.specs.declared.kinds.kind.Kind.TheVariants as kind
-use Rattle.js_eval.specs.declared.kinds.turn.Turn.{Turn}
-use Rattle.js_eval.specs.declared.kinds.turn.Turn.TheVariants as turn
+use Rattle.js_bundle.specs.declared.keyword_name.OtherName.TheVariants.{Unknown}
+use Rattle.js_eval.specs.Keywords.{is_after_if}
+use Rattle.js_eval.specs.declared.order.turn.Turn.{Turn}
+use Rattle.js_eval.specs.declared.order.turn.Turn.TheVariants as turn
 
-abbrev pub kind_and_turn_by : KeywordName → Kind × Turn
-kind_and_turn_by name.Ref = (kind.Reference, turn.First)
-kind_and_turn_by name.DynamicRef = (kind.DynamicReference, turn.First)
-kind_and_turn_by name.AllOf = (kind.AllOf, turn.First)
-kind_and_turn_by name.AnyOf = (kind.AnyOf, turn.First)
-kind_and_turn_by name.OneOf = (kind.OneOf, turn.Last)
-kind_and_turn_by name.Not = (kind.Not, turn.Last)
-kind_and_turn_by name.If = (kind.If, turn.First)
-kind_and_turn_by name.Then = (kind.Then, turn.Last)
-kind_and_turn_by name.Else = (kind.Else, turn.Second)
-kind_and_turn_by name.DependentSchemas = (kind.DependentSchemas, turn.First)
-kind_and_turn_by name.PrefixItems = (kind.PrefixItems, turn.Last)
-kind_and_turn_by name.Items = (kind.Items, turn.Last)
-kind_and_turn_by name.Contains = (kind.Contains, turn.First)
-kind_and_turn_by name.Properties = (kind.Properties, turn.Last)
-kind_and_turn_by name.PatternProperties = (kind.PatternProperties, turn.Last)
-kind_and_turn_by name.AdditionalProperties = (kind.AdditionalProperties, turn.First)
-kind_and_turn_by name.PropertyNames = (kind.PropertyNames, turn.Last)
-kind_and_turn_by name.UnevaluatedItems = (kind.UnevaluatedItems, turn.Last)
-kind_and_turn_by name.UnevaluatedProperties = (kind.UnevaluatedProperties, turn.Last)
-kind_and_turn_by name.AssertionUpToIf = (kind.Assertion, turn.First)
-kind_and_turn_by name.AssertionBehindIf = (kind.Assertion, turn.Last)
-kind_and_turn_by name.Schema = (kind.Annotation, turn.Never)
-kind_and_turn_by name.Id = (kind.Annotation, turn.Never)
-kind_and_turn_by name.Anchor = (kind.Annotation, turn.Never)
-kind_and_turn_by name.DynamicAnchor = (kind.Annotation, turn.Never)
-kind_and_turn_by name.Vocabulary = (kind.Annotation, turn.Never)
-kind_and_turn_by name.Comment = (kind.Annotation, turn.Never)
-kind_and_turn_by name.Defs = (kind.Annotation, turn.Never)
-kind_and_turn_by name.Definitions = (kind.Annotation, turn.Never)
-kind_and_turn_by name.OtherUpToIf = (kind.Annotation, turn.First)
-kind_and_turn_by name.OtherBehindIf = (kind.Annotation, turn.Last)
+-- by the side of `if` on which a name stands
+abbrev pub turn_by_side : List ℕ → Turn
+turn_by_side name = if is_after_if name then turn.Last else turn.First
 
-abbrev pub kind_by : KeywordName → Kind
-kind_by which = (kind_and_turn_by which).0
-
-abbrev pub turn_by_name : KeywordName → Turn
-turn_by_name which = (kind_and_turn_by which).1
+abbrev pub turn_by_keyword : KeywordName → List ℕ → Turn
+turn_by_keyword name.Ref text = turn.First
+turn_by_keyword name.DynamicRef text = turn.First
+turn_by_keyword name.AllOf text = turn.First
+turn_by_keyword name.AnyOf text = turn.First
+turn_by_keyword name.OneOf text = turn.Last
+turn_by_keyword name.Not text = turn.Last
+turn_by_keyword name.If text = turn.First
+turn_by_keyword name.Then text = turn.Last
+turn_by_keyword name.Else text = turn.Second
+turn_by_keyword name.DependentSchemas text = turn.First
+turn_by_keyword name.PrefixItems text = turn.Last
+turn_by_keyword name.Items text = turn.Last
+turn_by_keyword name.Contains text = turn.First
+turn_by_keyword name.Properties text = turn.Last
+turn_by_keyword name.PatternProperties text = turn.Last
+turn_by_keyword name.AdditionalProperties text = turn.First
+turn_by_keyword name.PropertyNames text = turn.Last
+turn_by_keyword name.UnevaluatedItems text = turn.Last
+turn_by_keyword name.UnevaluatedProperties text = turn.Last
+turn_by_keyword name.Assertion text = turn_by_side text
+turn_by_keyword (name.Other Unknown) text = turn_by_side text
+turn_by_keyword (name.Other _) text = turn.Never
 
 -- of each of a schema's keywords, which keyword of the standard it is
 abbrev pub keyword_names_of : Named → List KeywordName

@@ -3,16 +3,16 @@ use Rattle.std.specs.Prelude.{◌≡◌, ℕ, Bool, true, false, List, Option, m
 use Rattle.js_doc.specs.Seen.{value_of}
 use Rattle.js_doc.specs.Value.{Named, Value}
 use Rattle.js_bundle.specs.Document.{Documents}
-use Rattle.js_bundle.specs.Ranked.{is_alone}
+use Rattle.js_bundle.specs.Ranked.{applies_at, is_alone}
 use Rattle.js_bundle.specs.Resource.{Site}
 use Rattle.js_eval.specs.Applications.{Application, application, if_fails, if_holds}
 use Rattle.js_eval.specs.Bundle.{schemas_of}
 use Rattle.js_eval.specs.SchemaSet.{Alone, Index, Name, Step}
 use Rattle.js_eval.specs.Seen.{keyword_of}
 use Rattle.js_eval.specs.Sited.{numbered_site}
-use Rattle.js_eval.specs.code.Holding.{IsIn, held_at}
+use Rattle.js_eval.specs.code.Holding.{IsIn}
 use Rattle.js_eval.specs.code.Standing.{IsSchemaAt}
-use Rattle.js_eval.specs.declared.kinds.keyword.KeywordAt.{KeywordAt}
+use Rattle.js_eval.specs.declared.order.keyword.KeywordAt.{KeywordAt}
 
 -- the place has the schema
 abbrev pub IsAtPlace : Documents → KeywordAt → Type 0
@@ -20,7 +20,7 @@ IsAtPlace documents k = IsSchemaAt documents k.place (value_of k.schema.now)
 
 -- the schema has the keyword, and these are the steps to the schemas that it holds
 abbrev pub HoldsBy : (Step → Bool) → KeywordAt → Type 0
-HoldsBy steps k = (held_at k.keyword.kind ≡ steps) × IsIn (value_of k.schema.now) (keyword_of k.keyword)
+HoldsBy steps k = (applies_at k.keyword.which ≡ steps) × IsIn (value_of k.schema.now) (keyword_of k.keyword)
 
 -- the place has the schema, and the schema has the keyword, which holds one schema
 abbrev pub HoldsOne : Documents → KeywordAt → Type 0

@@ -2,8 +2,8 @@
 use Rattle.std.specs.Prelude.{ℕ, List, [], ◌∷◌, ◌++◌, Bool, true, false, filter}
 use Rattle.js_doc.specs.Value.{Named}
 use Rattle.js_eval.specs.Keywords.{Keyword, has_node, is_else, is_after_if, comes_before_else, comes_after_else}
-use Rattle.js_eval.specs.declared.kinds.turn.Turn.{Turn}
-use Rattle.js_eval.specs.declared.kinds.turn.Turn.TheVariants.{Never, First, Second, Last}
+use Rattle.js_eval.specs.declared.order.turn.Turn.{Turn}
+use Rattle.js_eval.specs.declared.order.turn.Turn.TheVariants.{Never, First, Second, Last}
 
 -- by whether it has a node, comes after `if`, is `else`
 abbrev pub turn_by : Bool → Bool → Bool → Turn

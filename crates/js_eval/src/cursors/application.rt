@@ -7,7 +7,7 @@ ghost use Rattle.js_eval.specs.code.Starting.{IsAtPlace, by_keyword};
 ghost use Rattle.js_eval.specs.code.Terms.{IsSchemaAt, instance_of, numbered_site, step_of, value_of};
 
 use crate::instance::{Applied, Instance};
-use crate::kinds::keyword::KeywordAt;
+use crate::order::keyword::KeywordAt;
 use crate::schema_lookup::{below_at_rank, subschema_at};
 use js_bundle::{Place, Schemas, Step};
 use js_doc::Doc;

@@ -5,7 +5,7 @@ ghost use Rattle.js_eval.specs.code.ListLeft.{IsList, list_asked};
 
 use crate::cursors::application::apply_at_rank;
 use crate::instance::{Applied, Instance};
-use crate::kinds::keyword::KeywordAt;
+use crate::order::keyword::KeywordAt;
 use js_bundle::{Schemas, Step};
 use js_doc::Doc;
 

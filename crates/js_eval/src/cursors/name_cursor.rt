@@ -12,7 +12,7 @@ ghost use Rattle.js_eval.specs.code.Terms.{Documents, entries, has, pair_of, val
 
 use crate::cursors::application::apply_at_rank;
 use crate::instance::{Applied, Instance};
-use crate::kinds::keyword::KeywordAt;
+use crate::order::keyword::KeywordAt;
 use js_bundle::{Schemas, Step};
 use js_doc::{Doc, Members, Pairs, name_order};
 use std::cmp::Ordering;

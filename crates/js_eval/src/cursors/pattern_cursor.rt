@@ -11,7 +11,7 @@ ghost use Rattle.js_eval.specs.code.Starting.{IsAtPlace, by_keyword};
 ghost use Rattle.js_eval.specs.code.Terms.{Documents, IsSchemaAt, pair_of, value_of};
 
 use crate::instance::{Applied, Instance};
-use crate::kinds::keyword::KeywordAt;
+use crate::order::keyword::KeywordAt;
 use crate::schema::argument_in;
 use crate::schema_lookup::subschema_at;
 use crate::searching::searchers::{NamedPattern, PatternSearch, pattern_of};

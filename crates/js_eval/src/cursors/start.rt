@@ -3,7 +3,7 @@ ghost use Rattle.std.specs.Prelude.{◌≡◌, [], MatchOption};
 ghost use Rattle.js_eval.specs.code.Terms.{entries, value_of};
 
 use crate::instance::{Instance, object_in};
-use crate::kinds::keyword::KeywordAt;
+use crate::order::keyword::KeywordAt;
 use js_bundle::Schemas;
 use js_doc::Members;
 use std::alloc::Global;

@@ -3,7 +3,7 @@ ghost use Rattle.std.specs.Prelude.{◌≡◌, ◌++◌, OnOk, take, drop, cond,
 ghost use Rattle.js_eval.specs.Evaluated.{origins};
 ghost use Rattle.js_eval.specs.Walk.Keeping.{keeps};
 
-use crate::kinds::kind::Kind;
+use js_bundle::KeywordName;
 use js_doc::Memory;
 
 /// Which members or items a keyword has evaluated.
@@ -68,27 +68,27 @@ pub(crate) fn cut_unless<M: Copy>(list: &mut Vec<M>, from: usize, stays: bool)
 }
 
 /// Which members, and which items, a keyword of this kind has evaluated.
-pub(crate) fn origins_of(kind: Kind) -> (Origin, Origin)
+pub(crate) fn origins_of(kind: KeywordName) -> (Origin, Origin)
     ensures { result ≡ origins kind }
 {
     match kind {
-        Kind::Properties
-        | Kind::PatternProperties
-        | Kind::AdditionalProperties
-        | Kind::UnevaluatedProperties => (Origin::Applied, Origin::Nowhere),
-        Kind::PrefixItems | Kind::Items | Kind::UnevaluatedItems => {
+        KeywordName::Properties
+        | KeywordName::PatternProperties
+        | KeywordName::AdditionalProperties
+        | KeywordName::UnevaluatedProperties => (Origin::Applied, Origin::Nowhere),
+        KeywordName::PrefixItems | KeywordName::Items | KeywordName::UnevaluatedItems => {
             (Origin::Nowhere, Origin::Applied)
         }
-        Kind::Contains => (Origin::Nowhere, Origin::Holding),
-        Kind::Reference
-        | Kind::DynamicReference
-        | Kind::AllOf
-        | Kind::AnyOf
-        | Kind::OneOf
-        | Kind::If
-        | Kind::Then
-        | Kind::Else
-        | Kind::DependentSchemas => (Origin::Below, Origin::Below),
+        KeywordName::Contains => (Origin::Nowhere, Origin::Holding),
+        KeywordName::Ref
+        | KeywordName::DynamicRef
+        | KeywordName::AllOf
+        | KeywordName::AnyOf
+        | KeywordName::OneOf
+        | KeywordName::If
+        | KeywordName::Then
+        | KeywordName::Else
+        | KeywordName::DependentSchemas => (Origin::Below, Origin::Below),
         _ => (Origin::Nowhere, Origin::Nowhere),
     }
 }

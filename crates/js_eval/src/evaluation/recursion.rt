@@ -20,8 +20,7 @@ use crate::evaluation::steps::{
 use crate::evaluation::tally::{Case, KeywordProgress, KeywordVerdict, Known, Tally, Together};
 use crate::evaluation::walk_state::{Start, WalkState};
 use crate::evaluation::world::World;
-use crate::kinds::kind::Kind;
-use js_bundle::Place;
+use js_bundle::{KeywordName, Place};
 use std::alloc::Global;
 
 /// Evaluates a value against the schema at a place, and reports the schema's node and the nodes below it. Returns the
@@ -235,7 +234,7 @@ pub(crate) fn applications<W: World, H: PointerText + Drop, R: Reporter<W, H>>(
     state: &mut WalkState<W::Name, H>,
     into: &mut R,
     depth: usize,
-    kind: Kind,
+    kind: KeywordName,
     asking: &mut W::Asking,
 ) -> Result<Tally, WalkFault>
     requires path { list_all (W.is_place world.now) state.old.path ≡ true }

@@ -12,7 +12,7 @@ ghost use Rattle.js_eval.specs.Walk.Reported.{DropsSilent};
 ghost use Rattle.js_eval.specs.Walk.Progress.{IsKeywordAt, asked_by, kind_at, says_at};
 ghost use Rattle.js_tree.specs.Note.{silent};
 ghost use Rattle.js_eval.specs.Walk.Visited.{AreJudged, AreJudgedIf, AreTogether, IsListed};
-ghost use Rattle.js_eval.specs.declared.kinds.kind.Kind.TheVariants.{Assertion};
+ghost use Rattle.js_bundle.specs.declared.keyword_name.KeywordName.TheVariants.{Assertion};
 
 use crate::evaluation::keeping::{cut_unless, keep, origins_of};
 use crate::evaluation::path::ScopedPath;
@@ -21,8 +21,7 @@ use crate::evaluation::reporter::Reporter;
 use crate::evaluation::tally::{Case, KeywordProgress, KeywordVerdict, Others, Tally, Together};
 use crate::evaluation::walk_state::{Mark, Start, WalkState};
 use crate::evaluation::world::World;
-use crate::kinds::kind::Kind;
-use js_bundle::Place;
+use js_bundle::{KeywordName, Place};
 use js_doc::Memory;
 use std::alloc::Global;
 
@@ -322,7 +321,7 @@ fn may_drop<W: World, H: PointerText + Drop, R: Reporter<W, H>>(
         true ≡ silent }
     ensures drops { result ≡ true → DropsSilent R.takes into.now }
 {
-    matches!(world.kind(keyword), Kind::Assertion) && into.drops_silent()
+    matches!(world.kind(keyword), KeywordName::Assertion) && into.drops_silent()
 }
 
 // Whether all keywords of the place pass that apply no schemas. They are judged if they aren't yet, for
@@ -397,7 +396,7 @@ pub(crate) fn come_back<W: World, H: PointerText + Drop>(
     world: &W,
     state: &mut WalkState<W::Name, H>,
     application: W::Application,
-    kind: Kind,
+    kind: KeywordName,
     here: Mark<H::Mark>,
     holds: bool,
 ) -> Result<(), Memory>

@@ -2,8 +2,7 @@
 ghost use Rattle.std.specs.Prelude.{◌≡◌, ◌&&◌, ◌≤◌, ◌<◌, ◌+◌, cond, false};
 ghost use Rattle.js_eval.specs.Walk.Keeping.{condition_step, matching_step};
 
-use crate::kinds::kind::Kind;
-use js_bundle::Place;
+use js_bundle::{KeywordName, Place};
 
 /// What is evaluated: a keyword of the schema at a place, on a value.
 #[derive(Clone, Copy)]
@@ -90,7 +89,7 @@ impl Together {
 
 impl Known {
     /// What is known with one more keyword.
-    pub(crate) fn with_keyword(self, kind: Kind, passes: bool, succeeded: usize) -> Known
+    pub(crate) fn with_keyword(self, kind: KeywordName, passes: bool, succeeded: usize) -> Known
         ensures valid { result.valid ≡ (self.valid && passes) }
         ensures condition { result.condition ≡ condition_step kind succeeded self.condition }
         ensures matching { result.matching ≡ matching_step kind succeeded self.matching }
@@ -103,20 +102,20 @@ impl Known {
     }
 }
 
-fn condition_after(kind: Kind, succeeded: usize, before: Option<bool>) -> Option<bool>
+fn condition_after(kind: KeywordName, succeeded: usize, before: Option<bool>) -> Option<bool>
     ensures { result ≡ condition_step kind succeeded before }
 {
     match kind {
-        Kind::If => Some(succeeded == 1),
+        KeywordName::If => Some(succeeded == 1),
         _ => before,
     }
 }
 
-fn matching_after(kind: Kind, succeeded: usize, before: u64) -> u64
+fn matching_after(kind: KeywordName, succeeded: usize, before: u64) -> u64
     ensures { result ≡ matching_step kind succeeded before }
 {
     match kind {
-        Kind::Contains => succeeded as u64,
+        KeywordName::Contains => succeeded as u64,
         _ => before,
     }
 }

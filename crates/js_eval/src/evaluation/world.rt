@@ -19,8 +19,7 @@ use crate::evaluation::path::ScopedPath;
 use crate::evaluation::pointer_text::PointerText;
 use crate::evaluation::tally::{Others, Tally};
 use crate::evaluation::trail::Trail;
-use crate::kinds::kind::Kind;
-use js_bundle::Place;
+use js_bundle::{KeywordName, Place};
 use js_doc::Memory;
 use std::alloc::Global;
 
@@ -122,7 +121,7 @@ pub(crate) trait World {
         ensures { MatchOption result (listed keywords.old ≡ [])
             (λ k. listed keywords.old ≡ keyword_of k ∷ listed keywords.new) };
 
-    fn kind(&self, keyword: Self::Keyword) -> Kind
+    fn kind(&self, keyword: Self::Keyword) -> KeywordName
         ensures { result ≡ kind_at (keyword_of keyword) };
 
     /// Whether a keyword may ask for applications.

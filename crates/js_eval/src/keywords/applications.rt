@@ -16,9 +16,8 @@ use crate::keywords::conditional::held_if;
 use crate::keywords::in_place::held;
 use crate::keywords::references::{referred, referred_dynamically};
 use crate::keywords::{arrays, conditional, contains, in_place, objects, unevaluated};
-use crate::kinds::keyword::KeywordAt;
-use crate::kinds::kind::Kind;
-use js_bundle::Schemas;
+use crate::order::keyword::KeywordAt;
+use js_bundle::{KeywordName, Schemas};
 use js_doc::Memory;
 use std::alloc::Global;
 
@@ -63,7 +62,7 @@ pub(crate) fn asking_of_keyword<'a>(
         ≡ asks_of (schemas_of schemas.now) (map (numbered_site schemas.now) scene.entry.path.now)
         (numbered_site schemas.now at.now.place) (entries (value_of at.now.schema.now))
         (instance_of scene.entry.value) facts.entry.condition (texts_of facts.entry.names.now) facts.entry.indexes.now
-        (keyword_of at.now.keyword) at.now.keyword.kind) }
+        (keyword_of at.now.keyword) at.now.keyword.which) }
     ensures is { IfOk result (λ a. IsAsking schemas.now a) }
 {
     let Scene { path, scope, value } = scene;
@@ -74,29 +73,32 @@ pub(crate) fn asking_of_keyword<'a>(
         at,
         value,
     };
-    match at.keyword.kind {
-        Kind::Reference => Ok(referred(schemas, at.place, at.schema, value)),
-        Kind::DynamicReference => Ok(referred_dynamically(
+    match at.keyword.which {
+        KeywordName::Ref => Ok(referred(schemas, at.place, at.schema, value)),
+        KeywordName::DynamicRef => Ok(referred_dynamically(
             schemas, at.place, at.schema, path, scope, value,
         )),
-        Kind::AllOf => Ok(in_place::each_in_list(&start)),
-        Kind::AnyOf => Ok(in_place::each_in_list(&start)),
-        Kind::OneOf => Ok(in_place::each_in_list(&start)),
-        Kind::Not => Ok(held(&start)),
-        Kind::If => Ok(held(&start)),
-        Kind::Then => Ok(held_if(&start, condition, true)),
-        Kind::Else => Ok(held_if(&start, condition, false)),
-        Kind::DependentSchemas => conditional::dependent(&start),
-        Kind::PrefixItems => Ok(arrays::prefix(&start)),
-        Kind::Items => Ok(arrays::following(&start)),
-        Kind::Contains => Ok(contains::every(&start)),
-        Kind::Properties => objects::properties(&start),
-        Kind::PatternProperties => objects::patterns(&start),
-        Kind::AdditionalProperties => objects::additional(&start),
-        Kind::PropertyNames => objects::property_names(&start),
-        Kind::UnevaluatedItems => unevaluated::unevaluated_items(&start, facts.indexes),
-        Kind::UnevaluatedProperties => unevaluated::unevaluated_properties(&start, facts.names),
-        Kind::Assertion => Ok(Asking::One(None)),
-        Kind::Annotation => Ok(Asking::One(None)),
+        KeywordName::AllOf => Ok(in_place::each_in_list(&start)),
+        KeywordName::AnyOf => Ok(in_place::each_in_list(&start)),
+        KeywordName::OneOf => Ok(in_place::each_in_list(&start)),
+        KeywordName::Not => Ok(held(&start)),
+        KeywordName::If => Ok(held(&start)),
+        KeywordName::Then => Ok(held_if(&start, condition, true)),
+        KeywordName::Else => Ok(held_if(&start, condition, false)),
+        KeywordName::DependentSchemas => conditional::dependent(&start),
+        KeywordName::PrefixItems => Ok(arrays::prefix(&start)),
+        KeywordName::Items => Ok(arrays::following(&start)),
+        KeywordName::Contains => Ok(contains::every(&start)),
+        KeywordName::Properties => objects::properties(&start),
+        KeywordName::PatternProperties => objects::patterns(&start),
+        KeywordName::AdditionalProperties => objects::additional(&start),
+        KeywordName::PropertyNames => objects::property_names(&start),
+        KeywordName::UnevaluatedItems => unevaluated::unevaluated_items(&start, facts.indexes),
+        KeywordName::UnevaluatedProperties => unevaluated::unevaluated_properties(
+            &start,
+            facts.names,
+        ),
+        KeywordName::Assertion => Ok(Asking::One(None)),
+        KeywordName::Other(_) => Ok(Asking::One(None)),
     }
 }

@@ -12,7 +12,7 @@ ghost use Rattle.js_assert.specs.ErrorText as texts;
 ghost use Rattle.js_eval.specs.Note as notes;
 
 use crate::instance::Instance;
-use crate::kinds::keyword::Keyword;
+use crate::order::keyword::Keyword;
 use crate::searching::searchers::{NamedPattern, Searchers};
 use js_assert::{Assertion, Pattern};
 use js_bundle::{Place, Schemas};

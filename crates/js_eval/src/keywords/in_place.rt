@@ -16,7 +16,7 @@ use crate::cursors::list_cursor::ListCursor;
 use crate::cursors::start::CursorStart;
 use crate::evaluation::Tally;
 use crate::instance::array_in;
-use crate::kinds::keyword::KeywordAt;
+use crate::order::keyword::KeywordAt;
 use crate::schema_lookup::held_below;
 use itoa::Buffer;
 use js_doc::{Memory, Text};

@@ -21,10 +21,9 @@ use crate::keywords::assertions::{error_of, error_or_none, look_up_assertion};
 use crate::keywords::contains::matching_items;
 use crate::keywords::in_place::branches_hold;
 use crate::keywords::objects::{copies, member_names_among, names_on_object};
-use crate::kinds::keyword::Keyword;
-use crate::kinds::kind::Kind;
+use crate::order::keyword::Keyword;
 use js_assert::Assertion;
-use js_bundle::Place;
+use js_bundle::{KeywordName, Place};
 use js_doc::{Doc, Memory, Text};
 use js_tree::Note;
 use std::alloc::Global;
@@ -86,7 +85,7 @@ pub(crate) fn make_keyword_note<'a>(
         names,
         indexes,
     } = findings;
-    let kind = keyword.kind;
+    let kind = keyword.which;
     if judged.passes {
         annotation_of(alloc, kind, keyword, value, names, indexes)
     } else {
@@ -123,7 +122,7 @@ pub(crate) fn make_schema_note<'a>(
 /// `Memory` if an allocation fails.
 fn annotation_of<'a>(
     alloc: Global,
-    kind: Kind,
+    kind: KeywordName,
     keyword: Keyword<'a>,
     value: Instance<'a>,
     names: &[&'a str],
@@ -134,16 +133,18 @@ fn annotation_of<'a>(
         (keyword_of keyword.entry) succeeded (texts_of names.now) indexes.now true kind) }
 {
     match kind {
-        Kind::PrefixItems => Ok(true_or_largest(value, indexes)),
-        Kind::Items | Kind::UnevaluatedItems => Ok(if_any(indexes)),
-        Kind::Contains => matching_items(alloc, value, indexes),
-        Kind::Properties | Kind::AdditionalProperties | Kind::UnevaluatedProperties => {
+        KeywordName::PrefixItems => Ok(true_or_largest(value, indexes)),
+        KeywordName::Items | KeywordName::UnevaluatedItems => Ok(if_any(indexes)),
+        KeywordName::Contains => matching_items(alloc, value, indexes),
+        KeywordName::Properties
+        | KeywordName::AdditionalProperties
+        | KeywordName::UnevaluatedProperties => {
             Ok(names_on_object(value, copies(alloc, names)?))
         }
-        Kind::PatternProperties => {
+        KeywordName::PatternProperties => {
             Ok(names_on_object(value, member_names_among(alloc, value, names)?))
         }
-        Kind::Annotation => Ok(Note::Value(keyword.argument)),
+        KeywordName::Other(_) => Ok(Note::Value(keyword.argument)),
         _ => Ok(Note::Silent),
     }
 }
@@ -155,7 +156,7 @@ fn annotation_of<'a>(
 /// `Memory` if an allocation fails.
 fn failure_of<'a>(
     alloc: Global,
-    kind: Kind,
+    kind: KeywordName,
     succeeded: usize,
     error: Option<String>,
 ) -> Result<Note<'a>, Memory>
@@ -165,11 +166,11 @@ fn failure_of<'a>(
         → IfOk result (λ n. note_of n ≡ keyword_says siblings v matching k succeeded names indexes false kind) }
 {
     match kind {
-        Kind::AnyOf => words(alloc, "no branch holds"),
-        Kind::OneOf => branches_hold(alloc, succeeded),
-        Kind::Not => words(alloc, "the subschema holds"),
-        Kind::Contains => words(alloc, "no matching item"),
-        Kind::Assertion => Ok(error_or_none(error)),
+        KeywordName::AnyOf => words(alloc, "no branch holds"),
+        KeywordName::OneOf => branches_hold(alloc, succeeded),
+        KeywordName::Not => words(alloc, "the subschema holds"),
+        KeywordName::Contains => words(alloc, "no matching item"),
+        KeywordName::Assertion => Ok(error_or_none(error)),
         _ => Ok(Note::Silent),
     }
 }

@@ -12,7 +12,7 @@ ghost use Rattle.js_eval.specs.code.Holding.{IsIn};
 ghost use Rattle.js_eval.specs.code.NamesLeft.{members_among};
 ghost use Rattle.js_eval.specs.code.Starting.{HoldsBy, HoldsOne, IsAtPlace, by_keyword, on_members, on_namesakes};
 ghost use Rattle.js_eval.specs.code.Terms.{Documents, entries, has, instance_of, keyword_of, texts_of, value_of};
-ghost use Rattle.js_eval.specs.declared.kinds.kind.Kind.TheVariants.{PatternProperties};
+ghost use Rattle.js_bundle.specs.declared.keyword_name.KeywordName.TheVariants.{PatternProperties};
 ghost use Rattle.js_tree.specs.Seen.{note_of};
 ghost use Rattle.std.specs.List.{flat_map};
 ghost use Rattle.std.specs.Prelude.{IfOk, filter, map, not, ◌||◌, ◌≡◌};
@@ -27,7 +27,7 @@ use crate::cursors::name_cursor::{Among, NameCursor};
 use crate::cursors::pattern_cursor::PatternCursor;
 use crate::cursors::start::CursorStart;
 use crate::instance::{Instance, names_ascend};
-use crate::kinds::keyword::KeywordAt;
+use crate::order::keyword::KeywordAt;
 use crate::schema::{object_at, patterns_in};
 use crate::schema_lookup::held_below;
 use crate::searching::name_set::{is_in, set_of};
@@ -114,7 +114,7 @@ fn among_members<'a>(named: &'a Members, members: &'a Members) -> Among<'a>
 pub(crate) fn patterns<'a>(start: &CursorStart<'_, 'a>) -> Result<Asking<'a>, Memory>
     requires place { IsAtPlace start.now.schemas.now start.now.at.now }
     requires keyword { IsIn (value_of start.now.at.now.schema.now) (keyword_of start.now.at.now.keyword) }
-    requires kind { start.now.at.now.keyword.kind ≡ PatternProperties }
+    requires kind { start.now.at.now.keyword.which ≡ PatternProperties }
     ensures asked { IfOk result (λ a. asked start.now.schemas.now a
         ≡ flat_map (λ p. map (λ m. by_keyword start.now.schemas.now start.now.at.now (spec.Name p.0) (spec.Name m.0)
         m.1) (filter (λ m. matches p.0 m.0) (entries (instance_of start.now.value))))

@@ -12,7 +12,7 @@ use crate::keywords::assertions::satisfies;
 use crate::schema_lookup::names_at;
 use crate::searching::searchers::Searchers;
 use js_assert::Assertion;
-use js_bundle::{KeywordName, Place, Schemas};
+use js_bundle::{KeywordName, OtherName, Place, Schemas};
 use js_doc::Memory;
 use std::alloc::Global;
 
@@ -68,9 +68,6 @@ fn has_leaf(name: KeywordName) -> bool
 {
     matches!(
         name,
-        KeywordName::AssertionUpToIf
-            | KeywordName::AssertionBehindIf
-            | KeywordName::OtherUpToIf
-            | KeywordName::OtherBehindIf
+        KeywordName::Assertion | KeywordName::Other(OtherName::Unknown)
     )
 }

@@ -4,7 +4,7 @@ ghost use Rattle.js_assert.specs.Assertion.{asserted};
 ghost use Rattle.js_eval.specs.Passes.{how_many, passes_of};
 ghost use Rattle.js_eval.specs.Walk.Progress.{IsKeywordAt, passes_at};
 ghost use Rattle.js_eval.specs.code.Terms.{IsSchemaAt, instance_of, keyword_of, numbered_site, schemas_of, value_of};
-ghost use Rattle.js_eval.specs.declared.kinds.kind.Kind.TheVariants.{Assertion as AssertionKind};
+ghost use Rattle.js_bundle.specs.declared.keyword_name.KeywordName.TheVariants.{Assertion as AssertionKind};
 ghost use Rattle.std.specs.Option.{option_map_or};
 ghost use Rattle.std.specs.Prelude.{Bool, IfOk, List, length, true, ℕ, ◌≡◌};
 ghost use Rattle.js_assert.specs.Assertion as spec;
@@ -15,11 +15,10 @@ use crate::instance::Instance;
 use crate::keywords::assertions::{look_up_assertion, satisfies};
 use crate::keywords::contains::contains;
 use crate::keywords::in_place::{holds_all, holds_any};
-use crate::kinds::keyword::Keyword;
-use crate::kinds::kind::Kind;
+use crate::order::keyword::Keyword;
 use crate::searching::searchers::Searchers;
 use js_assert::Assertion;
-use js_bundle::{Place, Schemas};
+use js_bundle::{KeywordName, Place, Schemas};
 use js_doc::{Doc, Memory};
 use std::alloc::Global;
 
@@ -47,9 +46,9 @@ pub(crate) fn judge_keyword<'a>(
         → b ≡ passes_at (schemas_of schemas.now) (numbered_site schemas.now place) (instance_of value.entry) matching
         (keyword_of keyword.entry) verdicts) }
 {
-    let kind = keyword.kind;
+    let kind = keyword.which;
     let said = match kind {
-        Kind::Assertion => match look_up_assertion(schemas, place, keyword) {
+        KeywordName::Assertion => match look_up_assertion(schemas, place, keyword) {
             Some(assertion) => satisfies(alloc, searchers, assertion, value, matching)?,
             None => true,
         },
@@ -60,7 +59,7 @@ pub(crate) fn judge_keyword<'a>(
 
 /// Whether a keyword of this kind in `schema` passes. `said`: whether the value satisfies it, if it is an assertion.
 pub(crate) fn passes_by_count(
-    kind: Kind,
+    kind: KeywordName,
     schema: &Doc,
     value: Instance<'_>,
     said: bool,
@@ -73,13 +72,13 @@ pub(crate) fn passes_by_count(
         → result ≡ passes_of (entries (value_of schema.now)) (instance_of value.entry) matching k verdicts kind }
 {
     match kind {
-        Kind::AnyOf => holds_any(tally),
-        Kind::OneOf => tally.succeeded == 1,
-        Kind::Not => !holds_any(tally),
-        Kind::If => true,
-        Kind::Contains => contains(schema, value, tally),
-        Kind::Assertion => said,
-        Kind::Annotation => true,
+        KeywordName::AnyOf => holds_any(tally),
+        KeywordName::OneOf => tally.succeeded == 1,
+        KeywordName::Not => !holds_any(tally),
+        KeywordName::If => true,
+        KeywordName::Contains => contains(schema, value, tally),
+        KeywordName::Assertion => said,
+        KeywordName::Other(_) => true,
         _ => holds_all(tally),
     }
 }

@@ -6,7 +6,7 @@ use crate::evaluation::{HeldText, KeywordVerdict, Reporter, Trail, World};
 use crate::finished_world::FinishedSchemas;
 use crate::instance::Instance;
 use crate::keywords::notes::{Findings, make_keyword_note, make_schema_note};
-use crate::kinds::keyword::Keyword;
+use crate::order::keyword::Keyword;
 use crate::reporters::absolute::{absolute_keyword, absolute_schema};
 use js_bundle::Place;
 use js_doc::{Doc, Memory, Text};

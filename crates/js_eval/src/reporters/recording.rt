@@ -8,7 +8,7 @@ use crate::evaluation::{HeldText, KeywordVerdict, Reporter, Trail, World};
 use crate::finished_world::FinishedSchemas;
 use crate::instance::Instance;
 use crate::keywords::notes::{Findings, make_keyword_note, make_schema_note};
-use crate::kinds::keyword::{Keyword, is_written_as_it_is};
+use crate::order::keyword::{Keyword, is_written_as_it_is};
 use js_bundle::Place;
 use js_doc::{Doc, Memory, push_fragment_token};
 use js_tree::RelativeRows;
@@ -61,7 +61,7 @@ impl<'a> Reporter<FinishedSchemas<'a>, HeldText> for Recording<'a> {
         instance_location: &Trail<HeldText>,
     ) -> Result<(), Memory> {
         let (schema, rest) = world.schemas.location_of(place);
-        if rest.is_empty() && is_written_as_it_is(keyword.kind, keyword.name) {
+        if rest.is_empty() && is_written_as_it_is(keyword.which, keyword.name) {
             return self.rows.enter_keyword(
                 keyword_location.as_str(),
                 schema,
@@ -163,7 +163,7 @@ impl<'a> Recording<'a> {
         ensures name { result ≡ true → IsWrittenAsItIs keyword.entry.name.now }
         ensures at { result ≡ true → TakesLeafAt self.now.rows keyword_location.now instance_location.now }
     {
-        if !is_written_as_it_is(keyword.kind, keyword.name) {
+        if !is_written_as_it_is(keyword.which, keyword.name) {
             return false;
         }
         self.rows

@@ -6,5 +6,5 @@ use Rattle.js_eval.proofs.schema_lookup.held_below.Goals as goal
 pub below_at_rank-requires-clause-held : goal.below_at_rank-requires-clause-held
 below_at_rank-requires-clause-held c =
     let k = c.args.at.now.keyword in
-    one_ranked k.which k.kind (value_of c.args.at.now.schema.now) (keyword_of k) k.known k.named
+    one_ranked k.which (value_of c.args.at.now.schema.now) (keyword_of k) k.known
     c.requires.1.0 c.requires.1.1

@@ -14,7 +14,7 @@ returns-then-judged c =
     (λ n reported. says_there (schemas_of c.args.here.now.schemas.now) place (instance_of c.args.value)
     c.args.findings.matching (keyword_of c.args.keyword) c.args.findings.judged.succeeded
     (texts_of c.args.findings.names.now) c.args.findings.indexes.now
-    true c.args.findings.judged.passes c.args.keyword.kind (note_of n) c.args.keyword.named c.if-judged.true reported)
+    true c.args.findings.judged.passes c.args.keyword.which (note_of n) c.args.keyword.known c.if-judged.true reported)
     (c.annotation_of.ensures (entries place.schema) c.args.findings.matching c.args.findings.judged.succeeded)
 
 pub returns-in_ok-error : goal.returns-in_ok-error
@@ -23,7 +23,8 @@ returns-in_ok-error c =
     (λ n reported. says_there (schemas_of c.args.here.now.schemas.now) place (instance_of c.args.value)
     c.args.findings.matching (keyword_of c.args.keyword) c.args.findings.judged.succeeded
     (texts_of c.args.findings.names.now) c.args.findings.indexes.now
-    false c.args.findings.judged.passes c.args.keyword.kind (note_of n) c.args.keyword.named c.if-judged.false reported)
+    false c.args.findings.judged.passes c.args.keyword.which (note_of n) c.args.keyword.known c.if-judged.false
+    reported)
     (c.failure_of.ensures (entries place.schema) (instance_of c.args.value) c.args.findings.matching
     (keyword_of c.args.keyword) (texts_of c.args.findings.names.now) c.args.findings.indexes.now
     (rw c.look_up_assertion-assertion.ensures at c.in_ok-error.ensures))

@@ -17,7 +17,7 @@ returns-in_ok-in_box-in-Some-object-clause-is c =
     let at = c.args.start.now.at.now in
     let schema = value_of at.schema.now in
     let argument = value_of at.keyword.argument.now in
-    let named = patterns_named at.keyword.name.now (sym at.keyword.named ∙ c.requires.kind) in
+    let named = patterns_named at.keyword.name.now (sym at.keyword.known ∙ c.requires.kind) in
     let has : get (codes "patternProperties") (entries schema) ≡ Some argument =
     subst (λ name. get name (entries schema) ≡ Some argument) named c.requires.keyword in
     let all = patterns_are documents at.place schema c.requires.place argument has c.in-Some.patterns.now

@@ -16,5 +16,5 @@ apply_at_rank-requires-clause-held c =
     ∙ ap Some (sym c.index-list-index.is) in
     let item : slice_get (values (value_of k.argument.now)) i ≡ Some (value_of held) =
     sym (ap (λ vs. slice_get vs i) c.requires.3) ∙ slice_get-map value_of list i ∙ ap (option_map value_of) there in
-    item_ranked k.which k.kind (value_of c.args.self.now.at.schema.now) (keyword_of k) i (value_of held) k.known k.named
+    item_ranked k.which (value_of c.args.self.now.at.schema.now) (keyword_of k) i (value_of held) k.known
     c.requires.1 c.requires.2 item

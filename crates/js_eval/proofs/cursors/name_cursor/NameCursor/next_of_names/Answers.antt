@@ -7,7 +7,7 @@ use Rattle.js_eval.proofs.cursors.name_cursor.NameCursor.next_of_names.Goals as 
 pub apply_at_rank-requires-clause-held : goal.apply_at_rank-requires-clause-held
 apply_at_rank-requires-clause-held c =
     let k = c.args.self.now.at.keyword in
-    member_ranked k.which k.kind (value_of c.args.self.now.at.schema.now) (keyword_of k) c.in_ok-rank.name.now
+    member_ranked k.which (value_of c.args.self.now.at.schema.now) (keyword_of k) c.in_ok-rank.name.now
     c.in_ok-rank.rank (value_of c.in_ok-rank.held.now)
-    k.known k.named c.requires.1 c.requires.2
+    k.known c.requires.1 c.requires.2
     (c.in_ok-rank.ensures.left (entries (value_of k.argument.now)) c.requires.3).1

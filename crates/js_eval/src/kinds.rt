@@ -1,9 +1,0 @@
-//! The keywords of a schema: their kinds, and the order in which a walk visits them.
-
-pub(crate) mod applying;
-pub(crate) mod in_turn;
-pub(crate) mod keyword;
-pub(crate) mod keyword_cursor;
-pub(crate) mod kind;
-pub(crate) mod kind_by_name;
-pub(crate) mod turn;
