@@ -1,8 +1,5 @@
 //! The example of docs/USING.md: check the schemas once, then each instance.
-use js_bundle::{Bundle, Schemas};
-use js_doc::read;
-use js_eval::verdict;
-use js_output::{Format, Sink, run_finished};
+use js_output::{Bundle, Format, Schemas, Sink, read, run_finished, verdict};
 use std::alloc::Global;
 use std::test::Fail;
 
