@@ -5,6 +5,7 @@ from itertools import takewhile
 
 FUNCTION = re.compile(r'\s*(?:pub(?:\([^)]*\))? )?(?:const |unsafe |extern "C" )*fn (\w+)')
 CYCLE = re.compile(r"\s*#\[cycle\((\w+)\)\]")
+IMPL = re.compile(r"impl(?:<[^>]*>)? (?:.* for )?(\w+)")
 # An arm of a match, without a guard: its pattern's variant.
 ARM = re.compile(r"\s*(?:\w+::)+(\w+)(?:\(.*\)| \{.*\})? =>")
 ERROR = re.compile(r"(?:\./)?proofs/(\S+)/\w+\.antt:\d+:\d+: error: (?:`([^`]+)`)?")
@@ -17,9 +18,10 @@ ROOTS = ("src/lib.rt", "src/main.rt")
 
 @dataclass(frozen=True)
 class Place:
-    """What an edit changes: a function, or one arm of a match in it. A function has its module, its name, its cycle of
-    calls, or itself, and its lines."""
+    """What an edit changes: a function, or one arm of a match in it. A function has its file, its module, its name, its
+    cycle of calls, or itself, and its lines. The prover counts a method to the module of its type."""
 
+    file: str
     module: str
     name: str
     cycle: str
@@ -44,7 +46,7 @@ class Place:
     def has_note(self, line):
         """Whether a line says that a goal of this place isn't proved."""
         found = NOTE.match(line)
-        return bool(found and found[1] == self.module.replace("::", "/") and int(found[2]) in self.lines
+        return bool(found and found[1] == self.file and int(found[2]) in self.lines
                     and self.has_goal(found[3]))
 
     def meets(self, other):
@@ -105,6 +107,14 @@ def read_edit(file, folder):
     return Edit(file.name, lines, places) if lines and in_modules and None not in places else None
 
 
+def module_of(lines, number):
+    """The module of the type whose method this line begins, or None where it is that of the file, or no method's."""
+    begin = next((it for it in reversed(lines[:number]) if it[:1].strip()), "")
+    found = IMPL.match(begin) if lines[number][:1] == " " else None
+    used = re.search(rf"^use crate::([\w:]+)::(?:\{{[^}}]*\b)?{found[1]}\b", "\n".join(lines), re.M) if found else None
+    return used and used[1]
+
+
 def place_of(path, lines, number, new):
     """The place of a line of a file, which becomes `new`, or None if it is in no function."""
     for start in range(number, -1, -1):
@@ -115,12 +125,13 @@ def place_of(path, lines, number, new):
             return None
     else:
         return None
-    module = path.removeprefix("src/").removesuffix(".rt").replace("/", "::")
+    file = path.removeprefix("src/").removesuffix(".rt")
+    module = module_of(lines, start) or file.replace("/", "::")
     cycle = next(filter(None, map(CYCLE.match, above(lines, start))), None)
     end = next((it for it in range(number + 1, len(lines)) if FUNCTION.match(lines[it])), len(lines))
     own = range(start + 1 - len(above(lines, start)), end + 1 - len(above(lines, end)))
     arm = "" if cycle else arm_of(lines, start, number, new)
-    return Place(module, found[1], cycle[1] if cycle else f"{module}::{found[1]}", arm, own)
+    return Place(file, module, found[1], cycle[1] if cycle else f"{module}::{found[1]}", arm, own)
 
 
 def above(lines, number):
