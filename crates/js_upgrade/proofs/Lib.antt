@@ -16,7 +16,7 @@ pub mod Fragments
 pub mod Gathered
 pub mod Holders
 pub mod InOrder
-pub mod KeywordLengths
+pub mod KeywordInitials
 pub mod KnownDialects
 pub mod LocalFragments
 pub mod Lookups
@@ -39,4 +39,5 @@ pub mod Staying
 pub mod StayingTogether
 pub mod StepsBack
 pub mod Tables
+pub mod UsualUris
 pub mod WithoutCopies

@@ -3,7 +3,8 @@ pub mod Back
 pub mod Copied
 pub mod First
 pub mod HasSeen
-pub mod Lengths
+pub mod Initials
 pub mod Local
 pub mod Pushed
 pub mod Table
+pub mod UsualUri
