@@ -2,6 +2,7 @@ pub mod Again
 pub mod AgainTogether
 pub mod Agreeing
 pub mod Alternatives
+pub mod AnyFault
 pub mod AnyRecurses
 pub mod CopiesAscend
 pub mod CopyLoops

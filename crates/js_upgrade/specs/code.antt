@@ -1,6 +1,7 @@
 -- What only private functions speak of: no public clause cites it.
 pub mod Back
 pub mod Copied
+pub mod FaultBelow
 pub mod First
 pub mod HasSeen
 pub mod Initials
