@@ -17,6 +17,8 @@ pub mod Fragments
 pub mod Gathered
 pub mod Holders
 pub mod InOrder
+pub mod KeptArguments
+pub mod KeptSiblings
 pub mod KeywordInitials
 pub mod KnownDialects
 pub mod LocalFragments
@@ -29,12 +31,13 @@ pub mod OriginalExamples
 pub mod Origins
 pub mod Outcome
 pub mod PartsAt
+pub mod Placing
 pub mod PlainChanges
 pub mod Prefixes
 pub mod ReferenceExamples
 pub mod Relocated
-pub mod Relocating
 pub mod RepeatedUris
+pub mod ResourceLoops
 pub mod Standing
 pub mod Staying
 pub mod StayingTogether

@@ -26,7 +26,6 @@ mod origin;
 mod originals;
 mod pieces;
 mod recursion;
-mod reference;
 mod required;
 mod resource_table;
 mod resources;
