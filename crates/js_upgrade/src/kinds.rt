@@ -105,7 +105,10 @@ pub(crate) fn contains_kind(own: Dialect, siblings: &Members) -> Option<UpgradeF
 pub(crate) fn unevaluated_kind(own: Dialect, siblings: &Members) -> Option<UpgradeFaultKind>
     ensures { result ≡ unevaluated_kind own siblings.now }
 {
-    if siblings.get("unevaluatedItems").is_some() && !own.is_before(Dialect::Draft2019) {
+    if own.is_before(Dialect::Draft2019) {
+        return None;
+    }
+    if siblings.get("unevaluatedItems").is_some() {
         Some(UpgradeFaultKind::BadKeyword)
     } else {
         None
@@ -169,10 +172,14 @@ pub(crate) fn own_kind(
 ) -> Result<Option<UpgradeFaultKind>, Memory>
     ensures { IfOk result (λ k. k ≡ own_kind own base.now siblings.now) }
 {
+    let found = siblings.get(identifier(own));
+    if found.is_none() {
+        return Ok(None);
+    }
     if hides(own, siblings) {
         Ok(None)
     } else {
-        identifier_kind(base, siblings.get(identifier(own)))
+        identifier_kind(base, found)
     }
 }
 
