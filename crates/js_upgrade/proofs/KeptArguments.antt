@@ -47,7 +47,7 @@ split true b e = (refl, e)
 split false b e = absurd (cc)
 
 module _ (p : Change → Bool) (k : Text) where
-  pub known : both_ways p k Draft03 ≡ true → both_ways p k Draft04 ≡ true → both_ways p k Draft06 ≡ true
+  known : both_ways p k Draft03 ≡ true → both_ways p k Draft04 ≡ true → both_ways p k Draft06 ≡ true
       → both_ways p k Draft07 ≡ true → both_ways p k Draft2019 ≡ true → both_ways p k Draft2020 ≡ true
       → IsEverywhere p k
   known a b c e f g d hidden = way hidden (in_dialect d)
@@ -67,42 +67,30 @@ module _ (p : Change → Bool) (k : Text) where
 
 -- ---- keywords
 
-pub schema_kept : IsEverywhere keeps (codes "$schema")
-unfolding core_change applicator_change assertion_change
-schema_kept = known keeps (codes "$schema") refl refl refl refl refl refl
+pub record AreKept : Type 0 where
+  pub schema : IsEverywhere keeps (codes "$schema")
+  pub id : IsEverywhere keeps (codes "id")
+  pub dollar_id : IsEverywhere keeps (codes "$id")
+  pub required : IsEverywhere keeps (codes "required")
+  pub exclusive_minimum : IsEverywhere keeps (codes "exclusiveMinimum")
+  pub exclusive_maximum : IsEverywhere keeps (codes "exclusiveMaximum")
+  pub max_contains : IsEverywhere keeps (codes "maxContains")
+  pub min_contains : IsEverywhere keeps (codes "minContains")
+  pub properties : IsEverywhere keeps_names (codes "properties")
+  pub items : IsEverywhere is_plain (codes "items")
 
-pub id_kept : IsEverywhere keeps (codes "id")
+pub are_kept : AreKept
 unfolding core_change applicator_change assertion_change
-id_kept = known keeps (codes "id") refl refl refl refl refl refl
-
-pub dollar_id_kept : IsEverywhere keeps (codes "$id")
-unfolding core_change applicator_change assertion_change
-dollar_id_kept = known keeps (codes "$id") refl refl refl refl refl refl
-
-pub required_kept : IsEverywhere keeps (codes "required")
-unfolding core_change applicator_change assertion_change
-required_kept = known keeps (codes "required") refl refl refl refl refl refl
-
-pub minimum_kept : IsEverywhere keeps (codes "exclusiveMinimum")
-unfolding core_change applicator_change assertion_change
-minimum_kept = known keeps (codes "exclusiveMinimum") refl refl refl refl refl refl
-
-pub maximum_kept : IsEverywhere keeps (codes "exclusiveMaximum")
-unfolding core_change applicator_change assertion_change
-maximum_kept = known keeps (codes "exclusiveMaximum") refl refl refl refl refl refl
-
-pub most_kept : IsEverywhere keeps (codes "maxContains")
-unfolding core_change applicator_change assertion_change
-most_kept = known keeps (codes "maxContains") refl refl refl refl refl refl
-
-pub least_kept : IsEverywhere keeps (codes "minContains")
-unfolding core_change applicator_change assertion_change
-least_kept = known keeps (codes "minContains") refl refl refl refl refl refl
-
-pub properties_kept : IsEverywhere keeps_names (codes "properties")
-unfolding core_change applicator_change assertion_change
-properties_kept = known keeps_names (codes "properties") refl refl refl refl refl refl
-
-pub items_plain : IsEverywhere is_plain (codes "items")
-unfolding core_change applicator_change assertion_change
-items_plain = known is_plain (codes "items") refl refl refl refl refl refl
+are_kept =
+    record {
+      schema = known keeps (codes "$schema") refl refl refl refl refl refl;
+      id = known keeps (codes "id") refl refl refl refl refl refl;
+      dollar_id = known keeps (codes "$id") refl refl refl refl refl refl;
+      required = known keeps (codes "required") refl refl refl refl refl refl;
+      exclusive_minimum = known keeps (codes "exclusiveMinimum") refl refl refl refl refl refl;
+      exclusive_maximum = known keeps (codes "exclusiveMaximum") refl refl refl refl refl refl;
+      max_contains = known keeps (codes "maxContains") refl refl refl refl refl refl;
+      min_contains = known keeps (codes "minContains") refl refl refl refl refl refl;
+      properties = known keeps_names (codes "properties") refl refl refl refl refl refl;
+      items = known is_plain (codes "items") refl refl refl refl refl refl;
+    }

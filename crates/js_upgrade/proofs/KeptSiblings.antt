@@ -30,10 +30,7 @@ use Rattle.js_upgrade.specs.declared.keyword.Change.TheVariants.{Contains, Recur
 use Rattle.js_upgrade.specs.declared.holding.SchemaHolding.{SchemaHolding}
 use Rattle.js_upgrade.specs.declared.holding.SchemaHolding.TheVariants.{One, Listed, Named as ByName, OneOrListed}
 use Rattle.js_upgrade.specs.declared.holding.SchemaHolding.TheVariants.{Nothing}
-use Rattle.js_upgrade.proofs.KeptArguments.{dollar_id_kept, id_kept, is_named, is_nothing, is_plain, items_plain}
-use Rattle.js_upgrade.proofs.KeptArguments.{keeps_names}
-use Rattle.js_upgrade.proofs.KeptArguments.{least_kept, maximum_kept, minimum_kept, most_kept, properties_kept}
-use Rattle.js_upgrade.proofs.KeptArguments.{required_kept, split}
+use Rattle.js_upgrade.proofs.KeptArguments.{are_kept, is_named, is_nothing, is_plain, keeps_names, split}
 use Rattle.js_upgrade.proofs.Relocated.{argument_of, key_got, nothing_relocated, plain_argument, schema_got}
 use Rattle.js_upgrade.proofs.Relocated.{schema_got_as}
 use Rattle.js_upgrade.proofs.Relocated.{schema_members}
@@ -91,7 +88,7 @@ module _ (all : List Resource) where
       → get (codes "required") (members_of (relocated all One d base v)) ≡ get (codes "required") (members_of v)
   required_in d base (object ms) =
       ap (get (codes "required")) (member_list-members (schema_members all d base ms))
-      ∙ key_got all (codes "required") required_kept d base ms
+      ∙ key_got all (codes "required") are_kept.required d base ms
   required_in d base null = refl
   required_in d base (truth b) = refl
   required_in d base (whole z) = refl
@@ -155,12 +152,12 @@ module _ (all : List Resource) where
     change_so e k = ap (λ b. cond b (beside_reference (change_in e k)) (change_in e k)) (hides_so e)
 
     identifier_got : (e : Dialect) → get (identifier e) new ≡ get (identifier e) old
-    identifier_got Draft03 = key_got all (codes "id") id_kept d base ms
-    identifier_got Draft04 = key_got all (codes "id") id_kept d base ms
-    identifier_got Draft06 = key_got all (codes "$id") dollar_id_kept d base ms
-    identifier_got Draft07 = key_got all (codes "$id") dollar_id_kept d base ms
-    identifier_got Draft2019 = key_got all (codes "$id") dollar_id_kept d base ms
-    identifier_got Draft2020 = key_got all (codes "$id") dollar_id_kept d base ms
+    identifier_got Draft03 = key_got all (codes "id") are_kept.id d base ms
+    identifier_got Draft04 = key_got all (codes "id") are_kept.id d base ms
+    identifier_got Draft06 = key_got all (codes "$id") are_kept.dollar_id d base ms
+    identifier_got Draft07 = key_got all (codes "$id") are_kept.dollar_id d base ms
+    identifier_got Draft2019 = key_got all (codes "$id") are_kept.dollar_id d base ms
+    identifier_got Draft2020 = key_got all (codes "$id") are_kept.dollar_id d base ms
 
     identifies_so : (e : Dialect) → identifies e new ≡ identifies e old
     identifies_so e = ap₂ (λ found b. is_identifier found && not b) (identifier_got e) (hides_so e)
@@ -188,15 +185,15 @@ module _ (all : List Resource) where
     contains_so v =
         ap₂ (λ most least. object (members (put_all (one (codes "contains") v
         ++ (some_value (codes "maxContains") most ++ some_value (codes "minContains") least)) [])))
-        (key_got all (codes "maxContains") most_kept d base ms)
-        (key_got all (codes "minContains") least_kept d base ms)
+        (key_got all (codes "maxContains") are_kept.max_contains d base ms)
+        (key_got all (codes "minContains") are_kept.min_contains d base ms)
 
     list_so : is_some_list (get (codes "items") new) ≡ is_some_list (get (codes "items") old)
     list_so =
         let own = own_dialect d old in
         ap is_some_list (schema_got_as all d base ms (codes "items"))
         ∙ found_list (change_of own old (codes "items")) own (own_base own base old) (get (codes "items") old)
-        (items_plain own (hides own old))
+        (are_kept.items own (hides own old))
 
     required_so : required_names (members_found (get (codes "properties") new))
         ≡ required_names (members_found (get (codes "properties") old))
@@ -204,23 +201,23 @@ module _ (all : List Resource) where
         let own = own_dialect d old in
         ap (λ found. required_names (members_found found)) (schema_got_as all d base ms (codes "properties"))
         ∙ required_found (change_of own old (codes "properties")) own (own_base own base old)
-        (get (codes "properties") old) (properties_kept own (hides own old))
+        (get (codes "properties") old) (are_kept.properties own (hides own old))
 
     upgraded_so : (k : Text) (v : Value) (change : Change) → upgraded_by new k v change ≡ upgraded_by old k v change
     upgraded_so k v AdditionalItems = ap (λ b. cond b (one (codes "items") v) []) list_so
     upgraded_so k v Minimum =
         ap (λ found. one (cond (is_true found) (codes "exclusiveMinimum") (codes "minimum")) v)
-        (key_got all (codes "exclusiveMinimum") minimum_kept d base ms)
+        (key_got all (codes "exclusiveMinimum") are_kept.exclusive_minimum d base ms)
     upgraded_so k v Maximum =
         ap (λ found. one (cond (is_true found) (codes "exclusiveMaximum") (codes "maximum")) v)
-        (key_got all (codes "exclusiveMaximum") maximum_kept d base ms)
+        (key_got all (codes "exclusiveMaximum") are_kept.exclusive_maximum d base ms)
     upgraded_so k v Properties =
         ap (λ names. one (codes "properties") v ++ some_items (codes "required") names) required_so
     upgraded_so k v Contains =
         ap₂ (λ name w. one name (list (item (negation (negation w)) no_items))) holder_so (contains_so v)
     upgraded_so k v RecursiveAnchor =
         ap (λ found. cond (is_true (Some v) && is_identifier found) (one (codes "$dynamicAnchor") recursive_name) [])
-        (key_got all (codes "$id") dollar_id_kept d base ms)
+        (key_got all (codes "$id") are_kept.dollar_id d base ms)
     upgraded_so k v Stays = refl
     upgraded_so k v Asserts = refl
     upgraded_so k v Refers = refl

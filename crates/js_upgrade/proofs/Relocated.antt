@@ -25,7 +25,7 @@ use Rattle.js_upgrade.specs.declared.keyword.Change.TheVariants.{Contains, Recur
 use Rattle.js_upgrade.specs.declared.holding.SchemaHolding.{SchemaHolding}
 use Rattle.js_upgrade.specs.declared.holding.SchemaHolding.TheVariants.{One, Listed, Named as ByName, OneOrListed}
 use Rattle.js_upgrade.specs.declared.holding.SchemaHolding.TheVariants.{Nothing}
-use Rattle.js_upgrade.proofs.KeptArguments.{IsEverywhere, is_nothing, is_plain, keeps, schema_kept, split}
+use Rattle.js_upgrade.proofs.KeptArguments.{IsEverywhere, are_kept, is_nothing, is_plain, keeps, split}
 
 -- ---- names ascend
 
@@ -241,4 +241,4 @@ module _ (all : List Resource) where
 
   pub schema_got : (d : Dialect) (base : Parts) (ms : Members)
       → get (codes "$schema") (schema_members d base ms) ≡ get (codes "$schema") (member_list ms)
-  schema_got d base ms = key_got (codes "$schema") schema_kept d base ms
+  schema_got d base ms = key_got (codes "$schema") are_kept.schema d base ms
