@@ -18,6 +18,7 @@ pub mod Gathered
 pub mod Holders
 pub mod InOrder
 pub mod KeptArguments
+pub mod KeptOn
 pub mod KeptSiblings
 pub mod KeywordInitials
 pub mod KnownDialects

@@ -6,6 +6,7 @@ pub mod First
 pub mod HasSeen
 pub mod Initials
 pub mod Local
+pub mod Onward
 pub mod Placed
 pub mod Pushed
 pub mod Table
