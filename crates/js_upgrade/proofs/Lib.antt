@@ -13,6 +13,7 @@ pub mod EachOrigin
 pub mod Examples
 pub mod FaultExamples
 pub mod FirstFault
+pub mod FirstNames
 pub mod Fragments
 pub mod Gathered
 pub mod Holders

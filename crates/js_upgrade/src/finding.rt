@@ -18,6 +18,7 @@ use crate::kinds::{
     anchor_kind, contained_kind, contains_kind, declared_kind, own_kind, recursive_kind,
     reference_kind, unevaluated_kind,
 };
+use crate::lookup::found;
 use crate::resource_table::ResourceTable;
 use crate::resources::identity;
 use crate::schema::{change_beside, hides, identifier, own_dialect};
@@ -155,7 +156,7 @@ fn reference_fault(
     ensures { IfOk result (λ f. option_map found_of f
         ≡ reference_fault (all_of scope.entry.resources.now) own scope.entry.base.now siblings.now) }
 {
-    let kind = reference_kind(alloc, scope, siblings.get("$ref"))?;
+    let kind = reference_kind(alloc, scope, found(siblings, "$ref"))?;
     let found = at_keyword(alloc, "$ref", kind)?;
     if found.is_some() {
         return Ok(found);

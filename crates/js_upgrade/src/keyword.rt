@@ -79,7 +79,8 @@ pub fn change_in(dialect: Dialect, name: &str) -> Change
     with_late(dialect, name).unwrap_or(Change::Stays)
 }
 
-fn initial(name: &str) -> u8
+/// The first byte of a name, or 0.
+pub(crate) fn initial(name: &str) -> u8
     ensures { result ≡ initial name.now }
 {
     match name.as_bytes().split_first() {

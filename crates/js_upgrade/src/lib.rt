@@ -20,6 +20,7 @@ mod identifier;
 mod keyword;
 mod kinds;
 pub mod laws;
+mod lookup;
 mod moving;
 mod once;
 mod origin;

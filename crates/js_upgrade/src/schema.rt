@@ -8,6 +8,7 @@ ghost use Rattle.js_upgrade.specs.code.UsualUri.{has_usual_uri};
 
 use crate::dialect::Dialect;
 use crate::keyword::{Change, change_in};
+use crate::lookup::found;
 use js_doc::{Doc, Members};
 
 /// What becomes of a keyword among its siblings.
@@ -33,7 +34,7 @@ pub(crate) fn change_beside(hidden: bool, dialect: Dialect, name: &str) -> Chang
 pub(crate) fn hides(dialect: Dialect, siblings: &Members) -> bool
     ensures { result ≡ hides dialect siblings.now }
 {
-    dialect.is_before(Dialect::Draft2019) && siblings.get("$ref").is_some()
+    dialect.is_before(Dialect::Draft2019) && found(siblings, "$ref").is_some()
 }
 
 fn beside_reference(change: Change) -> Change
@@ -51,7 +52,7 @@ fn beside_reference(change: Change) -> Change
 pub fn own_dialect(dialect: Dialect, siblings: &Members) -> Dialect
     ensures { result ≡ own_dialect dialect siblings.now }
 {
-    match siblings.get("$schema") {
+    match found(siblings, "$schema") {
         Some(uri) => declared_dialect(dialect, siblings, uri),
         None => dialect,
     }
@@ -98,7 +99,7 @@ pub(crate) fn dialect_in(uri: &Doc) -> Option<Dialect>
 pub(crate) fn identifies(dialect: Dialect, siblings: &Members) -> bool
     ensures { result ≡ identifies dialect siblings.now }
 {
-    is_identifier(siblings.get(identifier(dialect))) && !hides(dialect, siblings)
+    is_identifier(found(siblings, identifier(dialect))) && !hides(dialect, siblings)
 }
 
 pub(crate) fn identifier(dialect: Dialect) -> &'static str
