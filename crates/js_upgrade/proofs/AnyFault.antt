@@ -7,7 +7,7 @@ use Rattle.js_doc.specs.Value.{Value, null, truth, whole, text, list, object, It
 use Rattle.js_doc.specs.Value.{no_members, member, Text, Named}
 use Rattle.js_upgrade.specs.Dialect.{first_of}
 use Rattle.js_upgrade.specs.Documents.{SourceDocument, Sources, source_dialect}
-use Rattle.js_upgrade.specs.Fault.{FoundFault, contained_fault, deeper, documents_fault, fault_by_dialect, fault_in}
+use Rattle.js_upgrade.specs.Fault.{contained_fault, deeper, documents_fault, fault_by_dialect, fault_in}
 use Rattle.js_upgrade.specs.Fault.{in_document, item_fault, member_fault, name_fault, names_fault, reference_fault}
 use Rattle.js_upgrade.specs.Fault.{repeated_fault, schema_fault, source_fault, unevaluated_fault, uris_fault}
 use Rattle.js_upgrade.specs.Resource.{Resource, own_base}

@@ -1,7 +1,7 @@
 -- Where the references of a schema have been rewritten, its keywords become the same: what becomes of one depends on
 -- nothing that has changed beside it.
 use Rattle.std.proofs.Common.{◌≡◌, List, [], ◌∷◌, ◌++◌, true, not, ◌&&◌, Option, Some, None, cond, codes, is_some}
-use Rattle.std.proofs.Common.{option_and_then, option_map, refl, sym, ap, ap₂, ◌∙◌}
+use Rattle.std.proofs.Common.{option_and_then, option_map, refl, ap, ap₂, ◌∙◌}
 use Rattle.url.specs.Parts.{Parts}
 use Rattle.js_doc.specs.Members.{get, has_name}
 use Rattle.js_doc.specs.Parts.{member_list, members_of}
@@ -30,7 +30,7 @@ use Rattle.js_upgrade.specs.declared.keyword.Change.TheVariants.{Contains, Recur
 use Rattle.js_upgrade.specs.declared.holding.SchemaHolding.{SchemaHolding}
 use Rattle.js_upgrade.specs.declared.holding.SchemaHolding.TheVariants.{One, Listed, Named as ByName, OneOrListed}
 use Rattle.js_upgrade.specs.declared.holding.SchemaHolding.TheVariants.{Nothing}
-use Rattle.js_upgrade.proofs.KeptArguments.{are_kept, is_named, is_nothing, is_plain, keeps_names, split}
+use Rattle.js_upgrade.proofs.KeptArguments.{are_kept, is_named, is_plain, keeps_names, split}
 use Rattle.js_upgrade.proofs.Relocated.{argument_of, key_got, nothing_relocated, plain_argument, schema_got}
 use Rattle.js_upgrade.proofs.Relocated.{schema_got_as}
 use Rattle.js_upgrade.proofs.Relocated.{schema_members}

@@ -1,5 +1,5 @@
 -- Schemas that are upgraded while their references are rewritten become what they are if the one follows the other.
-use Rattle.std.proofs.Common.{◌≡◌, List, [], ◌∷◌, Option, Some, None, refl, sym, ap, ap₂, ◌∙◌}
+use Rattle.std.proofs.Common.{◌≡◌, List, [], ◌∷◌, Some, None, refl, sym, ap, ap₂, ◌∙◌}
 use Rattle.url.specs.Parts.{Parts}
 use Rattle.js_doc.specs.Members.{IsAscending, IsBelowHead}
 use Rattle.js_doc.specs.Parts.{member_list}
@@ -10,7 +10,7 @@ use Rattle.js_upgrade.specs.Reference.{argument_rewritten, as_it_is, items_reloc
 use Rattle.js_upgrade.specs.Reference.{recursion_rewritten, rewritten}
 use Rattle.js_upgrade.specs.Resource.{Resource, own_base}
 use Rattle.js_upgrade.specs.Schema.{change_of, gathered_members}
-use Rattle.js_upgrade.specs.Upgrade.{becomes, holding_in, holding_by_change, items_upgraded, keywords_upgraded}
+use Rattle.js_upgrade.specs.Upgrade.{holding_in, holding_by_change, items_upgraded, keywords_upgraded}
 use Rattle.js_upgrade.specs.Upgrade.{members_upgraded, own_dialect, upgraded}
 use Rattle.js_upgrade.specs.code.Placed.{Place, argument_at, items_placed, keywords_placed, members_placed, place_below}
 use Rattle.js_upgrade.specs.code.Placed.{placed}

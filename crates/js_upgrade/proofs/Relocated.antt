@@ -1,5 +1,5 @@
 -- What stays of a value when its references are rewritten: the order of its names, and what has no schemas.
-use Rattle.std.proofs.Common.{◌≡◌, List, [], ◌∷◌, Bool, true, false, Option, Some, None, cond, Ordering, Less, Equal}
+use Rattle.std.proofs.Common.{◌≡◌, List, Bool, true, false, Option, Some, None, cond, Ordering, Less, Equal}
 use Rattle.std.proofs.Common.{Greater, codes, option_map, refl, sym, ap, ◌∙◌}
 use Rattle.std.specs.Ordering.{match_ordering}
 use Rattle.url.specs.Parts.{Parts}

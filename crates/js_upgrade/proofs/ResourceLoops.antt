@@ -1,10 +1,10 @@
 -- Loops over an object's members or over a list's items, whose resources are found.
 use Rattle.std.proofs.Common.{◌≡◌, ℕ, ◌+◌, ◌<◌, List, [], ◌∷◌, ◌++◌, Option, Some, None, map, get_or, length, drop}
-use Rattle.std.proofs.Common.{refl, sym, ap, ◌∙◌, append_assoc, unwrap_or}
+use Rattle.std.proofs.Common.{sym, ap, ◌∙◌, append_assoc, unwrap_or}
 use Rattle.std.proofs.lemmas.List.{append-nil, drop_more}
 use Rattle.url.specs.Parts.{Parts}
 use Rattle.js_doc.specs.Seen.{value_of, pair_of}
-use Rattle.js_doc.specs.Value.{Value, Text, Named, Values, object, members}
+use Rattle.js_doc.specs.Value.{Value, Named, Values, object, members}
 use Rattle.js_doc.specs.declared.doc.Doc.{Doc}
 use Rattle.js_doc.proofs.PartLists.{member_list-members}
 use Rattle.js_upgrade.specs.Resource.{Resource, begun, identity, member_resources, own_base, resource_under, resources}

@@ -1,5 +1,5 @@
 -- A value whose schemas are upgraded, with their references rewritten where it is known to what they may lead.
-use Rattle.std.specs.Prelude.{List, [], ◌∷◌, Option, Some, None, option_map, map}
+use Rattle.std.specs.Prelude.{List, [], ◌∷◌, Option, Some, None}
 use Rattle.url.specs.Parts.{Parts}
 use Rattle.js_doc.specs.Parts.{member_list}
 use Rattle.js_doc.specs.Value.{Value, list, object, Items, no_items, item, Members, no_members, member}

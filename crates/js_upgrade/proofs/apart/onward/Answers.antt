@@ -1,4 +1,4 @@
-use Rattle.std.proofs.Common.{◌∙◌, Some, None, subst}
+use Rattle.std.proofs.Common.{◌∙◌, subst}
 use Rattle.js_doc.specs.Seen.{value_of}
 use Rattle.js_upgrade.specs.Moved.{step}
 use Rattle.js_upgrade.specs.code.Pushed.{IsStepped}
