@@ -1,7 +1,7 @@
 -- Names ascend in each copy, and so in documents with copies.
-use Rattle.std.proofs.Common.{◌≡◌, ℕ, ◌+◌, List, [], ◌∷◌, Bool, true, false, Option, Some, None, cond, map}
+use Rattle.std.proofs.Common.{◌≡◌, ℕ, ◌+◌, [], ◌∷◌, Bool, true, false, Option, Some, None, cond, map}
 use Rattle.std.proofs.Common.{zero, suc, option_and_then, option_map, slice_get, slice_set, unwrap_or, refl, sym, ap}
-use Rattle.std.proofs.Common.{◌∙◌, subst, Ordering, Less, Equal, Greater}
+use Rattle.std.proofs.Common.{subst, Ordering, Less, Equal, Greater}
 use Rattle.std.specs.List.{AllByRecursion}
 use Rattle.std.specs.Ordering.{match_ordering}
 use Rattle.js_doc.specs.Lawful.{IsLawful}
@@ -13,16 +13,16 @@ use Rattle.js_doc.specs.Value.{Value, null, truth, whole, text, list, object, It
 use Rattle.js_doc.specs.Value.{no_members, member, members, Text, Named}
 use Rattle.js_doc.proofs.Ascending.{members_ascend-put}
 use Rattle.js_doc.proofs.PartLists.{members-member_list}
-use Rattle.js_upgrade.specs.Apart.{apart, copy_of, crosses, definitions_of, held_on, if_schema, holds_schema}
+use Rattle.js_upgrade.specs.Apart.{apart, copy_of, definitions_of, if_schema, holds_schema}
 use Rattle.js_upgrade.specs.Apart.{under_name}
 use Rattle.js_upgrade.specs.Apart.{onward}
 use Rattle.js_upgrade.specs.Apart.{takes_copies}
-use Rattle.js_upgrade.specs.Copies.{Copies, copies_of, document_roots, is_copied, no_copies, root_with, source_with}
+use Rattle.js_upgrade.specs.Copies.{Copies, copies_of, document_roots, is_copied, no_copies, root_with}
 use Rattle.js_upgrade.specs.Copies.{sources_with, with_copy, with_member}
 use Rattle.js_upgrade.specs.CopyName.{definitions_name, free_name}
 use Rattle.js_upgrade.specs.Moved.{step}
 use Rattle.js_upgrade.specs.Schema.{members_found, put_all}
-use Rattle.js_upgrade.specs.Source.{SourceDocument, Sources, source_dialect}
+use Rattle.js_upgrade.specs.Source.{Sources, source_dialect}
 use Rattle.js_upgrade.specs.declared.dialect.Dialect.{Dialect}
 use Rattle.js_upgrade.specs.declared.holding.SchemaHolding.{SchemaHolding}
 use Rattle.js_upgrade.specs.declared.holding.SchemaHolding.TheVariants.{One}

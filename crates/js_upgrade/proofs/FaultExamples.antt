@@ -5,12 +5,11 @@ use Rattle.std.specs.Str.{chars, is_utf8}
 use lib.Utf8.{encode}
 use Rattle.percent_encoding.specs.AsciiSet.{should_percent_encode}
 use Rattle.percent_encoding.specs.Percent.{percent_decode, percent_encode, percent_encode_byte}
-use Rattle.url.specs.Input.{rsplit_once, split_once, strip_tabs_and_new_lines, trim_c0_control_and_space}
-use Rattle.url.specs.Parser.{leading_slashes, parse_body, parse_parts, parse_relative, parse_url, split_scheme}
-use Rattle.url.specs.Path.{dot_count, parse_segments, push_segment, shorten_path}
+use Rattle.url.specs.Input.{split_once, strip_tabs_and_new_lines, trim_c0_control_and_space}
+use Rattle.url.specs.Parser.{parse_parts, parse_url, split_scheme}
 use Rattle.url.specs.Scheme.{default_port, scheme_len, scheme_type}
 use Rattle.js_doc.specs.Pointer.{Tokens}
-use Rattle.js_doc.specs.Value.{Value, null, text, Text, Named}
+use Rattle.js_doc.specs.Value.{null, text, Text, Named}
 use Rattle.js_upgrade.specs.Dialect.{version_named}
 use Rattle.js_upgrade.specs.Fault.{FoundFault, FaultKind, first_fault, source_fault}
 use Rattle.js_upgrade.specs.Keyword.{core_change, applicator_change, assertion_change}
@@ -20,7 +19,7 @@ use Rattle.js_upgrade.specs.declared.fault.Pass.TheVariants.{Names, References, 
 use Rattle.js_upgrade.specs.declared.fault.UpgradeFaultKind.TheVariants.{BadKeyword, DuplicateUri, UnknownDialect}
 use Rattle.js_upgrade.specs.declared.fault.UpgradeFaultKind.TheVariants.{BadReference, Unresolved}
 use Rattle.js_upgrade.proofs.DocumentExamples.{refers, source}
-use Rattle.js_upgrade.proofs.Examples.{is_null, obj}
+use Rattle.js_upgrade.proofs.Examples.{obj}
 
 abbrev found : Tokens → FaultKind → FoundFault
 found place kind = record { place = place; kind = kind }

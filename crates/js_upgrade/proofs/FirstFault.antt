@@ -13,6 +13,7 @@ use Rattle.js_upgrade.specs.Fault.{FoundFault, deeper, fault_in, member_fault, s
 use Rattle.js_upgrade.specs.Resource.{Resource, own_base}
 use Rattle.js_upgrade.specs.Seen.{found_of}
 use Rattle.js_upgrade.specs.Upgrade.{holding_in, own_dialect}
+use Rattle.js_upgrade.specs.code.FaultBelow.{fault_below}
 use Rattle.js_upgrade.specs.declared.dialect.Dialect.{Dialect}
 use Rattle.js_upgrade.specs.declared.fault.Pass.{Pass}
 use Rattle.js_upgrade.specs.declared.finding.FoundFault as rust
@@ -48,33 +49,29 @@ not_here : (here : Option rust.FoundFault) (f rest : Option FoundFault) → opti
 not_here None f rest is none = ap (λ g. first_of g rest) (sym is)
 not_here (Some r) f rest is none = absurd (cc)
 
-module _ (pass : Pass) (all : List Resource) (d : Dialect) (base : Parts) (siblings : Named) where
-  abbrev pub keywords_fault : Dialect → Parts → Option FoundFault
-  keywords_fault own below = member_fault pass all (holding_in own siblings) own below (members siblings)
+module _ (pass : Pass) (all : List Resource) (d own : Dialect) (base below : Parts) (siblings : Named) where
+  abbrev rest_of_them : Option FoundFault
+  rest_of_them = member_fault pass all (holding_in own siblings) own below (members siblings)
 
-  abbrev below_them : Option FoundFault
-  below_them =
-      let own = own_dialect d siblings in keywords_fault own (own_base own base siblings)
+  pub schema_stops : (here : Option rust.FoundFault)
+      → option_map found_of here ≡ schema_fault pass all d own base below siblings
+      → is_some here ≡ true → option_map found_of here ≡ fault_below pass all d own base below siblings
+  schema_stops here is some = here_found here (schema_fault pass all d own base below siblings) rest_of_them is some
 
-  schema_is : first_of (schema_fault pass all d base siblings) below_them
-      ≡ fault_in pass all One d base (object (members siblings))
-  schema_is =
-      ap (λ ns. let own = own_dialect d ns in
-      first_of (schema_fault pass all d base ns)
-      (member_fault pass all (holding_in own ns) own (own_base own base ns) (members siblings)))
+  pub schema_goes_on : (here : Option rust.FoundFault)
+      → option_map found_of here ≡ schema_fault pass all d own base below siblings → is_some here ≡ false
+      → rest_of_them ≡ fault_below pass all d own base below siblings
+  schema_goes_on here is none =
+      sym (not_here here (schema_fault pass all d own base below siblings) rest_of_them is none)
+
+  pub schema_is : own ≡ own_dialect d siblings → below ≡ own_base own base siblings
+      → fault_below pass all d own base below siblings ≡ fault_in pass all One d base (object (members siblings))
+  schema_is same based =
+      ap (λ b. fault_below pass all d own base b siblings) based
+      ∙ ap (λ e. fault_below pass all d e base (own_base e base siblings) siblings) same
+      ∙ ap (λ ns. let e = own_dialect d ns in let b = own_base e base ns in
+      first_of (schema_fault pass all d e base b ns) (member_fault pass all (holding_in e ns) e b (members siblings)))
       (sym (member_list-members siblings))
-
-  pub schema_stops : (here : Option rust.FoundFault) → option_map found_of here ≡ schema_fault pass all d base siblings
-      → is_some here ≡ true → option_map found_of here ≡ fault_in pass all One d base (object (members siblings))
-  schema_stops here is some = here_found here (schema_fault pass all d base siblings) below_them is some ∙ schema_is
-
-  pub schema_goes_on : (own : Dialect) (below : Parts) (here : Option rust.FoundFault)
-      → own ≡ own_dialect d siblings → below ≡ own_base own base siblings
-      → option_map found_of here ≡ schema_fault pass all d base siblings → is_some here ≡ false
-      → keywords_fault own below ≡ fault_in pass all One d base (object (members siblings))
-  schema_goes_on own below here same based is none =
-      ap (keywords_fault own) based ∙ ap (λ e. keywords_fault e (own_base e base siblings)) same
-      ∙ sym (not_here here (schema_fault pass all d base siblings) below_them is none) ∙ schema_is
 
 -- ---- members, one after the other, where g is the first fault in them
 

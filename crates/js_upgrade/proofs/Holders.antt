@@ -1,6 +1,6 @@
 -- Where keywords of a schema come from, when `contains` of 2019-09 goes into another.
 use Rattle.std.proofs.Common.{◌≡◌, List, [], ◌∷◌, Bool, true, false, not, ◌&&◌, Some, cond, refl, sym, ap, ◌∙◌}
-use Rattle.std.proofs.Common.{subst, codes, bytes_eq, is_some}
+use Rattle.std.proofs.Common.{codes, bytes_eq, is_some}
 use Rattle.std.proofs.lemmas.Bool.{and_parts}
 use Rattle.js_doc.specs.Members.{get, has_name}
 use Rattle.js_doc.specs.Value.{Value, Text, Named}
@@ -10,7 +10,7 @@ use Rattle.js_upgrade.specs.Schema.{change_of, holder, is_some_list}
 use Rattle.js_upgrade.specs.declared.dialect.Dialect.{Dialect}
 use Rattle.js_upgrade.specs.declared.keyword.Change.{Change}
 use Rattle.js_upgrade.specs.declared.keyword.Change.TheVariants.{Contains}
-use Rattle.js_upgrade.proofs.Origins.{all_apart, all_from, all_other, fits, is_apart, is_named, is_own, moves_by}
+use Rattle.js_upgrade.proofs.Origins.{all_apart, all_from, all_other, is_apart, is_named, is_own, moves_by}
 use Rattle.js_upgrade.proofs.Origins.{outputs, own_fits, stays_own}
 use Rattle.js_upgrade.proofs.PlainChanges.{is_plain}
 

@@ -19,11 +19,11 @@ use Rattle.js_upgrade.specs.declared.fault.Pass.TheVariants.{Names}
 
 -- ---- where there is no first one, there is none
 
-neither : {A : Type 0} (a b : Option A) → first_of a b ≡ None → (a ≡ None) × (b ≡ None)
+pub neither : {A : Type 0} (a b : Option A) → first_of a b ≡ None → (a ≡ None) × (b ≡ None)
 neither None b e = (refl, e)
 neither (Some x) b e = absurd (cc)
 
-unmapped : {A B : Type 0} (f : A → B) (a : Option A) → option_map f a ≡ None → a ≡ None
+pub unmapped : {A B : Type 0} (f : A → B) (a : Option A) → option_map f a ≡ None → a ≡ None
 unmapped f None e = refl
 unmapped f (Some x) e = absurd (cc)
 

@@ -8,17 +8,12 @@ use Rattle.js_doc.specs.Members.{get}
 use Rattle.js_doc.specs.Parts.{members_of}
 use Rattle.js_doc.specs.Seen.{value_of, pair_of}
 use Rattle.js_doc.specs.declared.doc.Doc.{Doc}
-use Rattle.js_doc.proofs.PartLists.{member_list-members}
 use Rattle.js_doc.proofs.Smaller.{item_smaller, member_smaller}
 use Rattle.js_upgrade.specs.Keyword.{change_in}
 use Rattle.js_upgrade.specs.Schema.{beside_reference, change_of, gathered_members, hides, is_true, put_all}
 use Rattle.js_upgrade.specs.Schema.{required_names}
-use Rattle.js_upgrade.specs.Upgrade.{holding_in, keywords_upgraded, members_upgraded}
-use Rattle.js_upgrade.specs.Upgrade.{own_dialect, upgraded}
 use Rattle.js_upgrade.specs.declared.dialect.Dialect.{Dialect}
-use Rattle.js_upgrade.specs.declared.holding.SchemaHolding.{SchemaHolding}
 use Rattle.js_upgrade.specs.declared.keyword.Change.{Change}
-use Rattle.js_upgrade.specs.declared.holding.SchemaHolding.TheVariants.{One}
 
 abbrev pub Pairs : Type 0
 Pairs = List (List ℕ × Doc)
@@ -49,16 +44,23 @@ pub next_item_smaller : (ds : List Doc) (vs : Values) (i : ℕ) {x : Doc} → ma
     → i < length ds → depth (value_of x) < depth (list (items vs))
 next_item_smaller ds vs i {x} seen is low = item_smaller ds vs i x x seen low (sym is)
 
--- one member more is among the keywords
-pub gathered_next : (f : Text → Value → Named) (held : Text → SchemaHolding) (d : Dialect) (old left : Pairs)
-    (m : List ℕ × Doc) (among new whole : Named) → old ≡ m ∷ left
-    → new ≡ put_all (f m.0 (upgraded (held m.0) d (value_of m.1))) among
-    → gathered_members f (members_upgraded held d (members (map pair_of old))) among ≡ whole
-    → gathered_members f (members_upgraded held d (members (map pair_of left))) new ≡ whole
-gathered_next f held d old left m among new whole step put before =
-    let rest = members_upgraded held d (members (map pair_of left)) in
-    ap (gathered_members f rest) put
-    ∙ sym (ap (λ es. gathered_members f (members_upgraded held d (members (map pair_of es))) among) step) ∙ before
+-- members are gathered one after the other, where g is what they become and f what each of those makes
+module _ (f : Text → Value → Named) (g : Named → Named) (old : Pairs) (out whole : Named) where
+  -- one more
+  pub gathered_next : (w : Value) (left : Pairs) (m : List ℕ × Doc) (new : Named)
+      → g (pair_of m ∷ map pair_of left) ≡ (m.0, w) ∷ g (map pair_of left) → old ≡ m ∷ left
+      → new ≡ put_all (f m.0 w) out → gathered_members f (g (map pair_of old)) out ≡ whole
+      → gathered_members f (g (map pair_of left)) new ≡ whole
+  gathered_next w left m new unfolds step put before =
+      ap (gathered_members f (g (map pair_of left))) put
+      ∙ sym (ap (λ es. gathered_members f (g (map pair_of es)) out) step
+      ∙ ap (λ ns. gathered_members f ns out) unfolds) ∙ before
+
+  -- none is left
+  pub gathered_end : g [] ≡ [] → old ≡ [] → gathered_members f (g (map pair_of old)) out ≡ whole → out ≡ whole
+  gathered_end unfolds none before =
+      sym (ap (λ es. gathered_members f (g (map pair_of es)) out) none
+      ∙ ap (λ ns. gathered_members f ns out) unfolds) ∙ before
 
 -- what becomes of a keyword, where it is known whether a reference hides it
 pub change_known : (d : Dialect) (siblings : Named) (hidden : Bool) (name key : Text) (change : Change)
@@ -67,16 +69,6 @@ pub change_known : (d : Dialect) (siblings : Named) (hidden : Bool) (name key : 
 change_known d siblings hidden name key change known same is =
     is ∙ ap (λ b. cond b (beside_reference (change_in d key)) (change_in d key)) known
     ∙ ap (change_of d siblings) same
-
--- so a schema's keywords are what the definition says
-pub schema_is : (d own : Dialect) (siblings out : Named) → own ≡ own_dialect d siblings
-    → out ≡ keywords_upgraded own siblings (members_upgraded (holding_in own siblings) own (members siblings))
-    → object (members out) ≡ upgraded One d (object (members siblings))
-schema_is d own siblings out same is =
-    let keywords = λ (e : Dialect) (ms : Named). object (members (keywords_upgraded e ms
-    (members_upgraded (holding_in e ms) e (members siblings)))) in
-    ap (λ ms. object (members ms)) is ∙ ap (λ e. keywords e siblings) same
-    ∙ ap (λ ms. keywords (own_dialect d ms) ms) (sym (member_list-members siblings))
 
 map_push : (es : List Doc) (e : Doc) → map value_of (es ++ e ∷ []) ≡ map value_of es ++ value_of e ∷ []
 map_push [] e = refl
@@ -110,13 +102,6 @@ required_next old left m out new whole step pushed before =
     ap (λ vs. vs ++ rest) pushed ∙ append_assoc out (required_names ((m.0, value_of m.1) ∷ [])) rest
     ∙ ap (λ vs. out ++ vs) (sym (required_first b (text m.0) rest))
     ∙ sym (ap (λ es. out ++ required_names (map pair_of es)) step) ∙ before
-
--- none is left
-pub gathered_end : (f : Text → Value → Named) (held : Text
-    → SchemaHolding) (d : Dialect) (old : Pairs) (among whole : Named)
-    → old ≡ [] → gathered_members f (members_upgraded held d (members (map pair_of old))) among ≡ whole → among ≡ whole
-gathered_end f held d old among whole none before =
-    sym (ap (λ es. gathered_members f (members_upgraded held d (members (map pair_of es))) among) none) ∙ before
 
 pub all_seen : {pairs all : Pairs} {ms : Named} → map pair_of pairs ≡ ms → all ≡ pairs → map pair_of all ≡ ms
 all_seen seen same = ap (map pair_of) same ∙ seen

@@ -1,9 +1,8 @@
 -- Where parts of upgraded schemas come from.
-use Rattle.std.proofs.Common.{◌≡◌, [], ◌∷◌, Some, None, codes, refl, true}
+use Rattle.std.proofs.Common.{◌≡◌, [], ◌∷◌, Some, codes, refl, true}
 use Rattle.std.specs.Fmt.{digits}
 use Rattle.js_doc.specs.Pointer.{Tokens}
 use Rattle.js_doc.specs.Value.{text, truth, Named}
-use Rattle.js_upgrade.specs.Dialect.{version_named}
 use Rattle.js_upgrade.specs.Keyword.{core_change, applicator_change, assertion_change}
 use Rattle.js_upgrade.specs.Originals.{original_in}
 use Rattle.js_upgrade.specs.declared.dialect.Dialect.{Dialect}

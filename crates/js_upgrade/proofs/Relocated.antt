@@ -1,6 +1,6 @@
--- What stays of a value when its references are rewritten: the order of its names, and its `$schema`.
-use Rattle.std.proofs.Common.{◌≡◌, List, [], ◌∷◌, Bool, true, false, Option, Some, None, cond, Ordering, Less, Equal}
-use Rattle.std.proofs.Common.{Greater, codes, refl, sym, ap, ◌∙◌}
+-- What stays of a value when its references are rewritten: the order of its names, and what has no schemas.
+use Rattle.std.proofs.Common.{◌≡◌, List, Bool, true, false, Option, Some, None, cond, Ordering, Less, Equal}
+use Rattle.std.proofs.Common.{Greater, codes, option_map, refl, sym, ap, ◌∙◌}
 use Rattle.std.specs.Ordering.{match_ordering}
 use Rattle.url.specs.Parts.{Parts}
 use Rattle.js_doc.specs.Members.{get, name_cmp, IsBelowFirst, NamesAscend, NamesAscendInItems, NamesAscendInMembers}
@@ -8,16 +8,13 @@ use Rattle.js_doc.specs.Parts.{member_list}
 use Rattle.js_doc.specs.Value.{Value, null, truth, whole, text, list, object, Items as ItemList, no_items, item, items}
 use Rattle.js_doc.specs.Value.{Members, no_members, member, members, Text, Named}
 use Rattle.js_doc.proofs.FiniteMaps.{name_equal}
-use Rattle.js_upgrade.specs.Keyword.{applicator_change, assertion_change, change_in, core_change}
 use Rattle.js_upgrade.specs.Reference.{argument_rewritten, as_it_is, items_relocated, members_relocated, recurses_at}
 use Rattle.js_upgrade.specs.Reference.{relocated, rewritten}
 use Rattle.js_upgrade.specs.Resource.{Resource, own_base, resource_named}
-use Rattle.js_upgrade.specs.Schema.{beside_reference, change_of, hides}
+use Rattle.js_upgrade.specs.Schema.{change_of, hides}
 use Rattle.js_upgrade.specs.Upgrade.{holding_in, holding_by_change, own_dialect}
 use Rattle.js_upgrade.specs.Url.{uri_printed}
 use Rattle.js_upgrade.specs.declared.dialect.Dialect.{Dialect}
-use Rattle.js_upgrade.specs.declared.dialect.Dialect.TheVariants.{Draft03, Draft04, Draft06}
-use Rattle.js_upgrade.specs.declared.dialect.Dialect.TheVariants.{Draft07, Draft2019, Draft2020}
 use Rattle.js_upgrade.specs.declared.keyword.Change.{Change}
 use Rattle.js_upgrade.specs.declared.keyword.Change.TheVariants.{Stays, Asserts, Refers}
 use Rattle.js_upgrade.specs.declared.keyword.Change.TheVariants.{HoldsOne, HoldsList, HoldsNamed}
@@ -28,6 +25,7 @@ use Rattle.js_upgrade.specs.declared.keyword.Change.TheVariants.{Contains, Recur
 use Rattle.js_upgrade.specs.declared.holding.SchemaHolding.{SchemaHolding}
 use Rattle.js_upgrade.specs.declared.holding.SchemaHolding.TheVariants.{One, Listed, Named as ByName, OneOrListed}
 use Rattle.js_upgrade.specs.declared.holding.SchemaHolding.TheVariants.{Nothing}
+use Rattle.js_upgrade.proofs.KeptArguments.{IsEverywhere, are_kept, is_nothing, is_plain, keeps, split}
 
 -- ---- names ascend
 
@@ -138,9 +136,9 @@ module _ (all : List Resource) where
       members_relocated_ascend held argument d base ms kept s.2,
     )
 
-  -- ---- `$schema` stays
+  -- ---- what has a name stays under it
 
-  nothing_relocated : (d : Dialect) (base : Parts) (v : Value) → relocated all Nothing d base v ≡ v
+  pub nothing_relocated : (d : Dialect) (base : Parts) (v : Value) → relocated all Nothing d base v ≡ v
   nothing_relocated d base null = refl
   nothing_relocated d base (truth b) = refl
   nothing_relocated d base (whole z) = refl
@@ -148,41 +146,25 @@ module _ (all : List Resource) where
   nothing_relocated d base (list vs) = refl
   nothing_relocated d base (object ms) = refl
 
-  abbrev ArgumentStays : Dialect → Parts → Value → Change → Type 0
-  ArgumentStays d base v change =
-      argument_rewritten all change base v (relocated all (holding_by_change change) d base v) ≡ v
-
-  schema_stays : (d : Dialect) (hidden : Bool) (base : Parts) (v : Value) → ArgumentStays d base v
-      (cond hidden (beside_reference (change_in d (codes "$schema"))) (change_in d (codes "$schema")))
-  unfolding core_change applicator_change assertion_change
-  schema_stays Draft03 true base v = nothing_relocated Draft03 base v
-  schema_stays Draft04 true base v = nothing_relocated Draft04 base v
-  schema_stays Draft06 true base v = nothing_relocated Draft06 base v
-  schema_stays Draft07 true base v = nothing_relocated Draft07 base v
-  schema_stays Draft2019 true base v = nothing_relocated Draft2019 base v
-  schema_stays Draft2020 true base v = nothing_relocated Draft2020 base v
-  schema_stays Draft03 false base v = nothing_relocated Draft03 base v
-  schema_stays Draft04 false base v = nothing_relocated Draft04 base v
-  schema_stays Draft06 false base v = nothing_relocated Draft06 base v
-  schema_stays Draft07 false base v = nothing_relocated Draft07 base v
-  schema_stays Draft2019 false base v = nothing_relocated Draft2019 base v
-  schema_stays Draft2020 false base v = nothing_relocated Draft2020 base v
-
   got_by : (k name : Text) (f : Text → Value → Value) (v : Value) (new old : Option Value) (o : Ordering)
-      → name_cmp k name ≡ o → f k v ≡ v → new ≡ old
-      → match_ordering o new (Some (f name v)) new ≡ match_ordering o old (Some v) old
-  got_by k name f v new old Less is stays same = same
-  got_by k name f v new old Equal is stays same = ap (λ n. Some (f n v)) (sym (name_equal k name is)) ∙ ap Some stays
-  got_by k name f v new old Greater is stays same = same
+      → name_cmp k name ≡ o → new ≡ option_map (f k) old
+      → match_ordering o new (Some (f name v)) new ≡ option_map (f k) (match_ordering o old (Some v) old)
+  got_by k name f v new old Less is same = same
+  got_by k name f v new old Equal is same = ap (λ n. Some (f n v)) (sym (name_equal k name is))
+  got_by k name f v new old Greater is same = same
 
   got : (held : Text → SchemaHolding) (argument : Text → Value → Value → Value) (d : Dialect) (base : Parts) (k : Text)
-      → ((v : Value) → argument k v (relocated all (held k) d base v) ≡ v) → (ms : Members)
-      → get k (members_relocated all held argument d base ms) ≡ get k (member_list ms)
-  got held argument d base k stays no_members = refl
-  got held argument d base k stays (member name v ms) =
+      (ms : Members) → get k (members_relocated all held argument d base ms)
+      ≡ option_map (λ v. argument k v (relocated all (held k) d base v)) (get k (member_list ms))
+  got held argument d base k no_members = refl
+  got held argument d base k (member name v ms) =
       got_by k name (λ n w. argument n w (relocated all (held n) d base w)) v
-      (get k (members_relocated all held argument d base ms)) (get k (member_list ms)) (name_cmp k name) refl (stays v)
-      (got held argument d base k stays ms)
+      (get k (members_relocated all held argument d base ms)) (get k (member_list ms)) (name_cmp k name) refl
+      (got held argument d base k ms)
+
+  -- an argument as it is relocated
+  abbrev pub argument_of : Change → Dialect → Parts → Value → Value
+  argument_of change d base v = argument_rewritten all change base v (relocated all (holding_by_change change) d base v)
 
   abbrev pub schema_members : Dialect → Parts → Members → Named
   schema_members d base ms =
@@ -191,11 +173,72 @@ module _ (all : List Resource) where
       members_relocated all (holding_in own (member_list ms))
       (λ name. argument_rewritten all (change_of own (member_list ms) name) below) own below ms
 
-  pub schema_got : (d : Dialect) (base : Parts) (ms : Members)
-      → get (codes "$schema") (schema_members d base ms) ≡ get (codes "$schema") (member_list ms)
-  schema_got d base ms =
+  pub schema_got_as : (d : Dialect) (base : Parts) (ms : Members) (k : Text)
+      → get k (schema_members d base ms)
+      ≡ option_map (argument_of (change_of (own_dialect d (member_list ms)) (member_list ms) k)
+      (own_dialect d (member_list ms)) (own_base (own_dialect d (member_list ms)) base (member_list ms)))
+      (get k (member_list ms))
+  schema_got_as d base ms k =
       let own = own_dialect d (member_list ms) in
       let below = own_base own base (member_list ms) in
       got (holding_in own (member_list ms))
-      (λ name. argument_rewritten all (change_of own (member_list ms) name) below) own below (codes "$schema")
-      (λ v. schema_stays own (hides own (member_list ms)) below v) ms
+      (λ name. argument_rewritten all (change_of own (member_list ms) name) below) own below k ms
+
+  -- ---- an argument that has no schemas and is no reference stays
+
+  pub plain_argument : (change : Change) (d : Dialect) (base : Parts) (v : Value) → is_plain change ≡ true
+      → argument_of change d base v ≡ relocated all (holding_by_change change) d base v
+  plain_argument Stays d base v e = refl
+  plain_argument Asserts d base v e = refl
+  plain_argument HoldsOne d base v e = refl
+  plain_argument HoldsList d base v e = refl
+  plain_argument HoldsNamed d base v e = refl
+  plain_argument Goes d base v e = refl
+  plain_argument Identifier d base v e = refl
+  plain_argument Definitions d base v e = refl
+  plain_argument Items d base v e = refl
+  plain_argument AdditionalItems d base v e = refl
+  plain_argument Dependencies d base v e = refl
+  plain_argument Minimum d base v e = refl
+  plain_argument Maximum d base v e = refl
+  plain_argument Divisor d base v e = refl
+  plain_argument Types d base v e = refl
+  plain_argument Disallowed d base v e = refl
+  plain_argument Extended d base v e = refl
+  plain_argument Properties d base v e = refl
+  plain_argument Contains d base v e = refl
+  plain_argument RecursiveAnchor d base v e = refl
+  plain_argument Refers d base v e = absurd (cc)
+  plain_argument RecursiveReference d base v e = absurd (cc)
+
+  nothing_held : (h : SchemaHolding) (d : Dialect) (base : Parts) (v : Value) → is_nothing h ≡ true
+      → relocated all h d base v ≡ v
+  nothing_held Nothing d base v e = nothing_relocated d base v
+  nothing_held One d base v e = absurd (cc)
+  nothing_held Listed d base v e = absurd (cc)
+  nothing_held ByName d base v e = absurd (cc)
+  nothing_held OneOrListed d base v e = absurd (cc)
+
+  pub kept : (change : Change) (d : Dialect) (base : Parts) (v : Value) → keeps change ≡ true
+      → argument_of change d base v ≡ v
+  kept change d base v e =
+      let parts = split (is_plain change) (is_nothing (holding_by_change change)) e in
+      plain_argument change d base v parts.0 ∙ nothing_held (holding_by_change change) d base v parts.1
+
+  unmapped : (f : Value → Value) → ((v : Value) → f v ≡ v) → (found : Option Value) → option_map f found ≡ found
+  unmapped f stays None = refl
+  unmapped f stays (Some v) = ap Some (stays v)
+
+  pub key_got : (k : Text) → IsEverywhere keeps k → (d : Dialect) (base : Parts) (ms : Members)
+      → get k (schema_members d base ms) ≡ get k (member_list ms)
+  key_got k everywhere d base ms =
+      let own = own_dialect d (member_list ms) in
+      let below = own_base own base (member_list ms) in
+      schema_got_as d base ms k
+      ∙ unmapped (argument_of (change_of own (member_list ms) k) own below)
+      (λ v. kept (change_of own (member_list ms) k) own below v (everywhere own (hides own (member_list ms))))
+      (get k (member_list ms))
+
+  pub schema_got : (d : Dialect) (base : Parts) (ms : Members)
+      → get (codes "$schema") (schema_members d base ms) ≡ get (codes "$schema") (member_list ms)
+  schema_got d base ms = key_got (codes "$schema") are_kept.schema d base ms

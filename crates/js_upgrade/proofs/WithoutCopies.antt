@@ -1,21 +1,21 @@
 -- What holds of the copies at the start, and goes on to hold with each copy more, holds of all of them. Documents of
 -- 2020-12 have none.
 use Rattle.std.proofs.Common.{◌≡◌, ℕ, ◌/◌, List, [], ◌∷◌, ◌++◌, Bool, true, false, Option, Some, None, cond, map}
-use Rattle.std.proofs.Common.{zero, suc, option_and_then, option_map, slice_get, unwrap_or, refl, sym, ap, ap₂, ◌∙◌}
+use Rattle.std.proofs.Common.{zero, suc, option_and_then, option_map, slice_get, unwrap_or, refl, ap, ap₂, ◌∙◌}
 use Rattle.std.proofs.Common.{subst, codes}
 use Rattle.std.specs.List.{AllByRecursion, after_first, list_all}
 use Rattle.url.specs.Parts.{Parts}
 use Rattle.js_doc.specs.Members.{get}
-use Rattle.js_doc.specs.Parts.{member_list, members_of}
+use Rattle.js_doc.specs.Parts.{member_list}
 use Rattle.js_doc.specs.Pointer.{Tokens, pointer_text}
 use Rattle.js_doc.specs.Value.{Value, null, truth, whole, text, list, object, Items, no_items, item, Members}
-use Rattle.js_doc.specs.Value.{no_members, member, Text, Named}
+use Rattle.js_doc.specs.Value.{no_members, member, Text}
 use Rattle.js_upgrade.specs.Apart.{apart, copy_of, definitions_of, if_schema, under_name, takes_copies}
-use Rattle.js_upgrade.specs.Copies.{Copies, all_copied, copied_at, copied_by, copied_for, copied_for_text}
+use Rattle.js_upgrade.specs.Copies.{Copies, all_copied, copied_at, copied_by, copied_for}
 use Rattle.js_upgrade.specs.Copies.{copied_for_uri, copied_in, copies_of, document_roots, items_copied, members_copied}
-use Rattle.js_upgrade.specs.Copies.{no_copies, root_base, root_numbered, roots_of, source_with, sources_copied}
+use Rattle.js_upgrade.specs.Copies.{no_copies, root_numbered, sources_copied}
 use Rattle.js_upgrade.specs.Copies.{sources_with, with_copy}
-use Rattle.js_upgrade.specs.CopyName.{at_copy, copied_name, free_name, if_there, is_rooted, kept_name, redirected}
+use Rattle.js_upgrade.specs.CopyName.{at_copy, free_name, if_there, is_rooted, kept_name, redirected}
 use Rattle.js_upgrade.specs.Dialect.{first_of}
 use Rattle.js_upgrade.specs.Documents.{all_resources, all_upgraded, are_known, each_upgraded, source_resources}
 use Rattle.js_upgrade.specs.Documents.{upgraded_among, upgraded_with}

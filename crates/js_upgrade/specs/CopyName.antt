@@ -1,7 +1,7 @@
 -- The name of a copy among the definitions of its document. What stands under `$defs`, which a draft before 2019-09
 -- doesn't know, keeps its name if the definitions don't have it; else the name is the text of the JSON Pointer. A kept
 -- name doesn't begin with `/`, so two copies have two names.
-use Rattle.std.specs.Prelude.{List, [], ◌∷◌, ◌++◌, Bool, false, not, ◌&&◌, ◌==◌, Option, Some, None, bytes_eq, codes}
+use Rattle.std.specs.Prelude.{[], ◌∷◌, ◌++◌, Bool, false, not, ◌&&◌, ◌==◌, Option, Some, None, bytes_eq, codes}
 use Rattle.std.specs.Prelude.{option_and_then, if◌then◌else◌}
 use Rattle.js_doc.specs.Members.{has_name}
 use Rattle.js_doc.specs.Pointer.{Tokens, pointer_text}

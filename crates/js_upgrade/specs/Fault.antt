@@ -29,7 +29,7 @@ use Rattle.js_upgrade.specs.declared.fault.UpgradeFaultKind.TheVariants.{Memory,
 use Rattle.js_upgrade.specs.declared.fault.UpgradeFaultKind.TheVariants.{BadKeyword, UriTooLong, BadId, DuplicateUri}
 use Rattle.js_upgrade.specs.declared.fault.UpgradeFaultKind.TheVariants.{BadReference, Unresolved}
 use Rattle.js_upgrade.specs.declared.fault.Pass.{Pass}
-use Rattle.js_upgrade.specs.declared.fault.Pass.TheVariants.{Names, References, Unevaluated, Contained}
+use Rattle.js_upgrade.specs.declared.fault.Pass.TheVariants.{Names, References, Unevaluated, Contained, AnyOfThese}
 use Rattle.js_upgrade.specs.declared.fault.Stop.{Stop}
 use Rattle.js_upgrade.specs.declared.fault.Stop.TheVariants as stop
 use Rattle.js_upgrade.specs.declared.holding.SchemaHolding.{SchemaHolding}
@@ -160,19 +160,28 @@ other_fault all own siblings =
     (first_of (at_keyword (codes "contains") (contains_kind own siblings))
     (at_keyword (codes "$dynamicAnchor") (anchor_kind all own siblings)))
 
--- `d` and `base` are those around the schema
-abbrev pub schema_fault : Pass → List Resource → Dialect → Parts → Named → Option FoundFault
-schema_fault Names all d base siblings =
+-- `d` and `base` are those around the schema, `own` and `below` its own
+abbrev pub name_fault : Dialect → Dialect → Parts → Named → Option FoundFault
+name_fault d own base siblings =
     first_of (at_keyword (codes "$schema") (declared_kind d siblings))
-    (at_keyword (identifier (own_dialect d siblings)) (own_kind (own_dialect d siblings) base siblings))
-schema_fault References all d base siblings =
-    first_of (at_keyword (codes "$ref")
-    (reference_kind all (own_base (own_dialect d siblings) base siblings) (get (codes "$ref") siblings)))
-    (other_fault all (own_dialect d siblings) siblings)
-schema_fault Unevaluated all d base siblings =
-    at_keyword (codes "unevaluatedItems") (unevaluated_kind (own_dialect d siblings) siblings)
-schema_fault Contained all d base siblings =
-    at_keyword (codes "contains") (contained_kind (own_dialect d siblings) siblings)
+    (at_keyword (identifier own) (own_kind own base siblings))
+
+abbrev pub reference_fault : List Resource → Dialect → Parts → Named → Option FoundFault
+reference_fault all own below siblings =
+    first_of (at_keyword (codes "$ref") (reference_kind all below (get (codes "$ref") siblings)))
+    (other_fault all own siblings)
+
+abbrev pub unevaluated_fault : Dialect → Named → Option FoundFault
+unevaluated_fault own siblings = at_keyword (codes "unevaluatedItems") (unevaluated_kind own siblings)
+
+abbrev pub schema_fault : Pass → List Resource → Dialect → Dialect → Parts → Parts → Named → Option FoundFault
+schema_fault Names all d own base below siblings = name_fault d own base siblings
+schema_fault References all d own base below siblings = reference_fault all own below siblings
+schema_fault Unevaluated all d own base below siblings = unevaluated_fault own siblings
+schema_fault Contained all d own base below siblings = at_keyword (codes "contains") (contained_kind own siblings)
+schema_fault AnyOfThese all d own base below siblings =
+    first_of (name_fault d own base siblings)
+    (first_of (reference_fault all own below siblings) (unevaluated_fault own siblings))
 
 -- ---- in a value that holds schemas
 
@@ -181,12 +190,14 @@ module _ (pass : Pass) (all : List Resource) where
     pub fault_in : SchemaHolding → Dialect → Parts → Value → Option FoundFault
     fault_in One d base (object ms) =
         let own = own_dialect d (member_list ms) in
-        first_of (schema_fault pass all d base (member_list ms))
-        (member_fault (holding_in own (member_list ms)) own (own_base own base (member_list ms)) ms)
+        let below = own_base own base (member_list ms) in
+        first_of (schema_fault pass all d own base below (member_list ms))
+        (member_fault (holding_in own (member_list ms)) own below ms)
     fault_in OneOrListed d base (object ms) =
         let own = own_dialect d (member_list ms) in
-        first_of (schema_fault pass all d base (member_list ms))
-        (member_fault (holding_in own (member_list ms)) own (own_base own base (member_list ms)) ms)
+        let below = own_base own base (member_list ms) in
+        first_of (schema_fault pass all d own base below (member_list ms))
+        (member_fault (holding_in own (member_list ms)) own below ms)
     fault_in ByName d base (object ms) = member_fault (λ name. One) d base ms
     fault_in Listed d base (list vs) = item_fault d base 0 vs
     fault_in OneOrListed d base (list vs) = item_fault d base 0 vs

@@ -1,12 +1,12 @@
 -- Where what stands in a value stands when the value is upgraded: token by token, by the same table.
-use Rattle.std.specs.Prelude.{List, [], ◌∷◌, ◌++◌, Bool, true, false, Option, Some, None, codes, decimal}
+use Rattle.std.specs.Prelude.{[], ◌∷◌, ◌++◌, Option, Some, None, codes}
 use Rattle.std.specs.Prelude.{option_and_then, option_map, if◌then◌else◌}
 use Rattle.std.specs.List.{list_any}
 use Rattle.js_doc.specs.Lookup.{part_named}
 use Rattle.js_doc.specs.Members.{get}
 use Rattle.js_doc.specs.Parts.{item_list, member_list}
 use Rattle.js_doc.specs.Pointer.{Tokens}
-use Rattle.js_doc.specs.Value.{Value, text, list, object, Items, no_items, item, Text, Named}
+use Rattle.js_doc.specs.Value.{Value, text, list, object, no_items, item, Text, Named}
 use Rattle.js_upgrade.specs.Schema.{change_of, holder, is_any, is_some_list, is_true}
 use Rattle.js_upgrade.specs.Upgrade.{holding_by_change, own_dialect}
 use Rattle.js_upgrade.specs.declared.dialect.Dialect.{Dialect}

@@ -1,5 +1,5 @@
 -- Where what stands in an upgraded value comes from in the value as it was: token by token, back by the same tables.
-use Rattle.std.specs.Prelude.{List, [], ◌∷◌, ◌++◌, Bool, ◌||◌, Option, Some, None, codes, bytes_eq}
+use Rattle.std.specs.Prelude.{[], ◌∷◌, ◌++◌, Bool, ◌||◌, Option, Some, None, codes, bytes_eq}
 use Rattle.std.specs.Prelude.{option_and_then, option_map, if◌then◌else◌}
 use Rattle.js_doc.specs.Lookup.{part_named}
 use Rattle.js_doc.specs.Members.{get}

@@ -1,7 +1,7 @@
 -- References, rewritten to where their targets stand now (draft-03, 5.28; JSON Reference, 3; draft-06 Core, 8; draft-07
 -- Core, 8.3; 2019-09 Core, 8.2.4; 2020-12 Core, 8.2.3). The URI of a reference stays; of its fragment, a pointer, each
 -- token becomes what stands in its place. A fragment that is a name stays.
-use Rattle.std.specs.Prelude.{List, [], ◌∷◌, ◌++◌, Bool, true, false, Option, Some, None, option_and_then}
+use Rattle.std.specs.Prelude.{List, [], ◌∷◌, ◌++◌, Bool, false, Option, Some, None}
 use Rattle.std.specs.Prelude.{bytes_eq, codes, if◌then◌else◌}
 use Rattle.std.specs.Cmp.Lexicographic.{pointwise}
 use Rattle.std.specs.List.{before_first}

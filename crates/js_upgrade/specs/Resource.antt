@@ -1,7 +1,7 @@
 -- The resources of documents: what a URI without a fragment names. A document is one under its URI; a schema with an
 -- identifier of its dialect is one under what the identifier gives, joined with the base above it (draft-03, 5.27;
 -- draft-04 Core, 7.2; draft-06 Core, 9.2; draft-07 Core, 8.2; 2019-09 Core, 8.2.2; 2020-12 Core, 8.2.1).
-use Rattle.std.specs.Prelude.{List, [], ◌∷◌, ◌++◌, Bool, false, Option, Some, None, option_and_then, option_map}
+use Rattle.std.specs.Prelude.{List, [], ◌∷◌, ◌++◌, Bool, false, Option, Some, None, option_map}
 use Rattle.std.specs.Prelude.{option_to_list}
 use Rattle.std.specs.Prelude.{unwrap_or, if◌then◌else◌, find, bytes_eq, codes}
 use Rattle.url.specs.Parts.{Parts}

@@ -1,7 +1,7 @@
 -- A document of an older draft as one of 2020-12: in each schema each keyword becomes what `Schema` says, when the
 -- schemas that it holds have been upgraded.
-use Rattle.std.specs.Prelude.{[], ◌∷◌, Bool, false, not, ◌&&◌, Option, Some, None, codes}
-use Rattle.std.specs.Prelude.{option_and_then, option_map, ◌==◌, if◌then◌else◌}
+use Rattle.std.specs.Prelude.{[], ◌∷◌, Bool, not, ◌&&◌, Option, Some, None, codes}
+use Rattle.std.specs.Prelude.{option_and_then, option_map, if◌then◌else◌}
 use Rattle.js_doc.specs.Value.{Value, text, list, object, Items, no_items, item, Members, no_members, member}
 use Rattle.js_doc.specs.Value.{Text, Values, Named, items, members}
 use Rattle.js_doc.specs.Members.{get, put}

@@ -1,9 +1,13 @@
 -- What only private functions speak of: no public clause cites it.
 pub mod Back
 pub mod Copied
+pub mod FaultBelow
 pub mod First
 pub mod HasSeen
-pub mod Lengths
+pub mod Initials
 pub mod Local
+pub mod Onward
+pub mod Placed
 pub mod Pushed
 pub mod Table
+pub mod UsualUri

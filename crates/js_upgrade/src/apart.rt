@@ -6,6 +6,7 @@ ghost use Rattle.js_doc.specs.Value.{Value};
 ghost use Rattle.js_upgrade.specs.Apart.{apart, if_schema, is_resource, holds_schema, onward};
 ghost use Rattle.js_upgrade.specs.Moved.{keyword_step, step};
 ghost use Rattle.js_upgrade.specs.Upgrade.{own_dialect};
+ghost use Rattle.js_upgrade.specs.code.Onward.{kept_on};
 ghost use Rattle.js_upgrade.specs.declared.holding.SchemaHolding.TheVariants.{One};
 
 use crate::dialect::Dialect;
@@ -63,17 +64,29 @@ fn onward(
     ensures { IfOk result (λ h. h ≡ onward (step held.holding held.dialect (value_of value.now) token.now
         (value_of part.now) rest.now) (value_of part.now) rest.now) }
 {
-    let below = held_below(held, value, token);
-    if !rest.is_empty() && is_resource(below.holding, below.dialect, part) {
-        return Ok(None);
-    }
     let mut out = Pointer::new(alloc);
     match push_step(alloc, &mut out, held, value, token, part, rest)? {
-        Some(_) => Ok(Some(below)),
-        None => Ok(Some(Held {
-            holding: SchemaHolding::Nothing,
+        Some(below) => Ok(kept_on(below, below.holding, part, rest)),
+        None => Ok(kept_on(
+            held_below(held, value, token),
+            SchemaHolding::Nothing,
+            part,
+            rest,
+        )),
+    }
+}
+
+// How the part is held on, unless there is more to come, in another resource.
+fn kept_on(below: Held, holding: SchemaHolding, part: &Doc, rest: &[Token]) -> Option<Held>
+    ensures { result ≡ kept_on below.holding below.dialect holding (value_of part.now) rest.now }
+{
+    if !rest.is_empty() && is_resource(below.holding, below.dialect, part) {
+        None
+    } else {
+        Some(Held {
+            holding,
             dialect: below.dialect,
-        })),
+        })
     }
 }
 

@@ -46,6 +46,20 @@ fn names_fault(
 ) -> Result<Option<UpgradeFault>, Memory>
     ensures { IfOk result (λ f. f ≡ names_fault (all_of resources.now) (map source_of sources.now)) }
 {
+    let any = documents_fault(alloc, Pass::AnyOfThese, resources, sources)?;
+    if any.is_none() {
+        return repeated_fault(alloc, sources);
+    }
+    pass_by_pass(alloc, resources, sources)
+}
+
+fn pass_by_pass(
+    alloc: Global,
+    resources: &ResourceTable<'_>,
+    sources: &[SourceDocument],
+) -> Result<Option<UpgradeFault>, Memory>
+    ensures { IfOk result (λ f. f ≡ names_fault (all_of resources.now) (map source_of sources.now)) }
+{
     match documents_fault(alloc, Pass::Names, resources, sources)? {
         Some(fault) => Ok(Some(fault)),
         None => uris_fault(alloc, resources, sources),

@@ -19,6 +19,7 @@ use crate::copying::copy_for;
 use crate::dialect::Dialect;
 use crate::documents::{SourceDocument, source_dialect};
 use crate::gathering::put_one;
+use crate::lookup::found;
 use crate::resource_table::{ResourceTable, table_of};
 use crate::resources::{Resource, identity, push_roots};
 use crate::schema::own_dialect;
@@ -166,7 +167,7 @@ fn copy_below(
         scope.entry.base.now (members siblings.now) (copied_for (all_of scope.entry.resources.now)
         scope.entry.base.now (get (codes "$ref") siblings.now) copies.old.items)) }
 {
-    copy_for(alloc, copies, scope, siblings.get("$ref"))?;
+    copy_for(alloc, copies, scope, found(siblings, "$ref"))?;
     copy_in_members(alloc, copies, scope, dialect, siblings)
 }
 

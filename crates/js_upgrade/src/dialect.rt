@@ -1,6 +1,7 @@
 //! The dialects, and the URIs that name them.
 ghost use Rattle.std.specs.Prelude.{◌≡◌, option_map};
 ghost use Rattle.js_upgrade.specs.Dialect.{after_prefix, dialect_named, is_before, draft_number, version_named};
+ghost use Rattle.js_upgrade.specs.code.UsualUri.{usual_uri};
 
 /// A draft of JSON Schema.
 #[derive(Clone, Copy, Debug, PartialEq, Eq)]
@@ -35,6 +36,20 @@ impl Dialect {
         ensures { result ≡ is_before self other }
     {
         self.draft_number() < other.draft_number()
+    }
+
+    /// The URI that most of its schemas have in `$schema`.
+    pub(crate) fn usual_uri(self) -> &'static str
+        ensures { result.now ≡ usual_uri self }
+    {
+        match self {
+            Dialect::Draft03 => "http://json-schema.org/draft-03/schema#",
+            Dialect::Draft04 => "http://json-schema.org/draft-04/schema#",
+            Dialect::Draft06 => "http://json-schema.org/draft-06/schema#",
+            Dialect::Draft07 => "http://json-schema.org/draft-07/schema#",
+            Dialect::Draft2019 => "https://json-schema.org/draft/2019-09/schema",
+            Dialect::Draft2020 => "https://json-schema.org/draft/2020-12/schema",
+        }
     }
 
     fn draft_number(self) -> u8

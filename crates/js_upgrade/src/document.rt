@@ -1,9 +1,11 @@
 //! A document, whose root names its dialect.
-ghost use Rattle.std.specs.Prelude.{◌≡◌, [], ◌∷◌, IfErr, IfOk, Some, codes, option_map};
+ghost use Rattle.std.specs.Prelude.{◌≡◌, [], ◌∷◌, IfErr, IfOk, Some, codes, option_map, if◌then◌else◌};
 ghost use Rattle.js_doc.specs.Seen.{value_of};
 ghost use Rattle.js_upgrade.specs.Fault.{dialect_kind, document_fault, root_kind, IsUpgradeFault, IsStoppedBy};
 ghost use Rattle.js_upgrade.specs.Upgrade.{dialect_found, document_dialect, document_upgraded, root_upgraded};
 ghost use Rattle.js_upgrade.specs.Upgrade.{schema_uri, with_schema_uri};
+ghost use Rattle.js_upgrade.specs.Dialect.{is_before};
+ghost use Rattle.js_upgrade.specs.declared.dialect.Dialect.TheVariants.{Draft2020};
 
 use crate::dialect::Dialect;
 use crate::fault::{Stop, UpgradeFault, UpgradeFaultKind, fault_of};
@@ -98,10 +100,21 @@ fn dialect_found(assumed: Dialect, found: Option<&Doc>) -> Option<Dialect>
     }
 }
 
-pub(crate) fn root_upgraded(alloc: Global, dialect: Dialect, root: &Doc) -> Result<Doc, Memory>
+fn root_upgraded(alloc: Global, dialect: Dialect, root: &Doc) -> Result<Doc, Memory>
     ensures { IfOk result (λ d. value_of d ≡ root_upgraded dialect (value_of root.now)) }
 {
     let value = upgraded(alloc, SchemaHolding::One, dialect, root)?;
+    declaring(alloc, dialect, value)
+}
+
+/// The upgraded root of a document of this dialect, with what it says of its dialect now.
+///
+/// # Errors
+/// `Memory`.
+pub(crate) fn declaring(alloc: Global, dialect: Dialect, value: Doc) -> Result<Doc, Memory>
+    ensures { IfOk result (λ d. value_of d
+        ≡ (if is_before dialect Draft2020 then with_schema_uri (value_of value) else value_of value)) }
+{
     if dialect.is_before(Dialect::Draft2020) {
         with_schema_uri(alloc, value)
     } else {

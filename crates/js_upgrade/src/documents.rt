@@ -11,15 +11,14 @@ ghost use Rattle.js_upgrade.specs.code.Table.{all_of};
 use crate::checking::fault_among;
 use crate::copies::{copies_at, copies_of, has_some, sources_with};
 use crate::dialect::Dialect;
-use crate::document::{document_dialect, root_upgraded};
+use crate::document::{declaring, document_dialect};
 use crate::fault::{Stop, UpgradeFault, fault_of};
-use crate::holding::SchemaHolding;
 use crate::recursion::{anchored, has_recursion};
-use crate::reference::relocated;
 use crate::resource_table::{ResourceTable, table_of};
 use crate::resources::{Resource, push_document_resources};
 use crate::scope::{Scope, number_here};
 use crate::uncopied::in_original;
+use crate::walking::upgraded_in;
 use js_doc::{Doc, Members, Memory};
 use std::alloc::Global;
 use url::Url;
@@ -156,8 +155,8 @@ fn upgraded_among(
                 base: &source.uri,
                 here: number_here(resources, &source.uri)?,
             };
-            let root = relocated(alloc, scope, SchemaHolding::One, dialect, &source.root)?;
-            let upgraded = root_upgraded(alloc, dialect, &root)?;
+            let root = upgraded_in(alloc, scope, dialect, &source.root)?;
+            let upgraded = declaring(alloc, dialect, root)?;
             anchored(alloc, has_recursion(dialect, &source.root), upgraded)
         }
         None => source.root.copy(alloc),

@@ -50,6 +50,8 @@ pub(crate) enum Pass {
     Unevaluated,
     /// `contains` of draft-06 and draft-07.
     Contained,
+    /// What the first three look for, in one go: mostly there is none.
+    AnyOfThese,
 }
 
 /// Why an upgrade stops.

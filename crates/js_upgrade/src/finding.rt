@@ -3,11 +3,12 @@ ghost use Rattle.std.specs.Prelude.{◌≡◌, IfOk, decimal, map, option_map};
 ghost use Rattle.js_doc.specs.Seen.{value_of};
 ghost use Rattle.js_doc.specs.Value.{items, members, object};
 ghost use Rattle.js_upgrade.specs.Fault.{at_keyword, deeper, fault_in, item_fault, member_fault, other_fault};
-ghost use Rattle.js_upgrade.specs.Fault.{schema_fault};
-ghost use Rattle.js_upgrade.specs.Resource.{own_base};
+ghost use Rattle.js_upgrade.specs.Fault.{name_fault, reference_fault, schema_fault, unevaluated_fault};
 ghost use Rattle.js_upgrade.specs.Seen.{found_of};
-ghost use Rattle.js_upgrade.specs.Upgrade.{holding_in, own_dialect};
+ghost use Rattle.js_upgrade.specs.Upgrade.{holding_in};
+ghost use Rattle.js_upgrade.specs.code.FaultBelow.{fault_below};
 ghost use Rattle.js_upgrade.specs.code.Table.{all_of};
+ghost use Rattle.js_upgrade.specs.declared.fault.Pass.TheVariants.{AnyOfThese};
 ghost use Rattle.js_upgrade.specs.declared.holding.SchemaHolding.TheVariants.{One};
 
 use crate::dialect::Dialect;
@@ -17,6 +18,7 @@ use crate::kinds::{
     anchor_kind, contained_kind, contains_kind, declared_kind, own_kind, recursive_kind,
     reference_kind, unevaluated_kind,
 };
+use crate::lookup::found;
 use crate::resource_table::ResourceTable;
 use crate::resources::identity;
 use crate::schema::{change_beside, hides, identifier, own_dialect};
@@ -85,41 +87,91 @@ fn deeper_at(
     deeper_by(found, token.as_str())
 }
 
-// Of the schema itself, whose own base is that of the scope.
+// Of the schema itself. Its own base is that of the scope.
 fn schema_fault(
     alloc: Global,
     pass: Pass,
     scope: Scope<'_>,
     dialect: Dialect,
+    own: Dialect,
     base: &Url,
     siblings: &Members,
 ) -> Result<Option<FoundFault>, Memory>
-    requires { scope.base.now ≡ own_base (own_dialect dialect siblings.now) base.now siblings.now }
-    ensures { IfOk result (λ f. option_map found_of f
-        ≡ schema_fault pass (all_of scope.entry.resources.now) dialect base.now siblings.now) }
+    ensures { IfOk result (λ f. option_map found_of f ≡ schema_fault pass (all_of scope.entry.resources.now)
+        dialect own base.now scope.entry.base.now siblings.now) }
 {
-    let own = own_dialect(dialect, siblings);
     match pass {
-        Pass::Names => {
-            let declared = at_keyword(alloc, "$schema", declared_kind(dialect, siblings))?;
-            if declared.is_some() {
-                return Ok(declared);
-            }
-            at_keyword(alloc, identifier(own), own_kind(own, base, siblings)?)
-        }
-        Pass::References => {
-            let kind = reference_kind(alloc, scope, siblings.get("$ref"))?;
-            let found = at_keyword(alloc, "$ref", kind)?;
-            if found.is_some() {
-                return Ok(found);
-            }
-            other_fault(alloc, scope.resources, own, siblings)
-        }
-        Pass::Unevaluated => {
-            at_keyword(alloc, "unevaluatedItems", unevaluated_kind(own, siblings))
-        }
+        Pass::Names => name_fault(alloc, dialect, own, base, siblings),
+        Pass::References => reference_fault(alloc, scope, own, siblings),
+        Pass::Unevaluated => unevaluated_fault(alloc, own, siblings),
         Pass::Contained => at_keyword(alloc, "contains", contained_kind(own, siblings)),
+        Pass::AnyOfThese => any_fault(alloc, scope, dialect, own, base, siblings),
     }
+}
+
+fn any_fault(
+    alloc: Global,
+    scope: Scope<'_>,
+    dialect: Dialect,
+    own: Dialect,
+    base: &Url,
+    siblings: &Members,
+) -> Result<Option<FoundFault>, Memory>
+    ensures { IfOk result (λ f. option_map found_of f ≡ schema_fault AnyOfThese (all_of scope.entry.resources.now)
+        dialect own base.now scope.entry.base.now siblings.now) }
+{
+    let name = name_fault(alloc, dialect, own, base, siblings)?;
+    if name.is_some() {
+        return Ok(name);
+    }
+    let reference = reference_fault(alloc, scope, own, siblings)?;
+    if reference.is_some() {
+        return Ok(reference);
+    }
+    unevaluated_fault(alloc, own, siblings)
+}
+
+fn name_fault(
+    alloc: Global,
+    dialect: Dialect,
+    own: Dialect,
+    base: &Url,
+    siblings: &Members,
+) -> Result<Option<FoundFault>, Memory>
+    ensures { IfOk result (λ f. option_map found_of f ≡ name_fault dialect own base.now siblings.now) }
+{
+    let declared = at_keyword(alloc, "$schema", declared_kind(dialect, siblings))?;
+    if declared.is_some() {
+        return Ok(declared);
+    }
+    at_keyword(alloc, identifier(own), own_kind(own, base, siblings)?)
+}
+
+fn reference_fault(
+    alloc: Global,
+    scope: Scope<'_>,
+    own: Dialect,
+    siblings: &Members,
+) -> Result<Option<FoundFault>, Memory>
+    ensures { IfOk result (λ f. option_map found_of f
+        ≡ reference_fault (all_of scope.entry.resources.now) own scope.entry.base.now siblings.now) }
+{
+    let kind = reference_kind(alloc, scope, found(siblings, "$ref"))?;
+    let found = at_keyword(alloc, "$ref", kind)?;
+    if found.is_some() {
+        return Ok(found);
+    }
+    other_fault(alloc, scope.resources, own, siblings)
+}
+
+fn unevaluated_fault(
+    alloc: Global,
+    own: Dialect,
+    siblings: &Members,
+) -> Result<Option<FoundFault>, Memory>
+    ensures { IfOk result (λ f. option_map found_of f ≡ unevaluated_fault own siblings.now) }
+{
+    at_keyword(alloc, "unevaluatedItems", unevaluated_kind(own, siblings))
 }
 
 // Of what isn't `$ref`, in a schema of this dialect.
@@ -202,9 +254,9 @@ fn fault_in_schema(
                 base: &below,
                 here: number_here(scope.resources, &below)?,
             };
-            fault_below(alloc, pass, inner, dialect, scope.base, siblings)
+            fault_below(alloc, pass, inner, dialect, own, scope.base, siblings)
         }
-        None => fault_below(alloc, pass, scope, dialect, scope.base, siblings),
+        None => fault_below(alloc, pass, scope, dialect, own, scope.base, siblings),
     }
 }
 
@@ -215,18 +267,18 @@ fn fault_below(
     pass: Pass,
     scope: Scope<'_>,
     dialect: Dialect,
+    own: Dialect,
     base: &Url,
     siblings: &Members,
 ) -> Result<Option<FoundFault>, Memory>
-    requires { scope.base.now ≡ own_base (own_dialect dialect siblings.now) base.now siblings.now }
-    ensures { IfOk result (λ f. option_map found_of f
-        ≡ fault_in pass (all_of scope.entry.resources.now) One dialect base.now (object (members siblings.now))) }
+    ensures { IfOk result (λ f. option_map found_of f ≡ fault_below pass (all_of scope.entry.resources.now)
+        dialect own base.now scope.entry.base.now siblings.now) }
 {
-    let here = schema_fault(alloc, pass, scope, dialect, base, siblings)?;
+    let here = schema_fault(alloc, pass, scope, dialect, own, base, siblings)?;
     if here.is_some() {
         return Ok(here);
     }
-    fault_in_keywords(alloc, pass, scope, own_dialect(dialect, siblings), siblings)
+    fault_in_keywords(alloc, pass, scope, own, siblings)
 }
 
 #[cycle(faults)]

@@ -1,7 +1,7 @@
 //! What becomes of a keyword in 2020-12.
 ghost use Rattle.std.specs.Prelude.{◌≡◌};
 ghost use Rattle.js_upgrade.specs.Keyword.{change_in, in_2019, since, before};
-ghost use Rattle.js_upgrade.specs.code.Lengths.{change_by_length, is_between, is_from, is_up_to};
+ghost use Rattle.js_upgrade.specs.code.Initials.{change_among, initial, is_d, is_dollar, is_early, is_late, is_m, is_p};
 
 use crate::dialect::Dialect;
 
@@ -56,31 +56,45 @@ pub enum Change {
 
 /// What becomes of the keyword with this name in the dialect.
 ///
-/// The names are told apart by their lengths first: each keyword of each schema is looked up.
+/// The names are told apart by their first bytes first: each keyword of each schema is looked up.
 pub fn change_in(dialect: Dialect, name: &str) -> Change
     ensures { result ≡ change_in dialect name.now }
 {
-    let len = name.len();
-    if len <= 4 {
-        return up_to_4(dialect, name).unwrap_or(Change::Stays);
+    let first = initial(name);
+    if first == b'$' {
+        return with_dollar(dialect, name).unwrap_or(Change::Stays);
     }
-    if len <= 7 {
-        return from_5_to_7(dialect, name).unwrap_or(Change::Stays);
+    if first == b'd' {
+        return with_d(dialect, name).unwrap_or(Change::Stays);
     }
-    if len <= 10 {
-        return from_8_to_10(dialect, name).unwrap_or(Change::Stays);
+    if first == b'm' {
+        return with_m(dialect, name).unwrap_or(Change::Stays);
     }
-    if len <= 13 {
-        return from_11_to_13(dialect, name).unwrap_or(Change::Stays);
+    if first == b'p' {
+        return with_p(dialect, name).unwrap_or(Change::Stays);
     }
-    from_14_on(dialect, name).unwrap_or(Change::Stays)
+    if first < b'i' {
+        return with_early(dialect, name).unwrap_or(Change::Stays);
+    }
+    with_late(dialect, name).unwrap_or(Change::Stays)
 }
 
-#[tactic(auto, unfolding(crate::specs::code::Lengths::change_by_length))]
-fn up_to_4(dialect: Dialect, name: &str) -> Option<Change>
-    ensures { result ≡ change_by_length (is_up_to 4) dialect name.now }
+/// The first byte of a name, or 0.
+pub(crate) fn initial(name: &str) -> u8
+    ensures { result ≡ initial name.now }
+{
+    match name.as_bytes().split_first() {
+        Some((first, _)) => *first,
+        None => 0,
+    }
+}
+
+#[tactic(auto, unfolding(crate::specs::code::Initials::change_among))]
+fn with_dollar(dialect: Dialect, name: &str) -> Option<Change>
+    ensures { result ≡ change_among is_dollar dialect name.now }
 {
     match name {
+        "$ref" => Some(Change::Refers),
         "$id" => Some(before(
             dialect,
             Dialect::Draft06,
@@ -92,69 +106,25 @@ fn up_to_4(dialect: Dialect, name: &str) -> Option<Change>
                 Change::Asserts,
             ),
         )),
-        "id" => Some(before(dialect, Dialect::Draft06, Change::Identifier, Change::Stays)),
-        "$ref" => Some(Change::Refers),
-        "not" => Some(since(dialect, Dialect::Draft04, Change::HoldsOne)),
-        "if" | "then" | "else" => Some(since(dialect, Dialect::Draft07, Change::HoldsOne)),
-        "type" => Some(before(dialect, Dialect::Draft04, Change::Types, Change::Asserts)),
-        "enum" => Some(Change::Asserts),
-        _ => None,
-    }
-}
-
-#[tactic(auto, unfolding(crate::specs::code::Lengths::change_by_length))]
-fn from_5_to_7(dialect: Dialect, name: &str) -> Option<Change>
-    ensures { result ≡ change_by_length (is_between 5 7) dialect name.now }
-{
-    match name {
+        "$defs" => Some(since(dialect, Dialect::Draft2019, Change::HoldsNamed)),
         "$schema" => Some(since(dialect, Dialect::Draft2020, Change::Asserts)),
         "$anchor" => Some(since(dialect, Dialect::Draft2019, Change::Asserts)),
-        "$defs" => Some(since(dialect, Dialect::Draft2019, Change::HoldsNamed)),
-        "allOf" | "anyOf" | "oneOf" => Some(since(dialect, Dialect::Draft04, Change::HoldsList)),
-        "extends" => Some(before(dialect, Dialect::Draft04, Change::Extended, Change::Stays)),
-        "items" => Some(before(dialect, Dialect::Draft2020, Change::Items, Change::HoldsOne)),
-        "pattern" => Some(Change::Asserts),
-        "const" => Some(since(dialect, Dialect::Draft06, Change::Asserts)),
-        "maximum" => Some(before(dialect, Dialect::Draft06, Change::Maximum, Change::Asserts)),
-        "minimum" => Some(before(dialect, Dialect::Draft06, Change::Minimum, Change::Asserts)),
-        _ => None,
-    }
-}
-
-#[tactic(auto, unfolding(crate::specs::code::Lengths::change_by_length))]
-fn from_8_to_10(dialect: Dialect, name: &str) -> Option<Change>
-    ensures { result ≡ change_by_length (is_between 8 10) dialect name.now }
-{
-    match name {
-        "contains" => Some(since(
-            dialect,
-            Dialect::Draft06,
-            in_2019(dialect, Change::HoldsOne, Change::Contains),
-        )),
-        "properties" => Some(before(
-            dialect,
-            Dialect::Draft04,
-            Change::Properties,
-            Change::HoldsNamed,
-        )),
-        "disallow" => Some(before(dialect, Dialect::Draft04, Change::Disallowed, Change::Stays)),
-        "maxLength" | "minLength" | "maxItems" | "minItems" => Some(Change::Asserts),
-        "multipleOf" | "required" => Some(since(dialect, Dialect::Draft04, Change::Asserts)),
-        _ => None,
-    }
-}
-
-#[tactic(auto, unfolding(crate::specs::code::Lengths::change_by_length))]
-fn from_11_to_13(dialect: Dialect, name: &str) -> Option<Change>
-    ensures { result ≡ change_by_length (is_between 11 13) dialect name.now }
-{
-    match name {
-        "$vocabulary" | "$dynamicRef" | "maxContains" | "minContains" => Some(since(
+        "$vocabulary" | "$dynamicRef" | "$dynamicAnchor" => Some(since(
             dialect,
             Dialect::Draft2020,
             Change::Asserts,
         )),
         "$recursiveRef" => Some(in_2019(dialect, Change::Stays, Change::RecursiveReference)),
+        "$recursiveAnchor" => Some(in_2019(dialect, Change::Stays, Change::RecursiveAnchor)),
+        _ => None,
+    }
+}
+
+#[tactic(auto, unfolding(crate::specs::code::Initials::change_among))]
+fn with_d(dialect: Dialect, name: &str) -> Option<Change>
+    ensures { result ≡ change_among is_d dialect name.now }
+{
+    match name {
         "definitions" => Some(before(
             dialect,
             Dialect::Draft2019,
@@ -167,46 +137,104 @@ fn from_11_to_13(dialect: Dialect, name: &str) -> Option<Change>
             Change::Dependencies,
             Change::Stays,
         )),
-        "prefixItems" => Some(since(dialect, Dialect::Draft2020, Change::HoldsList)),
-        "propertyNames" => Some(since(dialect, Dialect::Draft06, Change::HoldsOne)),
-        "uniqueItems" => Some(Change::Asserts),
-        "maxProperties" | "minProperties" => Some(since(
-            dialect,
-            Dialect::Draft04,
-            Change::Asserts,
-        )),
+        "dependentSchemas" => Some(since(dialect, Dialect::Draft2019, Change::HoldsNamed)),
+        "dependentRequired" => Some(since(dialect, Dialect::Draft2019, Change::Asserts)),
+        "disallow" => Some(before(dialect, Dialect::Draft04, Change::Disallowed, Change::Stays)),
         "divisibleBy" => Some(before(dialect, Dialect::Draft04, Change::Divisor, Change::Stays)),
         _ => None,
     }
 }
 
-#[tactic(auto, unfolding(crate::specs::code::Lengths::change_by_length))]
-fn from_14_on(dialect: Dialect, name: &str) -> Option<Change>
-    ensures { result ≡ change_by_length (is_from 14) dialect name.now }
+#[tactic(auto, unfolding(crate::specs::code::Initials::change_among))]
+fn with_m(dialect: Dialect, name: &str) -> Option<Change>
+    ensures { result ≡ change_among is_m dialect name.now }
 {
     match name {
-        "$dynamicAnchor" => Some(since(dialect, Dialect::Draft2020, Change::Asserts)),
-        "$recursiveAnchor" => Some(in_2019(dialect, Change::Stays, Change::RecursiveAnchor)),
-        "dependentSchemas" => Some(since(dialect, Dialect::Draft2019, Change::HoldsNamed)),
+        "minimum" => Some(before(dialect, Dialect::Draft06, Change::Minimum, Change::Asserts)),
+        "maximum" => Some(before(dialect, Dialect::Draft06, Change::Maximum, Change::Asserts)),
+        "maxLength" | "minLength" | "maxItems" | "minItems" => Some(Change::Asserts),
+        "multipleOf" | "maxProperties" | "minProperties" => Some(since(
+            dialect,
+            Dialect::Draft04,
+            Change::Asserts,
+        )),
+        "maxContains" | "minContains" => {
+            Some(since(dialect, Dialect::Draft2020, Change::Asserts))
+        }
+        _ => None,
+    }
+}
+
+#[tactic(auto, unfolding(crate::specs::code::Initials::change_among))]
+fn with_p(dialect: Dialect, name: &str) -> Option<Change>
+    ensures { result ≡ change_among is_p dialect name.now }
+{
+    match name {
+        "properties" => Some(before(
+            dialect,
+            Dialect::Draft04,
+            Change::Properties,
+            Change::HoldsNamed,
+        )),
+        "pattern" => Some(Change::Asserts),
+        "patternProperties" => Some(Change::HoldsNamed),
+        "prefixItems" => Some(since(dialect, Dialect::Draft2020, Change::HoldsList)),
+        "propertyNames" => Some(since(dialect, Dialect::Draft06, Change::HoldsOne)),
+        _ => None,
+    }
+}
+
+// Those that begin with a letter from `a` to `h`.
+#[tactic(auto, unfolding(crate::specs::code::Initials::change_among))]
+fn with_early(dialect: Dialect, name: &str) -> Option<Change>
+    ensures { result ≡ change_among is_early dialect name.now }
+{
+    match name {
+        "enum" => Some(Change::Asserts),
+        "const" => Some(since(dialect, Dialect::Draft06, Change::Asserts)),
+        "additionalProperties" => Some(Change::HoldsOne),
+        "allOf" | "anyOf" => Some(since(dialect, Dialect::Draft04, Change::HoldsList)),
+        "else" => Some(since(dialect, Dialect::Draft07, Change::HoldsOne)),
+        "extends" => Some(before(dialect, Dialect::Draft04, Change::Extended, Change::Stays)),
+        "contains" => Some(since(
+            dialect,
+            Dialect::Draft06,
+            in_2019(dialect, Change::HoldsOne, Change::Contains),
+        )),
         "additionalItems" => Some(before(
             dialect,
             Dialect::Draft2020,
             Change::AdditionalItems,
             Change::Stays,
         )),
-        "patternProperties" => Some(Change::HoldsNamed),
-        "additionalProperties" => Some(Change::HoldsOne),
-        "unevaluatedItems" | "unevaluatedProperties" => Some(since(
-            dialect,
-            Dialect::Draft2019,
-            Change::HoldsOne,
-        )),
         "exclusiveMaximum" | "exclusiveMinimum" => Some(since(
             dialect,
             Dialect::Draft06,
             Change::Asserts,
         )),
-        "dependentRequired" => Some(since(dialect, Dialect::Draft2019, Change::Asserts)),
+        _ => None,
+    }
+}
+
+// Those that begin with a letter from `i` on.
+#[tactic(auto, unfolding(crate::specs::code::Initials::change_among))]
+fn with_late(dialect: Dialect, name: &str) -> Option<Change>
+    ensures { result ≡ change_among is_late dialect name.now }
+{
+    match name {
+        "type" => Some(before(dialect, Dialect::Draft04, Change::Types, Change::Asserts)),
+        "items" => Some(before(dialect, Dialect::Draft2020, Change::Items, Change::HoldsOne)),
+        "required" => Some(since(dialect, Dialect::Draft04, Change::Asserts)),
+        "oneOf" => Some(since(dialect, Dialect::Draft04, Change::HoldsList)),
+        "not" => Some(since(dialect, Dialect::Draft04, Change::HoldsOne)),
+        "if" | "then" => Some(since(dialect, Dialect::Draft07, Change::HoldsOne)),
+        "id" => Some(before(dialect, Dialect::Draft06, Change::Identifier, Change::Stays)),
+        "uniqueItems" => Some(Change::Asserts),
+        "unevaluatedItems" | "unevaluatedProperties" => Some(since(
+            dialect,
+            Dialect::Draft2019,
+            Change::HoldsOne,
+        )),
         _ => None,
     }
 }

@@ -13,6 +13,7 @@ ghost use Rattle.js_upgrade.specs.declared.fault.UpgradeFaultKind.TheVariants.{U
 use crate::containing::holder;
 use crate::dialect::Dialect;
 use crate::fault::UpgradeFaultKind;
+use crate::lookup::found;
 use crate::resource_table::{ResourceTable, resource_named, resource_numbered};
 use crate::resources::Resource;
 use crate::schema::{dialect_in, hides, identifier, identifies, is_uri};
@@ -31,7 +32,7 @@ pub(crate) fn declared_kind(dialect: Dialect, siblings: &Members) -> Option<Upgr
     ensures { result ≡ declared_kind dialect siblings.now }
 {
     if identifies(dialect, siblings) {
-        dialect_kind(siblings.get("$schema"))
+        dialect_kind(found(siblings, "$schema"))
     } else {
         None
     }
@@ -64,7 +65,7 @@ pub(crate) fn recursive_kind(own: Dialect, siblings: &Members) -> Option<Upgrade
     ensures { result ≡ recursive_kind own siblings.now }
 {
     match own {
-        Dialect::Draft2019 => recursion_kind(siblings.get("$recursiveRef")),
+        Dialect::Draft2019 => recursion_kind(found(siblings, "$recursiveRef")),
         _ => None,
     }
 }
@@ -105,7 +106,10 @@ pub(crate) fn contains_kind(own: Dialect, siblings: &Members) -> Option<UpgradeF
 pub(crate) fn unevaluated_kind(own: Dialect, siblings: &Members) -> Option<UpgradeFaultKind>
     ensures { result ≡ unevaluated_kind own siblings.now }
 {
-    if siblings.get("unevaluatedItems").is_some() && !own.is_before(Dialect::Draft2019) {
+    if own.is_before(Dialect::Draft2019) {
+        return None;
+    }
+    if siblings.get("unevaluatedItems").is_some() {
         Some(UpgradeFaultKind::BadKeyword)
     } else {
         None
@@ -139,7 +143,7 @@ pub(crate) fn anchor_kind(
 {
     match own {
         Dialect::Draft2020 => {
-            if has_recursive_name(siblings.get("$dynamicAnchor")) && resources.recursive {
+            if has_recursive_name(found(siblings, "$dynamicAnchor")) && resources.recursive {
                 Some(UpgradeFaultKind::BadKeyword)
             } else {
                 None
@@ -169,10 +173,14 @@ pub(crate) fn own_kind(
 ) -> Result<Option<UpgradeFaultKind>, Memory>
     ensures { IfOk result (λ k. k ≡ own_kind own base.now siblings.now) }
 {
+    let uri = found(siblings, identifier(own));
+    if uri.is_none() {
+        return Ok(None);
+    }
     if hides(own, siblings) {
         Ok(None)
     } else {
-        identifier_kind(base, siblings.get(identifier(own)))
+        identifier_kind(base, uri)
     }
 }
 

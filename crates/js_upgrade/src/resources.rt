@@ -13,6 +13,7 @@ ghost use Rattle.js_upgrade.specs.declared.holding.SchemaHolding.TheVariants.{On
 
 use crate::dialect::Dialect;
 use crate::holding::{SchemaHolding, holding_by_change};
+use crate::lookup::found;
 use crate::schema::{change_beside, hides, identifier, identifies, own_dialect};
 use crate::uri::{uri_joined, uri_printed, uri_without_fragment};
 use js_doc::{Doc, Items, Members, Memory};
@@ -288,7 +289,7 @@ pub(crate) fn identity(own: Dialect, base: &Url, siblings: &Members) -> Result<O
     ensures { IfOk result (λ u. u ≡ identity own base.now siblings.now) }
 {
     if identifies(own, siblings) {
-        joined_text(base, siblings.get(identifier(own)))
+        joined_text(base, found(siblings, identifier(own)))
     } else {
         Ok(None)
     }

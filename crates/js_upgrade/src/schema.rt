@@ -3,10 +3,12 @@ ghost use Rattle.std.specs.Prelude.{◌≡◌, option_map, if◌then◌else◌};
 ghost use Rattle.js_doc.specs.Seen.{value_of};
 ghost use Rattle.js_upgrade.specs.Keyword.{change_in};
 ghost use Rattle.js_upgrade.specs.Schema.{beside_reference, change_of, hides, is_identifier, is_uri};
-ghost use Rattle.js_upgrade.specs.Upgrade.{declared, dialect_in, identifier, identifies, own_dialect};
+ghost use Rattle.js_upgrade.specs.Upgrade.{dialect_in, dialect_or, identifier, identifies, own_dialect};
+ghost use Rattle.js_upgrade.specs.code.UsualUri.{has_usual_uri};
 
 use crate::dialect::Dialect;
 use crate::keyword::{Change, change_in};
+use crate::lookup::found;
 use js_doc::{Doc, Members};
 
 /// What becomes of a keyword among its siblings.
@@ -32,7 +34,7 @@ pub(crate) fn change_beside(hidden: bool, dialect: Dialect, name: &str) -> Chang
 pub(crate) fn hides(dialect: Dialect, siblings: &Members) -> bool
     ensures { result ≡ hides dialect siblings.now }
 {
-    dialect.is_before(Dialect::Draft2019) && siblings.get("$ref").is_some()
+    dialect.is_before(Dialect::Draft2019) && found(siblings, "$ref").is_some()
 }
 
 fn beside_reference(change: Change) -> Change
@@ -50,7 +52,20 @@ fn beside_reference(change: Change) -> Change
 pub fn own_dialect(dialect: Dialect, siblings: &Members) -> Dialect
     ensures { result ≡ own_dialect dialect siblings.now }
 {
-    match declared(siblings) {
+    match found(siblings, "$schema") {
+        Some(uri) => declared_dialect(dialect, siblings, uri),
+        None => dialect,
+    }
+}
+
+// Of a schema with this `$schema`. Most name the dialect around them: then it isn't asked where they count.
+fn declared_dialect(dialect: Dialect, siblings: &Members, uri: &Doc) -> Dialect
+    ensures { result ≡ dialect_or dialect siblings.now (dialect_in (value_of uri.now)) }
+{
+    if has_usual_uri(dialect, uri) {
+        return dialect;
+    }
+    match dialect_in(uri) {
         Some(own) => {
             if identifies(own, siblings) {
                 own
@@ -62,12 +77,13 @@ pub fn own_dialect(dialect: Dialect, siblings: &Members) -> Dialect
     }
 }
 
-fn declared(siblings: &Members) -> Option<Dialect>
-    ensures { result ≡ declared siblings.now }
+// Whether it is the URI that most schemas of the dialect have. Then it names the dialect.
+fn has_usual_uri(dialect: Dialect, uri: &Doc) -> bool
+    ensures { result ≡ has_usual_uri dialect (value_of uri.now) }
 {
-    match siblings.get("$schema") {
-        Some(uri) => dialect_in(uri),
-        None => None,
+    match uri {
+        Doc::Text(text) => text.as_str() == dialect.usual_uri(),
+        _ => false,
     }
 }
 
@@ -83,7 +99,7 @@ pub(crate) fn dialect_in(uri: &Doc) -> Option<Dialect>
 pub(crate) fn identifies(dialect: Dialect, siblings: &Members) -> bool
     ensures { result ≡ identifies dialect siblings.now }
 {
-    is_identifier(siblings.get(identifier(dialect))) && !hides(dialect, siblings)
+    is_identifier(found(siblings, identifier(dialect))) && !hides(dialect, siblings)
 }
 
 pub(crate) fn identifier(dialect: Dialect) -> &'static str

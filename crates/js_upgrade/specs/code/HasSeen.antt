@@ -1,5 +1,5 @@
 -- The texts that a set holds.
-use Rattle.std.specs.Prelude.{◌≡◌, ℕ, List, Bool, bytes_eq}
+use Rattle.std.specs.Prelude.{◌≡◌, List, Bool, bytes_eq}
 use denote.Ref.{Bor}
 use Rattle.std.specs.Cmp.Lexicographic.{slice_cmp}
 use Rattle.std.specs.List.{list_any}

@@ -1,16 +1,15 @@
-use Rattle.std.proofs.Common.{◌≡◌, ℕ, List, decimal, option_map, refl, sym, ap, ◌∙◌, arith}
+use Rattle.std.proofs.Common.{◌≡◌, ℕ, List, IfOk, decimal, option_map, unwrap_or, refl, sym, ap, ◌∙◌, arith, subst}
 use Rattle.std.proofs.lemmas.Result.{IfOk-weaker}
-use Rattle.js_doc.specs.Value.{Named, Values, items, members, object}
+use Rattle.js_doc.specs.Value.{Named, Values, items, members}
 use Rattle.js_doc.specs.Seen.{value_of}
 use Rattle.js_doc.specs.declared.doc.Doc.{Doc}
 use Rattle.js_upgrade.specs.Fault.{deeper, fault_in, item_fault, member_fault}
 use Rattle.js_upgrade.specs.Seen.{found_of}
-use Rattle.js_upgrade.specs.Resource.{own_base}
 use Rattle.js_upgrade.specs.Upgrade.{holding_in, holding_by_change}
 use Rattle.js_upgrade.specs.code.Table.{all_of}
 use Rattle.js_upgrade.specs.declared.holding.SchemaHolding.TheVariants.{One}
-use Rattle.js_upgrade.proofs.FirstFault.{item_next, item_stops, keywords_fault, member_next, member_stops}
-use Rattle.js_upgrade.proofs.FirstFault.{members_end, schema_goes_on, schema_stops}
+use Rattle.js_upgrade.proofs.FirstFault.{item_next, item_stops, member_next, member_stops, members_end}
+use Rattle.js_upgrade.proofs.FirstFault.{schema_goes_on, schema_is, schema_stops}
 use Rattle.js_upgrade.proofs.Loops.{all_seen, change_known, next_item_smaller, next_smaller, split_next}
 use Rattle.js_upgrade.proofs.finding.+faults.Goals as goal
 
@@ -155,21 +154,31 @@ fault_in_items-returns-then-is_some t c =
 
 pub fault_below-returns-then-is_some : goal.fault_below-returns-then-is_some
 fault_below-returns-then-is_some t c =
-    schema_stops c.args.pass (all_of c.args.scope.resources.now) c.args.dialect c.args.base.now
-    c.args.siblings.now c.in_ok-here.here c.in_ok-here.ensures (sym c.is_some.ensures ∙ c.if-is_some.true)
+    schema_stops c.args.pass (all_of c.args.scope.resources.now) c.args.dialect c.args.own c.args.base.now
+    c.args.scope.base.now c.args.siblings.now c.in_ok-here.here c.in_ok-here.ensures
+    (sym c.is_some.ensures ∙ c.if-is_some.true)
 
 pub fault_below-returns : goal.fault_below-returns
 fault_below-returns t c =
     let all = all_of c.args.scope.resources.now in
-    let d = c.args.dialect in
-    let own = c.own_dialect.result in
-    let base = c.args.base.now in
-    let below = c.args.scope.base.now in
     let siblings = c.args.siblings.now in
-    IfOk-weaker c.fault_in_keywords.result
-    (λ f. option_map found_of f ≡ keywords_fault c.args.pass all d base siblings own below)
-    (λ f. option_map found_of f ≡ fault_in c.args.pass all One d base (object (members siblings)))
-    (λ f is. is ∙ schema_goes_on c.args.pass all d base siblings own below c.in_ok-here.here
-    c.own_dialect.ensures (c.requires ∙ ap (λ e. own_base e base siblings) (sym c.own_dialect.ensures))
-    c.in_ok-here.ensures (sym c.is_some.ensures ∙ c.if-is_some.false))
-    c.fault_in_keywords.ensures
+    let same = schema_goes_on c.args.pass all c.args.dialect c.args.own c.args.base.now c.args.scope.base.now siblings
+    c.in_ok-here.here c.in_ok-here.ensures (sym c.is_some.ensures ∙ c.if-is_some.false) in
+    subst (λ f. IfOk c.fault_in_keywords.result (λ g. option_map found_of g ≡ f)) same c.fault_in_keywords.ensures
+
+pub fault_in_schema-returns-in_ok-number_here-in-Some : goal.fault_in_schema-returns-in_ok-number_here-in-Some
+fault_in_schema-returns-in_ok-number_here-in-Some t c =
+    let base = c.args.scope.base.now in
+    let same = schema_is c.args.pass (all_of c.args.scope.resources.now) c.args.dialect c.own_dialect-own.result base
+    c.in-Some.below c.args.siblings.now c.own_dialect-own.ensures
+    (ap (λ u. unwrap_or u base) (sym c.in-Some.is ∙ c.in_ok-found.ensures)) in
+    subst (λ f. IfOk c.fault_below.result (λ g. option_map found_of g ≡ f)) same c.fault_below.ensures
+
+pub fault_in_schema-returns-in-None : goal.fault_in_schema-returns-in-None
+fault_in_schema-returns-in-None t c =
+    let base = c.args.scope.base.now in
+    let same = schema_is c.args.pass (all_of c.args.scope.resources.now) c.args.dialect c.own_dialect-own.result base
+    base c.args.siblings.now c.own_dialect-own.ensures
+    (ap (λ u. unwrap_or u base) (sym c.in-None.is ∙ c.in_ok-found.ensures)) in
+    let call = c.fault_below-in-None in
+    subst (λ f. IfOk call.result (λ g. option_map found_of g ≡ f)) same call.ensures

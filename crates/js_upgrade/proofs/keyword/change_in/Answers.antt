@@ -1,31 +1,43 @@
-use Rattle.std.proofs.Common.{arith, length}
-use Rattle.js_upgrade.specs.code.Lengths.{is_between, is_from, is_up_to}
-use Rattle.js_upgrade.proofs.KeywordLengths.{answered, not_above, not_below, within}
+use Rattle.std.proofs.Common.{arith}
+use Rattle.js_upgrade.specs.code.Initials.{is_d, is_dollar, is_early, is_late, is_m, is_p}
+use Rattle.js_upgrade.proofs.KeywordInitials.{answered, begins, early, late}
 use Rattle.js_upgrade.proofs.keyword.change_in.Goals as goal
 
-pub returns-then-len-le4 : goal.returns-then-len-le4
-returns-then-len-le4 c =
-    answered (is_up_to 4) c.args.dialect c.args.name.now c.up_to_4.result _ c.unwrap_or.ensures c.up_to_4.ensures
-    (not_above (length c.args.name.now) 4 (omega arith))
+pub returns-then-first-eq36 : goal.returns-then-first-eq36
+returns-then-first-eq36 c =
+    let name = c.args.name.now in
+    answered is_dollar c.args.dialect name c.with_dollar.result _ c.unwrap_or.ensures c.with_dollar.ensures
+    (begins c.initial-first.result name c.initial-first.ensures 36 c.if-first-eq36.true)
 
-pub returns-then-len-le7 : goal.returns-then-len-le7
-returns-then-len-le7 c =
-    answered (is_between 5 7) c.args.dialect c.args.name.now c.from_5_to_7.result _ c.unwrap_or-then-len-le7.ensures
-    c.from_5_to_7.ensures (within (length c.args.name.now) 5 7 (omega arith) (omega arith))
+pub returns-then-first-eq100 : goal.returns-then-first-eq100
+returns-then-first-eq100 c =
+    let name = c.args.name.now in
+    answered is_d c.args.dialect name c.with_d.result _ c.unwrap_or-then-first-eq100.ensures c.with_d.ensures
+    (begins c.initial-first.result name c.initial-first.ensures 100 c.if-first-eq100.true)
 
-pub returns-then-len-le10 : goal.returns-then-len-le10
-returns-then-len-le10 c =
-    answered (is_between 8 10) c.args.dialect c.args.name.now c.from_8_to_10.result _
-    c.unwrap_or-then-len-le10.ensures c.from_8_to_10.ensures
-    (within (length c.args.name.now) 8 10 (omega arith) (omega arith))
+pub returns-then-first-eq109 : goal.returns-then-first-eq109
+returns-then-first-eq109 c =
+    let name = c.args.name.now in
+    answered is_m c.args.dialect name c.with_m.result _ c.unwrap_or-then-first-eq109.ensures c.with_m.ensures
+    (begins c.initial-first.result name c.initial-first.ensures 109 c.if-first-eq109.true)
 
-pub returns-then-len-le13 : goal.returns-then-len-le13
-returns-then-len-le13 c =
-    answered (is_between 11 13) c.args.dialect c.args.name.now c.from_11_to_13.result _
-    c.unwrap_or-then-len-le13.ensures c.from_11_to_13.ensures
-    (within (length c.args.name.now) 11 13 (omega arith) (omega arith))
+pub returns-then-first-eq112 : goal.returns-then-first-eq112
+returns-then-first-eq112 c =
+    let name = c.args.name.now in
+    answered is_p c.args.dialect name c.with_p.result _ c.unwrap_or-then-first-eq112.ensures c.with_p.ensures
+    (begins c.initial-first.result name c.initial-first.ensures 112 c.if-first-eq112.true)
+
+pub returns-then-first-lt105 : goal.returns-then-first-lt105
+returns-then-first-lt105 c =
+    let name = c.args.name.now in
+    answered is_early c.args.dialect name c.with_early.result _ c.unwrap_or-then-first-lt105.ensures
+    c.with_early.ensures
+    (early c.initial-first.result name c.initial-first.ensures c.if-first-eq36.false c.if-first-eq100.false
+    (omega arith))
 
 pub returns : goal.returns
 returns c =
-    answered (is_from 14) c.args.dialect c.args.name.now c.from_14_on.result _ c.unwrap_or-2.ensures
-    c.from_14_on.ensures (not_below (length c.args.name.now) 14 (omega arith))
+    let name = c.args.name.now in
+    answered is_late c.args.dialect name c.with_late.result _ c.unwrap_or-2.ensures c.with_late.ensures
+    (late c.initial-first.result name c.initial-first.ensures c.if-first-eq109.false c.if-first-eq112.false
+    (omega arith))

@@ -8,7 +8,7 @@ use Rattle.js_upgrade.specs.Seen.{resource_seen}
 use Rattle.js_upgrade.specs.Upgrade.{holding_in, holding_by_change}
 use Rattle.js_upgrade.specs.declared.holding.SchemaHolding.TheVariants.{One, OneOrListed}
 use Rattle.js_upgrade.proofs.Loops.{all_seen, change_known, next_item_smaller, next_smaller, split_next}
-use Rattle.js_upgrade.proofs.Relocating.{resources_end, resources_next, schema_resources_is}
+use Rattle.js_upgrade.proofs.ResourceLoops.{resources_end, resources_next, schema_resources_is}
 use Rattle.js_upgrade.proofs.resources.+resources.Goals as goal
 
 pub push_keyword_resources-push_resources-requires : goal.push_keyword_resources-push_resources-requires

@@ -1,7 +1,6 @@
 use Rattle.std.proofs.Common.{◌∷◌, IfOk, sym, ap, ◌∙◌, subst}
 use Rattle.js_doc.specs.Members.{get}
 use Rattle.js_doc.specs.Seen.{value_of}
-use Rattle.js_doc.specs.Value.{members}
 use Rattle.js_doc.proofs.PartLists.{member_list-members}
 use Rattle.js_upgrade.specs.Moved.{dependencies_under, dependent_under}
 use Rattle.js_upgrade.specs.code.Pushed.{IsPushed}

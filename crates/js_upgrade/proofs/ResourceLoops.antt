@@ -1,88 +1,22 @@
--- Loops over an object's members or over a list's items, whose references are rewritten, or whose resources are found.
+-- Loops over an object's members or over a list's items, whose resources are found.
 use Rattle.std.proofs.Common.{◌≡◌, ℕ, ◌+◌, ◌<◌, List, [], ◌∷◌, ◌++◌, Option, Some, None, map, get_or, length, drop}
-use Rattle.std.proofs.Common.{refl, sym, ap, ◌∙◌, append_assoc, unwrap_or}
+use Rattle.std.proofs.Common.{sym, ap, ◌∙◌, append_assoc, unwrap_or}
 use Rattle.std.proofs.lemmas.List.{append-nil, drop_more}
 use Rattle.url.specs.Parts.{Parts}
-use Rattle.js_doc.specs.Members.{IsAscending, IsBelowHead}
 use Rattle.js_doc.specs.Seen.{value_of, pair_of}
-use Rattle.js_doc.specs.Value.{Value, Text, Named, Values, object, members}
+use Rattle.js_doc.specs.Value.{Value, Named, Values, object, members}
 use Rattle.js_doc.specs.declared.doc.Doc.{Doc}
 use Rattle.js_doc.proofs.PartLists.{member_list-members}
-use Rattle.js_upgrade.specs.Reference.{argument_rewritten, members_relocated, relocated}
 use Rattle.js_upgrade.specs.Resource.{Resource, begun, identity, member_resources, own_base, resource_under, resources}
 use Rattle.js_upgrade.specs.Resource.{schema_resources}
-use Rattle.js_upgrade.specs.Schema.{change_of, gathered_members, one, put_all}
 use Rattle.js_upgrade.specs.Upgrade.{holding_in, own_dialect}
 use Rattle.js_upgrade.specs.declared.dialect.Dialect.{Dialect}
-use Rattle.js_upgrade.specs.declared.holding.SchemaHolding.{SchemaHolding}
 use Rattle.js_upgrade.specs.declared.holding.SchemaHolding.TheVariants.{One}
-use Rattle.js_upgrade.proofs.InOrder.{gathered_one}
 use Rattle.js_upgrade.proofs.Loops.{Pairs}
-
--- ---- members that are put one after the other, where g is what they become
-
-pub named_next : (g : Named → Named) (w : Value) (old left : Pairs) (m : List ℕ × Doc) (out new whole : Named)
-    → g (pair_of m ∷ map pair_of left) ≡ (m.0, w) ∷ g (map pair_of left) → old ≡ m ∷ left
-    → new ≡ put_all (one m.0 w) out → gathered_members one (g (map pair_of old)) out ≡ whole
-    → gathered_members one (g (map pair_of left)) new ≡ whole
-named_next g w old left m out new whole unfolds step put before =
-    ap (gathered_members one (g (map pair_of left))) put
-    ∙ sym (ap (λ es. gathered_members one (g (map pair_of es)) out) step
-    ∙ ap (λ ns. gathered_members one ns out) unfolds) ∙ before
-
-pub named_end : (g : Named → Named) (old : Pairs) (out whole : Named) → g [] ≡ [] → old ≡ []
-    → gathered_members one (g (map pair_of old)) out ≡ whole → out ≡ whole
-named_end g old out whole unfolds none before =
-    sym (ap (λ es. gathered_members one (g (map pair_of es)) out) none
-    ∙ ap (λ ns. gathered_members one ns out) unfolds) ∙ before
-
--- ---- what members become has their names
-
-module _ (all : List Resource) (held : Text → SchemaHolding) (argument : Text → Value → Value → Value) (d : Dialect)
-    (base : Parts) where
-  below_names : (k : Text) (ms : Named) → IsBelowHead k ms
-      → IsBelowHead k (members_relocated all held argument d base (members ms))
-  below_names k [] s = tt
-  below_names k (m ∷ ms) s = s
-
-  names_ascend : (ms : Named) → IsAscending ms
-      → IsAscending (members_relocated all held argument d base (members ms))
-  names_ascend [] s = tt
-  names_ascend (m ∷ ms) s = (below_names m.0 ms s.0, names_ascend ms s.1)
-
-  pub all_relocated : (old entries : Pairs) (schemas out : Named) → old ≡ [] → map pair_of entries ≡ schemas
-      → IsAscending schemas
-      → gathered_members one (members_relocated all held argument d base (members (map pair_of old))) out
-      ≡ gathered_members one (members_relocated all held argument d base (members (map pair_of entries))) []
-      → out ≡ members_relocated all held argument d base (members schemas)
-  all_relocated old entries schemas out none seen s before =
-      named_end (λ ms. members_relocated all held argument d base (members ms)) old out _ refl none before
-      ∙ ap (λ ms. gathered_members one (members_relocated all held argument d base (members ms)) []) seen
-      ∙ gathered_one (members_relocated all held argument d base (members schemas)) (names_ascend schemas s)
-
--- ---- a schema
-
-abbrev pub keywords : List Resource → Dialect → Parts → Named → Named
-keywords all own below siblings =
-    members_relocated all (holding_in own siblings)
-    (λ name. argument_rewritten all (change_of own siblings name) below) own below (members siblings)
-
-pub schema_relocated_is : (all : List Resource) (d own : Dialect) (base below : Parts) (siblings out : Named)
-    → own ≡ own_dialect d siblings → below ≡ own_base own base siblings → out ≡ keywords all own below siblings
-    → object (members out) ≡ relocated all One d base (object (members siblings))
-schema_relocated_is all d own base below siblings out same based is =
-    let made = λ (e : Dialect) (b : Parts) (ns : Named).
-    object (members (members_relocated all (holding_in e ns)
-    (λ name. argument_rewritten all (change_of e ns name) b) e b (members siblings))) in
-    ap (λ ms. object (members ms)) is ∙ ap (λ b. made own b siblings) based
-    ∙ ap (λ e. made e (own_base e base siblings) siblings) same
-    ∙ ap (λ ns. made (own_dialect d ns) (own_base (own_dialect d ns) base ns) ns) (sym (member_list-members siblings))
 
 pub own_base_is : (own : Dialect) (base : Parts) (siblings : Named) (found : Option Parts)
     → found ≡ identity own base siblings → unwrap_or found base ≡ own_base own base siblings
 own_base_is own base siblings found is = ap (λ u. unwrap_or u base) is
-
--- ---- resources
 
 pub resources_next : (g : Named → List Resource) (here : List Resource) (old left : Pairs) (m : List ℕ × Doc)
     (out new whole : List Resource) → g (pair_of m ∷ map pair_of left) ≡ here ++ g (map pair_of left)
