@@ -42,6 +42,9 @@ export class Checks {
   #schemas;
   #forTrees;
   #texts;
+  // The last instance that was judged, with its entry and what was said of it; and whether that was valid.
+  #last;
+  #wasValid = false;
 
   /**
    * @param {import("../../bindings/javascript/src/engine.js").Engine} engine
@@ -75,7 +78,7 @@ export class Checks {
   close() {
     this.#schemas?.close();
     this.#forTrees?.close();
-    this.#documents = this.#schemas = this.#forTrees = undefined;
+    this.#documents = this.#schemas = this.#forTrees = this.#last = undefined;
   }
 
   async #read(documents) {
@@ -91,12 +94,27 @@ export class Checks {
     return Schemas.create(documents.map(({ uri, text }) => [uri, text]), { module: this.#engine, nodes });
   }
 
+  /** The verdict and the errors. They are kept for the next request, which may want more about the same. */
   #judge({ entry, instance }) {
+    if (this.#last?.entry !== entry || this.#last.instance !== instance) {
+      this.#last = { entry, instance, judged: this.#judged(entry, instance) };
+      this.#wasValid = this.#last.judged.verdict === "valid";
+    }
+    return this.#last.judged;
+  }
+
+  /**
+   * The same by one check, which gives the errors too. Of a large valid instance they take long (they are annotations),
+   * so where the last one was valid they are asked for only if this one isn't.
+   */
+  #judged(entry, instance) {
     const begin = performance.now();
-    const valid = this.#schemas.isValid(entry, instance);
+    const isAlone = this.#wasValid && instance.length > QUICK_CHARACTERS;
+    const { valid, output } = isAlone && this.#schemas.isValid(entry, instance) ? { valid: true }
+      : this.#schemas.check(entry, instance, "basic");
     const milliseconds = performance.now() - begin;
     if (valid) return { verdict: "valid", milliseconds, errors: [], count: 0 };
-    const found = this.#schemas.errors(entry, instance), shown = found.slice(0, MOST_ERRORS);
+    const found = this.#schemas.errorsIn(output, instance), shown = found.slice(0, MOST_ERRORS);
     const values = new Values(instance, this.#engine);
     values.expect(shown.map((it) => it.instanceLocation));
     this.#texts.expect(shown.map((it) => it.upgradedLocation));

@@ -62,7 +62,10 @@ export class Editor {
       this.#describeCaret();
       moved(this.#area.selectionStart);
     });
-    new ResizeObserver(() => this.#look()).observe(this.#area);
+    new ResizeObserver(() => {
+      this.#look();
+      this.#describeCaret();
+    }).observe(this.#area);
   }
 
   get text() {
@@ -199,6 +202,7 @@ export class Editor {
   }
 
   #describeCaret() {
+    if (this.#view.height === 0) return;
     const offset = this.#area.selectionStart;
     const { line, column } = this.positionOf(offset);
     const mark = this.markAt(offset);

@@ -3,7 +3,7 @@ import assert from "node:assert/strict";
 import { readFileSync } from "node:fs";
 import { test } from "node:test";
 import { Refused, Schemas } from "jschema";
-import { Engine } from "../src/engine.js";
+import { Engine, Instance } from "../src/engine.js";
 import { Checker } from "../../../docs/playground/checker.js";
 import { Checks, MOST_NODES, quickAnswer } from "../../../docs/playground/checking.js";
 import { DROP, MERGE, REPLACE, after, normalForm, possibleSteps } from "../../../docs/playground/condensing.js";
@@ -195,6 +195,37 @@ test("the schemas that can be an entry are said once for the same documents", as
   assert.equal(await places({ documents: request.documents.map((it) => ({ ...it })), instance: "2" }), undefined);
   assert.deepEqual(await places({ documents: [{ uri: "urn:x", text: "{}" }] }), ["urn:x#"]);
   checks.close();
+});
+
+test("an instance is checked once, and once more for each output that is wanted", async () => {
+  const { verdict } = Instance.prototype, formats = [];
+  Instance.prototype.verdict = function (...words) {
+    formats.push(words.at(-1));
+    return verdict.apply(this, words);
+  };
+  try {
+    const checks = new Checks(engine);
+    const asked = async (instance, wanted = [], text = '{"items": {"minimum": 0}}') => {
+      formats.length = 0;
+      const request = { documents: [{ uri: "urn:x", text }], entry: "urn:x", instance, wanted };
+      const answer = await checks.answer(request);
+      return [answer.verdict, answer.errors.length, answer.count, ...formats];
+    };
+    const many = (last) => JSON.stringify([...Array(5000).fill(10), last]);
+    assert.deepEqual(await asked("[-1]"), ["invalid", 1, 1, "basic"]);
+    assert.deepEqual(await asked("[-1]", ["verbose"]), ["invalid", 1, 1, "verbose"]);
+    assert.deepEqual(await asked("[1]", ["verbose", "detailed"]), ["valid", 0, 0, "basic", "verbose", "detailed"]);
+    assert.deepEqual(await asked("[-2, 1, -3]"), ["invalid", 2, 2, "basic"]);
+    assert.deepEqual(await asked(many(-1)), ["invalid", 1, 1, "basic"]);
+    // (The errors of a large valid instance aren't asked for, until it has some.)
+    assert.deepEqual(await asked(many(1)), ["valid", 0, 0, "basic"]);
+    assert.deepEqual(await asked(many(2)), ["valid", 0, 0, "flag"]);
+    assert.deepEqual(await asked(many(2), [], '{"items": {"minimum": 1}}'), ["valid", 0, 0, "flag"]);
+    assert.deepEqual(await asked(many(-2)), ["invalid", 1, 1, "flag", "basic"]);
+    checks.close();
+  } finally {
+    Instance.prototype.verdict = verdict;
+  }
 });
 
 test("what is quick is checked in the page, as a worker does it", async () => {
