@@ -28,7 +28,8 @@ export async function quickAnswer(engine, request) {
   if (length > QUICK_CHARACTERS || texts.some((it) => MAY_HAVE_PATTERN.test(it))) return undefined;
   const checks = new Checks(engine, QUICK_NODES);
   const answer = await checks.answer(request);
-  checks.close();
+  // (What it takes is freed once the answer is shown.)
+  setTimeout(() => checks.close());
   const { fault } = answer;
   return fault === undefined || fault.name === "Refused" && fault.kind !== "TooLarge" ? answer : undefined;
 }

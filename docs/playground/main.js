@@ -295,6 +295,7 @@ async function begin() {
   window.addEventListener("hashchange", async () => playground.show(await firstState()));
   // (The verdict is drawn first.)
   await new Promise((resolve) => requestAnimationFrame(() => setTimeout(resolve)));
+  performance.mark("drawn");
   await playground.complete();
   performance.mark("complete");
 }

@@ -177,7 +177,7 @@ def wait_for_verdict(driver, begin=""):
 
 
 def milliseconds_to(driver, mark):
-    """Waits for the first `verdict`, or until the page is `complete`: milliseconds since it began."""
+    """Waits for the first `verdict`, until that is `drawn`, or the page `complete`: milliseconds since it began."""
     return driver.execute_async_script(MARKED, mark)
 
 
