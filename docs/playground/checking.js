@@ -13,6 +13,9 @@ export const MOST_NODES = 20_000;
 // What is checked in the page itself: so many characters, and a result with so many nodes.
 const QUICK_CHARACTERS = 10_000, QUICK_NODES = 2000;
 
+// An instance with more characters is asked for its errors only if it has some.
+const LARGE_CHARACTERS = 1_000_000;
+
 // A keyword that may have a regular expression. (A name may be written with escapes.)
 const MAY_HAVE_PATTERN = /pattern|\\/;
 
@@ -105,12 +108,12 @@ export class Checks {
   }
 
   /**
-   * The same by one check, which gives the errors too. Of a large valid instance they take long (they are annotations),
-   * so where the last one was valid they are asked for only if this one isn't.
+   * The same by one check, which gives the errors too. Of a valid instance it gives annotations, which take long; so
+   * after a valid instance the verdict of the next one is asked for alone, and so is that of a large one.
    */
   #judged(entry, instance) {
-    const begin = performance.now();
-    const isAlone = this.#wasValid && instance.length > QUICK_CHARACTERS;
+    const begin = performance.now(), { length } = instance;
+    const isAlone = length > LARGE_CHARACTERS || this.#wasValid && length > QUICK_CHARACTERS;
     const { valid, output } = isAlone && this.#schemas.isValid(entry, instance) ? { valid: true }
       : this.#schemas.check(entry, instance, "basic");
     const milliseconds = performance.now() - begin;

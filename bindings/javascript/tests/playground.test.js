@@ -211,17 +211,18 @@ test("an instance is checked once, and once more for each output that is wanted"
       const answer = await checks.answer(request);
       return [answer.verdict, answer.errors.length, answer.count, ...formats];
     };
-    const many = (last) => JSON.stringify([...Array(5000).fill(10), last]);
+    const many = (last, count = 5000) => JSON.stringify([...Array(count).fill(10), last]);
     assert.deepEqual(await asked("[-1]"), ["invalid", 1, 1, "basic"]);
     assert.deepEqual(await asked("[-1]", ["verbose"]), ["invalid", 1, 1, "verbose"]);
     assert.deepEqual(await asked("[1]", ["verbose", "detailed"]), ["valid", 0, 0, "basic", "verbose", "detailed"]);
     assert.deepEqual(await asked("[-2, 1, -3]"), ["invalid", 2, 2, "basic"]);
     assert.deepEqual(await asked(many(-1)), ["invalid", 1, 1, "basic"]);
-    // (The errors of a large valid instance aren't asked for, until it has some.)
+    // (After a valid instance the errors of the next one aren't asked for, until it has some.)
     assert.deepEqual(await asked(many(1)), ["valid", 0, 0, "basic"]);
     assert.deepEqual(await asked(many(2)), ["valid", 0, 0, "flag"]);
     assert.deepEqual(await asked(many(2), [], '{"items": {"minimum": 1}}'), ["valid", 0, 0, "flag"]);
     assert.deepEqual(await asked(many(-2)), ["invalid", 1, 1, "flag", "basic"]);
+    assert.deepEqual(await asked(many(1, 400_000)), ["valid", 0, 0, "flag"]);
     checks.close();
   } finally {
     Instance.prototype.verdict = verdict;
