@@ -24,9 +24,10 @@ CHROMIUM = ["--headless=new", "--no-sandbox", "--disable-gpu", "--disable-dev-sh
 MANY = "[\n" + ",\n".join(json.dumps({"name": f"n{number}", "age": number}) for number in range(3600)) + "\n]"
 MANY_SCHEMA = '{"items": {"properties": {"age": {"minimum": 0}, "name": {"maxLength": 9}}}}'
 
-# An instance that takes many times the limit of a check on any machine: no name matches any pattern.
-SLOW = json.dumps({f"y{number}": 0 for number in range(100_000)})
-SLOW_SCHEMA = json.dumps({"patternProperties": {f"^x{number}$": False for number in range(1000)}})
+# An instance whose check takes longer than the page waits, on any machine: no name matches any of the patterns, so there
+# are 600,000,000 searches.
+SLOW = json.dumps({f"y{number}": 0 for number in range(30_000)})
+SLOW_SCHEMA = json.dumps({"patternProperties": {f"^x{number}$": False for number in range(20_000)}})
 
 # Puts a text into one of the two text areas, as a paste does.
 PASTE = """
