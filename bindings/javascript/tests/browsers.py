@@ -76,7 +76,8 @@ return Array.from(document.body.querySelectorAll("*")).filter((it) => it.getBoun
   .map((it) => it.outerHTML.slice(0, 100));
 """
 
-# The texts whose contrast with what is behind them is less than WCAG AA asks: each as text, colours and ratio.
+# The texts and the edges of fields whose contrast with what is behind them is less than WCAG AA asks: each as text,
+# colours and ratio.
 CONTRAST = """
 const channel = (it) => it <= 0.04045 ? it / 12.92 : ((it + 0.055) / 1.055) ** 2.4;
 const canvas = document.createElement("canvas").getContext("2d", { willReadFrequently: true });
@@ -95,16 +96,23 @@ const behind = (it) => {
   return [255, 255, 255, 255];
 };
 const faults = [];
+const judge = (text, front, back, least) => {
+  const [dark, light] = [luminance(front), luminance(back)].sort((a, b) => a - b);
+  const ratio = (light + 0.05) / (dark + 0.05);
+  if (ratio < least) faults.push([text.slice(0, 40), String(front), String(back), ratio]);
+};
 const walker = document.createTreeWalker(document.body, NodeFilter.SHOW_TEXT);
 while (walker.nextNode()) {
   const holder = walker.currentNode.parentElement;
   const text = walker.currentNode.textContent.trim();
   const isLeftOut = holder.closest("noscript, option, datalist, textarea, button:disabled");
   if (text === "" || isLeftOut || !holder.checkVisibility()) continue;
-  const [front, back] = [colour(getComputedStyle(holder).color), behind(holder)];
-  const [dark, light] = [luminance(front), luminance(back)].sort((a, b) => a - b);
-  const ratio = (light + 0.05) / (dark + 0.05);
-  if (ratio < 4.5) faults.push([text.slice(0, 40), String(front), String(back), ratio]);
+  judge(text, colour(getComputedStyle(holder).color), behind(holder), 4.5);
+}
+for (const it of document.querySelectorAll("button:enabled, select, input, .editor")) {
+  const { borderTopWidth, borderTopColor } = getComputedStyle(it);
+  if (borderTopWidth === "0px" || !it.checkVisibility()) continue;
+  judge(`the edge of ${it.id || it.outerHTML}`, colour(borderTopColor), behind(it.parentElement), 3);
 }
 return faults;
 """
