@@ -24,8 +24,8 @@ CHROMIUM = ["--headless=new", "--no-sandbox", "--disable-gpu", "--disable-dev-sh
 MANY = "[\n" + ",\n".join(json.dumps({"name": f"n{number}", "age": number}) for number in range(3600)) + "\n]"
 MANY_SCHEMA = '{"items": {"properties": {"age": {"minimum": 0}, "name": {"maxLength": 9}}}}'
 
-# An instance whose check takes longer than the page waits, on any machine: no name matches any of the patterns, which is
-# found by 600,000,000 searches.
+# An instance whose check takes longer than the page waits, on any machine: no name matches any of the patterns, and to
+# find that takes 600,000,000 searches.
 SLOW = json.dumps({f"y{number}": 0 for number in range(30_000)})
 SLOW_SCHEMA = json.dumps({"patternProperties": {f"^x{number}$": False for number in range(20_000)}})
 
