@@ -16,8 +16,8 @@ import unittest
 from pathlib import Path
 
 sys.dont_write_bytecode = True
-from browsers import (BUILT, CONTRAST, CUT, GIVEN, KEY_PRESS, MANY, MANY_SCHEMA, PAGE, PASTE, SLOW,  # noqa: E402
-                      SLOW_SCHEMA, WIDER, address, built, ended, milliseconds_to, served)
+from browsers import (BUILT, CONTRAST, CUT, GIVEN, KEY_PRESS, LOADED_EARLY, MANY, MANY_SCHEMA, PAGE,  # noqa: E402
+                      PASTE, SLOW, SLOW_SCHEMA, WIDER, address, built, ended, milliseconds_to, served)
 from open_page import OpenPage  # noqa: E402
 from other_browser_tests import InFirefox, Rows  # noqa: E402, F401
 
@@ -410,6 +410,7 @@ class Page(OpenPage):
             server = served(GIVEN["module"], files)
             try:
                 self.open(address(server, BUILT))
+                self.assertEqual(self.driver.execute_script(LOADED_EARLY), [True])
                 self.judge_use()
                 self.picture("published")
                 self.assertEqual({*server.asked}, {BUILT, f"{BUILT}jschema.wasm"})

@@ -63,6 +63,13 @@ const said = () => {
 if (!said()) new PerformanceObserver((_, observer) => said() && observer.disconnect()).observe({ type: "mark" });
 """
 
+# Whether the page began to load the module before it was read to its end.
+LOADED_EARLY = """
+const [{ domInteractive }] = performance.getEntriesByType("navigation");
+return performance.getEntriesByType("resource").filter((it) => it.name.endsWith("/jschema.wasm"))
+  .map((it) => it.startTime < domInteractive);
+"""
+
 # The messages that go beyond the editor in which they are.
 CUT = """
 return Array.from(document.querySelectorAll(".drawing .message")).filter((it) =>
