@@ -8,7 +8,7 @@ import { Checker } from "../../../docs/playground/checker.js";
 import { Checks, MOST_NODES, quickAnswer } from "../../../docs/playground/checking.js";
 import { DROP, MERGE, REPLACE, after, normalForm, possibleSteps } from "../../../docs/playground/condensing.js";
 import { movedMarks } from "../../../docs/playground/editor.js";
-import { withCommas } from "../../../docs/playground/elements.js";
+import { counted, withCommas } from "../../../docs/playground/elements.js";
 import { EXAMPLES, stateOfExample } from "../../../docs/playground/examples.js";
 import { indented } from "../../../docs/playground/indenting.js";
 import { SchemaTexts, Values } from "../../../docs/playground/places.js";
@@ -366,6 +366,7 @@ test("a count has a comma before each three digits", () => {
   for (const count of [0, 7, 999, 1000, 20_000, 112_982, 1_000_000, 1_234_567_890]) {
     assert.equal(withCommas(count), count.toLocaleString("en"));
   }
+  assert.deepEqual([0, 1, 1000].map((it) => counted(it, "node")), ["0 nodes", "1 node", "1,000 nodes"]);
 });
 
 test("places of what isn't there, and of documents that aren't JSON", () => {
