@@ -98,6 +98,8 @@ export class Schemas {
   isValid(entry: string, instance: Instance): boolean;
   /** The errors of the `basic` output, in its order; none for a valid instance. */
   errors(entry: string, instance: Instance): ValidationError[];
+  /** The errors that the `basic` output of an invalid instance has, in its order: where `check` has given that. */
+  errorsIn(output: string, instance: Instance): ValidationError[];
   /** The output in a format (`basic` without one), parsed. */
   output(entry: string, instance: Instance, format?: Format): Output;
   /** The output as it was written. */

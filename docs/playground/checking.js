@@ -13,6 +13,9 @@ export const MOST_NODES = 20_000;
 // What is checked in the page itself: so many characters, and a result with so many nodes.
 const QUICK_CHARACTERS = 10_000, QUICK_NODES = 2000;
 
+// An instance with more characters is asked for its errors only if it has some.
+const LARGE_CHARACTERS = 1_000_000;
+
 // A keyword that may have a regular expression. (A name may be written with escapes.)
 const MAY_HAVE_PATTERN = /pattern|\\/;
 
@@ -28,7 +31,8 @@ export async function quickAnswer(engine, request) {
   if (length > QUICK_CHARACTERS || texts.some((it) => MAY_HAVE_PATTERN.test(it))) return undefined;
   const checks = new Checks(engine, QUICK_NODES);
   const answer = await checks.answer(request);
-  checks.close();
+  // (What it takes is freed once the answer is shown.)
+  setTimeout(() => checks.close());
   const { fault } = answer;
   return fault === undefined || fault.name === "Refused" && fault.kind !== "TooLarge" ? answer : undefined;
 }
@@ -42,6 +46,9 @@ export class Checks {
   #schemas;
   #forTrees;
   #texts;
+  // The last instance that was judged, with its entry and what was said of it; and whether that was valid.
+  #last;
+  #wasValid = false;
 
   /**
    * @param {import("../../bindings/javascript/src/engine.js").Engine} engine
@@ -75,7 +82,7 @@ export class Checks {
   close() {
     this.#schemas?.close();
     this.#forTrees?.close();
-    this.#documents = this.#schemas = this.#forTrees = undefined;
+    this.#documents = this.#schemas = this.#forTrees = this.#last = undefined;
   }
 
   async #read(documents) {
@@ -91,12 +98,27 @@ export class Checks {
     return Schemas.create(documents.map(({ uri, text }) => [uri, text]), { module: this.#engine, nodes });
   }
 
+  /** The verdict and the errors. They are kept for the next request, which may want more about the same. */
   #judge({ entry, instance }) {
-    const begin = performance.now();
-    const valid = this.#schemas.isValid(entry, instance);
+    if (this.#last?.entry !== entry || this.#last.instance !== instance) {
+      this.#last = { entry, instance, judged: this.#judged(entry, instance) };
+      this.#wasValid = this.#last.judged.verdict === "valid";
+    }
+    return this.#last.judged;
+  }
+
+  /**
+   * The same by one check, which gives the errors too. Of a valid instance it gives annotations, which take long; so
+   * after a valid instance the verdict of the next one is asked for alone, and so is that of a large one.
+   */
+  #judged(entry, instance) {
+    const begin = performance.now(), { length } = instance;
+    const isAlone = length > LARGE_CHARACTERS || this.#wasValid && length > QUICK_CHARACTERS;
+    const { valid, output } = isAlone && this.#schemas.isValid(entry, instance) ? { valid: true }
+      : this.#schemas.check(entry, instance, "basic");
     const milliseconds = performance.now() - begin;
     if (valid) return { verdict: "valid", milliseconds, errors: [], count: 0 };
-    const found = this.#schemas.errors(entry, instance), shown = found.slice(0, MOST_ERRORS);
+    const found = this.#schemas.errorsIn(output, instance), shown = found.slice(0, MOST_ERRORS);
     const values = new Values(instance, this.#engine);
     values.expect(shown.map((it) => it.instanceLocation));
     this.#texts.expect(shown.map((it) => it.upgradedLocation));

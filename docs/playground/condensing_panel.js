@@ -1,6 +1,6 @@
 /** The panel that shows how the result is condensed, step by step, in any order. */
 import { DROP, MERGE, REPLACE, after, normalForm, possibleSteps } from "./condensing.js";
-import { element, withCommas } from "./elements.js";
+import { counted, element, withCommas } from "./elements.js";
 import { shownNode } from "./result_panel.js";
 import { countOf, pruned, textOf, treeOf } from "./result_tree.js";
 import { TreeView } from "./tree_view.js";
@@ -133,8 +133,7 @@ export class CondensingPanel {
     const [first, now, last] = [this.#trees[0], root, normalForm(root, this.#merging.checked)].map(countOf);
     this.#progress.max = Math.max(first - last, 1);
     this.#progress.value = first - now || Number(first === last);
-    const steps = this.#steps.length === 1 ? "1 step" : `${this.#steps.length} steps`;
-    const taken = `${steps} taken, ${now} of ${first} nodes left.`;
+    const taken = `${counted(this.#steps.length, "step")} taken, ${now} of ${counted(first, "node")} left.`;
     this.#said.classList.toggle("ended", possible === 0);
     if (possible > 0) {
       this.#said.textContent = `${taken} ${possible} possible now.`;

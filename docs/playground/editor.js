@@ -16,6 +16,10 @@ const LONGEST_COLOURED = 2000;
 const TOKEN = /("(?:[^"\\]|\\.)*"?)(\s*:)?|(-?[0-9][0-9.eE+-]*)|(true|false|null)/g;
 
 export class Editor {
+  // The editors by their text areas, and what observes the sizes of these.
+  static #editors = new WeakMap();
+  static #observer;
+
   #area;
   // What is drawn: the lines that can be seen, and their numbers.
   #lines = element("div", {});
@@ -56,13 +60,28 @@ export class Editor {
       this.#measure();
       this.#draw();
     });
-    this.#area.addEventListener("scroll", () => this.#look());
+    this.#area.addEventListener("scroll", () => this.#redraw());
     document.addEventListener("selectionchange", () => {
       if (document.activeElement !== this.#area) return;
       this.#describeCaret();
       moved(this.#area.selectionStart);
     });
-    new ResizeObserver(() => this.#look()).observe(this.#area);
+    Editor.#observe(this);
+  }
+
+  /** Draws an editor whenever its size changes. */
+  static #observe(editor) {
+    Editor.#editors.set(editor.#area, editor);
+    Editor.#observer ??= new ResizeObserver((entries) => {
+      const editors = entries.map(({ target }) => Editor.#editors.get(target));
+      // (Were one drawn before the next one is looked at, the page would be laid out for that.)
+      for (const it of editors) it.#look();
+      for (const it of editors) {
+        it.#draw();
+        it.#describeCaret();
+      }
+    });
+    Editor.#observer.observe(editor.#area);
   }
 
   get text() {
@@ -104,7 +123,7 @@ export class Editor {
     this.#area.scrollTop = Math.max(0, line * LINE_HEIGHT - this.#area.clientHeight / 3);
     this.#area.scrollLeft = Math.max(0, (column - 20) * this.#columnWidth());
     if (focus) this.#area.scrollIntoView({ block: "nearest" });
-    this.#look();
+    this.#redraw();
     this.#describeCaret();
   }
 
@@ -126,10 +145,15 @@ export class Editor {
     this.#area.scrollTo(0, 0);
   }
 
-  /** Takes note of what can be seen, and draws it. */
+  /** Takes note of what can be seen. */
   #look() {
     const { scrollTop: top, scrollLeft: left, clientWidth: width, clientHeight: height } = this.#area;
     this.#view = { top, left, width, height };
+  }
+
+  /** Takes note of what can be seen, and draws it. */
+  #redraw() {
+    this.#look();
     this.#draw();
   }
 
@@ -199,6 +223,7 @@ export class Editor {
   }
 
   #describeCaret() {
+    if (this.#view.height === 0) return;
     const offset = this.#area.selectionStart;
     const { line, column } = this.positionOf(offset);
     const mark = this.markAt(offset);

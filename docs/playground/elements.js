@@ -21,6 +21,11 @@ export function withCommas(count) {
   return String(count).replace(/\B(?=(?:\d{3})+$)/g, ",");
 }
 
+/** A count with what is counted: `1 error`, `2 errors`. */
+export function counted(count, noun) {
+  return `${withCommas(count)} ${noun}${count === 1 ? "" : "s"}`;
+}
+
 // What the children show that `patch` made.
 const shown = new WeakMap();
 

@@ -1,5 +1,5 @@
 /** The panel with the errors of the instance. */
-import { element, patch, showText, withCommas } from "./elements.js";
+import { counted, element, patch, showText } from "./elements.js";
 
 export class ErrorList {
   #holder = element("div", {});
@@ -25,7 +25,7 @@ export class ErrorList {
     this.#list.hidden = errors.length === 0;
     const left = count - errors.length;
     const hint = verdict === "valid" ? "The instance is valid: there are no errors."
-      : verdict === "none" ? helpFor(fault) : left > 0 ? `${withCommas(left)} more errors.` : "";
+      : verdict === "none" ? helpFor(fault) : left > 0 ? `${counted(left, "more error")}.` : "";
     showText(this.#hint, hint);
   }
 

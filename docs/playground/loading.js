@@ -1,27 +1,15 @@
 /** Where the module and the worker come from: files beside the page, or the page itself (tools/build-playground). */
 
-const MEDIA_TYPE = "application/wasm";
-
-/** The compiled module. */
-export async function loadModule() {
+/** The compiled module: that which module.js loads, or the one that is in the page. */
+export function loadModule() {
   const embedded = document.getElementById("embedded-module");
-  const response = embedded === null ? await served() : unpacked(embedded.textContent);
-  // (Not every server says that it is one.)
-  const isTyped = response.headers.get("Content-Type") === MEDIA_TYPE;
-  return isTyped ? WebAssembly.compileStreaming(response) : WebAssembly.compile(await response.arrayBuffer());
-}
-
-/** The response with the module, which the page has loaded before its script was run. */
-async function served() {
-  const response = await fetch(document.querySelector("link[rel=preload]").href);
-  if (!response.ok) throw new Error(`${response.url}: ${response.status}: tools/build-wasm makes the module`);
-  return response;
+  return embedded === null ? globalThis.compiledModule : WebAssembly.compileStreaming(unpacked(embedded.textContent));
 }
 
 /** A response with the module that is in the page, gzipped and in base64. */
 function unpacked(text) {
   const stream = new Blob([bytesOf(text)]).stream().pipeThrough(new DecompressionStream("gzip"));
-  return new Response(stream, { headers: { "Content-Type": MEDIA_TYPE } });
+  return new Response(stream, { headers: { "Content-Type": "application/wasm" } });
 }
 
 // (Not every browser has `fromBase64`.)

@@ -4,7 +4,7 @@ import { Checker } from "./checker.js";
 import { quickAnswer } from "./checking.js";
 import { DocumentTabs } from "./document_tabs.js";
 import { Editor } from "./editor.js";
-import { element, showText, withCommas } from "./elements.js";
+import { counted, element, showText, withCommas } from "./elements.js";
 import { ErrorList } from "./error_list.js";
 import { EXAMPLES, stateOfExample } from "./examples.js";
 import { forbidConnections, loadModule, startWorker } from "./loading.js";
@@ -164,9 +164,9 @@ class Playground {
 
   #say({ verdict, count, milliseconds, fault }) {
     const said = at("verdict");
-    const errors = () => `${withCommas(count)} ${count === 1 ? "error" : "errors"}`;
     const text = {
-      valid: () => "✓ Valid", invalid: () => `✗ Invalid: ${errors()}`, none: () => `${fault.name}: ${fault.message}`,
+      valid: () => "✓ Valid", invalid: () => `✗ Invalid: ${counted(count, "error")}`,
+      none: () => `${fault.name}: ${fault.message}`,
     }[verdict]();
     said.className = verdict;
     showText(said, text);
@@ -295,6 +295,7 @@ async function begin() {
   window.addEventListener("hashchange", async () => playground.show(await firstState()));
   // (The verdict is drawn first.)
   await new Promise((resolve) => requestAnimationFrame(() => setTimeout(resolve)));
+  performance.mark("drawn");
   await playground.complete();
   performance.mark("complete");
 }

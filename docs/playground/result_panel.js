@@ -1,5 +1,5 @@
 /** The panel with the whole result, as a tree that folds. */
-import { element, withCommas } from "./elements.js";
+import { counted, element } from "./elements.js";
 import { countOf, treeOf } from "./result_tree.js";
 import { TreeView } from "./tree_view.js";
 
@@ -24,7 +24,7 @@ export class ResultPanel {
   show(text) {
     const root = text === undefined ? undefined : treeOf(text);
     this.#hint.textContent = root === undefined ? "There is no result that could be shown as a tree."
-      : `Each schema and keyword that was evaluated (the output verbose): ${withCommas(countOf(root))} nodes.`;
+      : `Each schema and keyword that was evaluated (the output verbose): ${counted(countOf(root), "node")}.`;
     this.#tree.show(root, (node, depth) => root !== undefined && isUnfolded(root, node, depth));
   }
 }

@@ -75,7 +75,12 @@ export class Schemas {
   errors(entry, instance) {
     const text = this.#textOf(instance);
     const { valid, output } = this.check(entry, text, "basic");
-    return valid ? [] : this.#documents.errors(output, this.positions(text));
+    return valid ? [] : this.errorsIn(output, text);
+  }
+
+  /** The errors that the `basic` output of an invalid instance has, in its order. */
+  errorsIn(output, instance) {
+    return this.#opened.errors(output, this.positions(instance));
   }
 
   /**

@@ -30,7 +30,7 @@ export function uriOf(dialect) {
 
 /** Whether a document may be of an older draft, or have a part that is. (It may say too often that it may.) */
 export function mayBeOlder(bytes, assumed = LATEST) {
-  return assumed !== LATEST || OLDER.test(new TextDecoder("latin1").decode(bytes));
+  return assumed !== LATEST || OLDER.test(new TextDecoder().decode(bytes));
 }
 
 /** What identifies a schema: its `$id`, or in the first two drafts its `id`. */

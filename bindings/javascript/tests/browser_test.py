@@ -16,84 +16,17 @@ import unittest
 from pathlib import Path
 
 sys.dont_write_bytecode = True
-from browsers import (BUILT, CONTRAST, CUT, GIVEN, KEY_PRESS, MANY, MANY_SCHEMA, PAGE, PASTE, SECONDS,  # noqa: E402
-                      WIDER, address, built, chromium, ended, milliseconds_to, served, wait_for_verdict)
+from browsers import (BUILT, CONTRAST, CUT, GIVEN, KEY_PRESS, LOADED_EARLY, MANY, MANY_SCHEMA, PAGE,  # noqa: E402
+                      PASTE, SLOW, SLOW_SCHEMA, WIDER, address, built, ended, milliseconds_to, served)
+from open_page import OpenPage  # noqa: E402
 from other_browser_tests import InFirefox, Rows  # noqa: E402, F401
 
-from selenium.webdriver.common.by import By  # noqa: E402
 from selenium.webdriver.common.keys import Keys  # noqa: E402
-from selenium.webdriver.support.ui import Select, WebDriverWait  # noqa: E402
+from selenium.webdriver.support.ui import Select  # noqa: E402
 
 
-class Page(unittest.TestCase):
+class Page(OpenPage):
     """What a reader sees and does."""
-
-    @classmethod
-    def setUpClass(cls):
-        cls.server = served(GIVEN["module"])
-        cls.driver = chromium()
-
-    @classmethod
-    def tearDownClass(cls):
-        cls.driver.quit()
-        ended(cls.server)
-
-    def setUp(self):
-        # (What other tests made the browser report is taken.)
-        self.faults()
-        self.open(address(self.server))
-
-    # ---- words for what is done
-
-    def open(self, url):
-        self.driver.get("about:blank")
-        self.driver.get(url)
-        wait_for_verdict(self.driver)
-        # (What is underlined is drawn with the next frame.)
-        self.driver.execute_async_script("const [end] = arguments; requestAnimationFrame(() => setTimeout(end));")
-
-    def until(self, is_so, what=None):
-        WebDriverWait(self.driver, SECONDS, 0.05).until(lambda _: is_so(), what or "")
-
-    def find(self, selector):
-        return self.driver.find_element(By.CSS_SELECTOR, selector)
-
-    def all(self, selector):
-        return self.driver.find_elements(By.CSS_SELECTOR, selector)
-
-    def texts(self, selector):
-        return self.driver.execute_script(
-            "return Array.from(document.querySelectorAll(arguments[0]), it => it.textContent)", selector)
-
-    def verdict(self):
-        return self.find("#verdict").text
-
-    def expect_verdict(self, begin):
-        self.until(lambda: self.verdict().startswith(begin), f"not {begin}: {self.verdict()}")
-
-    def write(self, selector, text):
-        """Types a text in place of another."""
-        area = self.find(selector)
-        area.send_keys(Keys.CONTROL, "a")
-        area.send_keys(text)
-
-    def choose_example(self, name):
-        Select(self.find("#examples")).select_by_visible_text(name)
-
-    def open_panel(self, name):
-        self.find(f"#panel-{name}").click()
-        self.until(lambda: self.find(f"#panel-{name}").get_attribute("aria-selected") == "true")
-
-    def button(self, text, within="#panel"):
-        return next(it for it in self.all(f"{within} button") if it.text == text)
-
-    def picture(self, name):
-        if GIVEN.get("pictures"):
-            self.driver.save_screenshot(os.path.join(GIVEN["pictures"], f"{name}.png"))
-
-    def faults(self):
-        """What the browser's console reports."""
-        return [it["message"] for it in self.driver.get_log("browser") if it["level"] == "SEVERE"]
 
     # ---- what is seen and done
 
@@ -146,6 +79,23 @@ class Page(unittest.TestCase):
         self.assertEqual("".join(self.texts("#schema-editor .underlined")), '"type": "nul"')
         self.write("#schema-text", '{"type": "null"}')
         self.expect_verdict("✗ Invalid: 1 error")
+
+    def test_a_check_that_takes_too_long_is_ended(self):
+        """It is a worker's, so the page can be used meanwhile."""
+        self.driver.execute_script(PASTE, "#schema-text", SLOW_SCHEMA)
+        self.expect_verdict("✓ Valid")
+        self.driver.execute_script(PASTE, "#instance-text", SLOW)
+        begin = time.monotonic()
+        self.choose_theme("dark")
+        self.assertEqual(self.driver.execute_script("return document.documentElement.dataset.theme"), "dark")
+        self.assertEqual(self.verdict(), "✓ Valid")
+        self.assertLess(time.monotonic() - begin, 4)
+        self.expect_verdict("Stopped: no answer after 5 s")
+        self.assertIn("The check was ended", self.find(".hint").text)
+        self.driver.execute_script(PASTE, "#instance-text", '{"x7": 0}')
+        self.expect_verdict("✗ Invalid: 1 error")
+        self.driver.execute_script(PASTE, "#instance-text", '{"y7": 0}')
+        self.expect_verdict("✓ Valid")
 
     def test_indent(self):
         self.write("#instance-text", '{"name":"é😀","list":[1,{"a":[]}],"age":9007199254740993}')
@@ -373,7 +323,7 @@ class Page(unittest.TestCase):
 
     def test_contrast(self):
         for theme in ("light", "dark"):
-            Select(self.find("#theme")).select_by_value(theme)
+            self.choose_theme(theme)
             for example, panel in (("Folders in folders: a recursive schema", "errors"),
                                    ("One problem in several ways: merged", "condensing"),
                                    ("Folders in folders: a recursive schema", "tree"),
@@ -384,6 +334,22 @@ class Page(unittest.TestCase):
                 if theme == "dark":
                     self.picture(f"dark-{panel}")
                 self.assertEqual(self.driver.execute_script(CONTRAST), [], (theme, example))
+
+    def test_theme_of_the_system(self):
+        colour = "return getComputedStyle(document.body).backgroundColor"
+        try:
+            for wanted, other in (("dark", "light"), ("light", "dark")):
+                self.driver.execute_cdp_cmd("Emulation.setEmulatedMedia", {
+                    "features": [{"name": "prefers-color-scheme", "value": wanted}]})
+                shown = self.driver.execute_script(colour)
+                self.choose_theme(other)
+                self.assertNotEqual(self.driver.execute_script(colour), shown)
+                self.choose_theme(wanted)
+                self.assertEqual(self.driver.execute_script(colour), shown)
+                self.choose_theme("")
+                self.assertEqual(self.driver.execute_script(colour), shown)
+        finally:
+            self.driver.execute_cdp_cmd("Emulation.setEmulatedMedia", {"features": []})
 
     def test_narrow(self):
         self.driver.set_window_size(500, 900)
@@ -444,6 +410,7 @@ class Page(unittest.TestCase):
             server = served(GIVEN["module"], files)
             try:
                 self.open(address(server, BUILT))
+                self.assertEqual(self.driver.execute_script(LOADED_EARLY), [True])
                 self.judge_use()
                 self.picture("published")
                 self.assertEqual({*server.asked}, {BUILT, f"{BUILT}jschema.wasm"})

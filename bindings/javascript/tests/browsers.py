@@ -24,6 +24,11 @@ CHROMIUM = ["--headless=new", "--no-sandbox", "--disable-gpu", "--disable-dev-sh
 MANY = "[\n" + ",\n".join(json.dumps({"name": f"n{number}", "age": number}) for number in range(3600)) + "\n]"
 MANY_SCHEMA = '{"items": {"properties": {"age": {"minimum": 0}, "name": {"maxLength": 9}}}}'
 
+# An instance whose check takes longer than the page waits, on any machine: no name matches any of the patterns, and to
+# find that takes 600,000,000 searches.
+SLOW = json.dumps({f"y{number}": 0 for number in range(30_000)})
+SLOW_SCHEMA = json.dumps({"patternProperties": {f"^x{number}$": False for number in range(20_000)}})
+
 # Puts a text into one of the two text areas, as a paste does.
 PASTE = """
 const area = document.querySelector(arguments[0]);
@@ -58,6 +63,13 @@ const said = () => {
 if (!said()) new PerformanceObserver((_, observer) => said() && observer.disconnect()).observe({ type: "mark" });
 """
 
+# Whether the page began to load the module before it was read to its end.
+LOADED_EARLY = """
+const [{ domInteractive }] = performance.getEntriesByType("navigation");
+return performance.getEntriesByType("resource").filter((it) => it.name.endsWith("/jschema.wasm"))
+  .map((it) => it.startTime < domInteractive);
+"""
+
 # The messages that go beyond the editor in which they are.
 CUT = """
 return Array.from(document.querySelectorAll(".drawing .message")).filter((it) =>
@@ -71,7 +83,8 @@ return Array.from(document.body.querySelectorAll("*")).filter((it) => it.getBoun
   .map((it) => it.outerHTML.slice(0, 100));
 """
 
-# The texts whose contrast with what is behind them is less than WCAG AA asks: each as text, colours and ratio.
+# The texts and the edges of fields whose contrast with what is behind them is less than WCAG AA asks: each as text,
+# colours and ratio.
 CONTRAST = """
 const channel = (it) => it <= 0.04045 ? it / 12.92 : ((it + 0.055) / 1.055) ** 2.4;
 const canvas = document.createElement("canvas").getContext("2d", { willReadFrequently: true });
@@ -90,16 +103,23 @@ const behind = (it) => {
   return [255, 255, 255, 255];
 };
 const faults = [];
+const judge = (text, front, back, least) => {
+  const [dark, light] = [luminance(front), luminance(back)].sort((a, b) => a - b);
+  const ratio = (light + 0.05) / (dark + 0.05);
+  if (ratio < least) faults.push([text.slice(0, 40), String(front), String(back), ratio]);
+};
 const walker = document.createTreeWalker(document.body, NodeFilter.SHOW_TEXT);
 while (walker.nextNode()) {
   const holder = walker.currentNode.parentElement;
   const text = walker.currentNode.textContent.trim();
   const isLeftOut = holder.closest("noscript, option, datalist, textarea, button:disabled");
   if (text === "" || isLeftOut || !holder.checkVisibility()) continue;
-  const [front, back] = [colour(getComputedStyle(holder).color), behind(holder)];
-  const [dark, light] = [luminance(front), luminance(back)].sort((a, b) => a - b);
-  const ratio = (light + 0.05) / (dark + 0.05);
-  if (ratio < 4.5) faults.push([text.slice(0, 40), String(front), String(back), ratio]);
+  judge(text, colour(getComputedStyle(holder).color), behind(holder), 4.5);
+}
+for (const it of document.querySelectorAll("button:enabled, select, input, .editor")) {
+  const { borderTopWidth, borderTopColor } = getComputedStyle(it);
+  if (borderTopWidth === "0px" || !it.checkVisibility()) continue;
+  judge(`the edge of ${it.id || it.outerHTML}`, colour(borderTopColor), behind(it.parentElement), 3);
 }
 return faults;
 """
@@ -173,7 +193,7 @@ def wait_for_verdict(driver, begin=""):
 
 
 def milliseconds_to(driver, mark):
-    """Waits for the first `verdict`, or until the page is `complete`: milliseconds since it began."""
+    """Waits for the first `verdict`, until that is `drawn`, or the page `complete`: milliseconds since it began."""
     return driver.execute_async_script(MARKED, mark)
 
 

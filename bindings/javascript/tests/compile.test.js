@@ -1,5 +1,6 @@
 /** ajv's words. */
 import assert from "node:assert/strict";
+import { readFileSync } from "node:fs";
 import { test } from "node:test";
 import { compile } from "jschema";
 
@@ -19,6 +20,17 @@ test("a function for a schema, with its errors", async () => {
   ]);
   assert.equal(validate({}), true);
   assert.equal(validate.errors, null);
+});
+
+test("the example of docs/MIGRATING.md says what is written there", async () => {
+  const page = readFileSync(new URL("../../../docs/MIGRATING.md", import.meta.url), "utf8");
+  const [, given] = page.match(/^const validate = await compile\((.*)\);$/m);
+  const [, written] = page.match(/^validate\.errors; +\/\/ (.*)$/m);
+  const value = (code) => new Function(`return ${code};`)();
+  const validate = await compile(value(given));
+  assert.equal(validate({}), false);
+  assert.deepEqual(validate.errors, value(written));
+  assert.equal(written.includes("instancePath"), true);
 });
 
 test("a string is a string", async () => {

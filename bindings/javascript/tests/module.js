@@ -33,6 +33,12 @@ export function withStack(bytes, size) {
   return changed;
 }
 
+/** The flags of a module's memory: 1 with a maximum, 2 where threads share it, 4 with addresses of 64 bits. */
+export function memoryFlags(bytes) {
+  const [, afterCount] = number(bytes, sectionOf(bytes, MEMORY).content);
+  return bytes[afterCount];
+}
+
 /** A section: where it begins, its content, and its end. */
 function sectionOf(bytes, wanted) {
   for (let begin = 8; begin < bytes.length;) {

@@ -3,7 +3,7 @@ import assert from "node:assert/strict";
 import { execFileSync } from "node:child_process";
 import { readFileSync } from "node:fs";
 import { test } from "node:test";
-import { modulePath } from "./module.js";
+import { memoryFlags, modulePath } from "./module.js";
 
 const header = readFileSync(new URL("../../c/jschema.h", import.meta.url), "utf8");
 const CALLS = [...header.matchAll(/^(?:uint32_t|size_t|void) (jschema_\w+)\(/gm)].map(([, name]) => name);
@@ -15,6 +15,10 @@ test("the module exports the header's calls, its memory and the heap's two", () 
   assert.ok(CALLS.length > 10);
   const wanted = [...CALLS.map((it) => `function ${it}`), "function allocate", "function release", "memory memory"];
   assert.deepEqual(exports.sort(), wanted.sort());
+});
+
+test("its memory has addresses of 32 bits, and is no thread's", () => {
+  assert.equal(memoryFlags(bytes) & ~1, 0);
 });
 
 test("the module imports nothing", () => {

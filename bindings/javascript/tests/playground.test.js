@@ -3,12 +3,12 @@ import assert from "node:assert/strict";
 import { readFileSync } from "node:fs";
 import { test } from "node:test";
 import { Refused, Schemas } from "jschema";
-import { Engine } from "../src/engine.js";
+import { Engine, Instance } from "../src/engine.js";
 import { Checker } from "../../../docs/playground/checker.js";
 import { Checks, MOST_NODES, quickAnswer } from "../../../docs/playground/checking.js";
 import { DROP, MERGE, REPLACE, after, normalForm, possibleSteps } from "../../../docs/playground/condensing.js";
 import { movedMarks } from "../../../docs/playground/editor.js";
-import { withCommas } from "../../../docs/playground/elements.js";
+import { counted, withCommas } from "../../../docs/playground/elements.js";
 import { EXAMPLES, stateOfExample } from "../../../docs/playground/examples.js";
 import { indented } from "../../../docs/playground/indenting.js";
 import { SchemaTexts, Values } from "../../../docs/playground/places.js";
@@ -197,6 +197,38 @@ test("the schemas that can be an entry are said once for the same documents", as
   checks.close();
 });
 
+test("an instance is checked once, and once more for each output that is wanted", async () => {
+  const { verdict } = Instance.prototype, formats = [];
+  Instance.prototype.verdict = function (...words) {
+    formats.push(words.at(-1));
+    return verdict.apply(this, words);
+  };
+  try {
+    const checks = new Checks(engine);
+    const asked = async (instance, wanted = [], text = '{"items": {"minimum": 0}}') => {
+      formats.length = 0;
+      const request = { documents: [{ uri: "urn:x", text }], entry: "urn:x", instance, wanted };
+      const answer = await checks.answer(request);
+      return [answer.verdict, answer.errors.length, answer.count, ...formats];
+    };
+    const many = (last, count = 5000) => JSON.stringify([...Array(count).fill(10), last]);
+    assert.deepEqual(await asked("[-1]"), ["invalid", 1, 1, "basic"]);
+    assert.deepEqual(await asked("[-1]", ["verbose"]), ["invalid", 1, 1, "verbose"]);
+    assert.deepEqual(await asked("[1]", ["verbose", "detailed"]), ["valid", 0, 0, "basic", "verbose", "detailed"]);
+    assert.deepEqual(await asked("[-2, 1, -3]"), ["invalid", 2, 2, "basic"]);
+    assert.deepEqual(await asked(many(-1)), ["invalid", 1, 1, "basic"]);
+    // (After a valid instance the errors of the next one aren't asked for, until it has some.)
+    assert.deepEqual(await asked(many(1)), ["valid", 0, 0, "basic"]);
+    assert.deepEqual(await asked(many(2)), ["valid", 0, 0, "flag"]);
+    assert.deepEqual(await asked(many(2), [], '{"items": {"minimum": 1}}'), ["valid", 0, 0, "flag"]);
+    assert.deepEqual(await asked(many(-2)), ["invalid", 1, 1, "flag", "basic"]);
+    assert.deepEqual(await asked(many(1, 400_000)), ["valid", 0, 0, "flag"]);
+    checks.close();
+  } finally {
+    Instance.prototype.verdict = verdict;
+  }
+});
+
 test("what is quick is checked in the page, as a worker does it", async () => {
   const quick = [];
   for (const example of EXAMPLES) {
@@ -334,6 +366,7 @@ test("a count has a comma before each three digits", () => {
   for (const count of [0, 7, 999, 1000, 20_000, 112_982, 1_000_000, 1_234_567_890]) {
     assert.equal(withCommas(count), count.toLocaleString("en"));
   }
+  assert.deepEqual([0, 1, 1000].map((it) => counted(it, "node")), ["0 nodes", "1 node", "1,000 nodes"]);
 });
 
 test("places of what isn't there, and of documents that aren't JSON", () => {

@@ -26,6 +26,9 @@ test("an error has its place in the text, and the words of the output", async ()
   assert.equal(errors[0].absoluteKeywordLocation, `${URI}#/properties/age/minimum`);
   assert.equal(String(errors[0]), `less than 0 (at /age; ${URI}#/properties/age/minimum)`);
   assert.deepEqual(schemas.errors(URI, "{}"), []);
+  const text = '{"age": -1}', { valid, output } = schemas.check(URI, text);
+  assert.equal(valid, false);
+  assert.deepEqual(schemas.errorsIn(output, text).map(String), schemas.errors(URI, text).map(String));
 });
 
 test("texts, bytes and values are judged alike", async () => {

@@ -138,17 +138,19 @@ class Built(unittest.TestCase):
             for name in names:
                 self.assertEqual((one / name).read_bytes(), (two / name).read_bytes(), name)
             self.assertEqual((one / "jschema.wasm").read_bytes(), Path(sys.executable).read_bytes())
-            self.judge((one / "index.html").read_text("utf-8"), "; connect-src 'self'", ["jschema.wasm"])
-            self.judge((one / "playground.html").read_text("utf-8"), "", [])
+            self.judge((one / "index.html").read_text("utf-8"), "; connect-src 'self'", 2, ["jschema.wasm"])
+            self.judge((one / "playground.html").read_text("utf-8"), "", 1, [])
 
-    def judge(self, page, connections, asked):
-        """The policy allows these connections and nothing else that is loaded, and the page asks for these files."""
+    def judge(self, page, connections, scripts, asked):
+        """The policy allows these connections and scripts, nothing else is loaded, and the page names these files."""
         policy = re.search(r"default-src[^\"]*", page)[0]
         hashed = r"'sha256-[\w+/]{43}='"
-        expected = (f"default-src 'none'; script-src {hashed} 'wasm-unsafe-eval'; style-src {hashed}{connections}; "
-                    "worker-src blob:; img-src data:; base-uri 'none'; form-action 'none'")
+        expected = (f"default-src 'none'; script-src( {hashed}){{{scripts}}} 'wasm-unsafe-eval'; "
+                    f"style-src {hashed}{connections}; worker-src blob:; img-src data:; base-uri 'none'; "
+                    "form-action 'none'")
         self.assertRegex(policy, f"^{expected}$")
-        self.assertEqual(re.findall(r'(?:src|href)="(?!data:)([^"]*)"', page.split("<script")[0]), asked)
+        head = re.sub(r"(<(script|style)[^>]*>).*?</\2>", r"\1", page.split("</head>")[0], flags=re.S)
+        self.assertEqual(re.findall(r'(?:src|href|data-module)="(?!data:)([^"]*)"', head), asked)
 
 
 if __name__ == "__main__":
