@@ -83,7 +83,7 @@ def of_keywords():
         {URI: '{"properties":{"a":true},"patternProperties":{"^x":true,"a+b":{}},"additionalProperties":false}'})
     standing = ('{"$comment":"","$dynamicAnchor":"a","contains":true,"minContains":2,"not":{},"title":"t",'
                 '"unevaluatedItems":true}')
-    names = "[Comment, DynamicAnchor, Contains, AssertionBehindIf, Not, OtherBehindIf, UnevaluatedItems]"
+    names = "[Other(Comment), Other(DynamicAnchor), Contains, Assertion, Not, Other(Unknown), UnevaluatedItems]"
     answer = f"true {URI}#, document 0 at , resource 0 of 1, {URI}: {standing} {names}"
     yield Table("names of keywords", [quiet("place", URI, "standing", answer=answer)], {URI: standing})
 
@@ -132,10 +132,11 @@ def side_by_side():
     yield Question(("place", T, "resources"), lines([f"{URI}: {X}#", f"{X}: {X}#", f"{Y}: {Y}#", f"{T}: {T}#"]))
     itself = '{"$defs":{"p":{"$id":"y","not":true}},"$id":"x","allOf":[{"$anchor":"q"}]}'
     for uri, answer in (
-            (X, f"true {X}#, document 0 at , resource 0 of 3, {X}: {itself} [Defs, Id, AllOf]"),
-            (Y, f'true {Y}#, document 0 at /$defs/p, resource 1 of 3, {Y}: {{"$id":"y","not":true}} [Id, Not]'),
+            (X, f"true {X}#, document 0 at , resource 0 of 3, {X}: {itself} [Other(Defs), Other(Id), AllOf]"),
+            (Y, f'true {Y}#, document 0 at /$defs/p, resource 1 of 3, {Y}: {{"$id":"y","not":true}} [Other(Id), Not]'),
             (f"{Y}#/not", f"true {Y}#/not, document 0 at /$defs/p/not, resource 1 of 3, {Y}: true []"),
-            (f"{X}#q", f'true {X}#/allOf/0, document 0 at /allOf/0, resource 0 of 3, {X}: {{"$anchor":"q"}} [Anchor]'),
+            (f"{X}#q", f'true {X}#/allOf/0, document 0 at /allOf/0, resource 0 of 3, {X}: {{"$anchor":"q"}} '
+             '[Other(Anchor)]'),
             (f"{T}#/items", f"true {T}#/items, document 1 at /items, resource 2 of 3, {T}: {{}} []")):
         yield quiet("place", uri, "standing", answer=answer)
 
