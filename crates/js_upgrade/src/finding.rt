@@ -140,9 +140,9 @@ fn name_fault(
 ) -> Result<Option<FoundFault>, Memory>
     ensures { IfOk result (λ f. option_map found_of f ≡ name_fault dialect own base.now siblings.now) }
 {
-    let declared = at_keyword(alloc, "$schema", declared_kind(dialect, siblings))?;
+    let declared = declared_kind(dialect, siblings);
     if declared.is_some() {
-        return Ok(declared);
+        return at_keyword(alloc, "$schema", declared);
     }
     at_keyword(alloc, identifier(own), own_kind(own, base, siblings)?)
 }
@@ -157,9 +157,8 @@ fn reference_fault(
         ≡ reference_fault (all_of scope.entry.resources.now) own scope.entry.base.now siblings.now) }
 {
     let kind = reference_kind(alloc, scope, found(siblings, "$ref"))?;
-    let found = at_keyword(alloc, "$ref", kind)?;
-    if found.is_some() {
-        return Ok(found);
+    if kind.is_some() {
+        return at_keyword(alloc, "$ref", kind);
     }
     other_fault(alloc, scope.resources, own, siblings)
 }
@@ -183,13 +182,13 @@ fn other_fault(
 ) -> Result<Option<FoundFault>, Memory>
     ensures { IfOk result (λ f. option_map found_of f ≡ other_fault (all_of resources.now) own siblings.now) }
 {
-    let recursive = at_keyword(alloc, "$recursiveRef", recursive_kind(own, siblings))?;
+    let recursive = recursive_kind(own, siblings);
     if recursive.is_some() {
-        return Ok(recursive);
+        return at_keyword(alloc, "$recursiveRef", recursive);
     }
-    let contains = at_keyword(alloc, "contains", contains_kind(own, siblings))?;
+    let contains = contains_kind(own, siblings);
     if contains.is_some() {
-        return Ok(contains);
+        return at_keyword(alloc, "contains", contains);
     }
     at_keyword(
         alloc,

@@ -1,22 +1,23 @@
 //! Where what stands in an upgraded value comes from in the value as it was.
-ghost use Rattle.std.specs.Prelude.{◌≡◌, ◌++◌, IfOk, OnOk, option_map};
+ghost use Rattle.std.specs.Prelude.{◌≡◌, ◌++◌, IfOk, OnOk};
 ghost use Rattle.js_doc.specs.Lookup.{part_named};
 ghost use Rattle.js_doc.specs.Seen.{value_of};
 ghost use Rattle.js_upgrade.specs.Originals.{at_end, held_back, is_wrapper, item_back, joined_tokens, keyword_back};
 ghost use Rattle.js_upgrade.specs.Originals.{keyword_from, lead, original, original_from, original_in, stay};
 ghost use Rattle.js_upgrade.specs.Originals.{step_back, way_of};
-ghost use Rattle.js_upgrade.specs.Upgrade.{dialect_found, document_dialect, own_dialect};
+ghost use Rattle.js_upgrade.specs.Upgrade.{own_dialect};
 ghost use Rattle.js_upgrade.specs.code.Back.{IsStepBack};
 ghost use Rattle.js_upgrade.specs.declared.originals.Way.TheVariants.{Held};
 ghost use Rattle.js_upgrade.specs.declared.holding.SchemaHolding.TheVariants.{One};
 
 use crate::copied_original::copied_original;
 use crate::dialect::Dialect;
+use crate::document::document_dialect;
 use crate::holding::{SchemaHolding, holding_by_change};
 use crate::keyword::Change;
 use crate::moving::part_by_token;
 use crate::origin::origin;
-use crate::schema::{change_of, dialect_in, own_dialect};
+use crate::schema::{change_of, own_dialect};
 use js_doc::{Doc, Members, Memory, Pointer, Token};
 use std::alloc::Global;
 
@@ -76,25 +77,6 @@ fn original_from(
     match copied_original(alloc, dialect, root, tokens)? {
         Some(place) => Ok(Some(place)),
         None => original_at(alloc, Pointer::new(alloc), dialect, root, tokens),
-    }
-}
-
-#[tactic(auto, using(crate::proofs::Gathered::gathering_rules))]
-fn document_dialect(assumed: Dialect, root: &Doc) -> Option<Dialect>
-    ensures { result ≡ document_dialect assumed (value_of root.now) }
-{
-    match root {
-        Doc::Members(members) => dialect_or(assumed, members.get("$schema")),
-        _ => Some(assumed),
-    }
-}
-
-fn dialect_or(assumed: Dialect, found: Option<&Doc>) -> Option<Dialect>
-    ensures { result ≡ dialect_found assumed (option_map (λ d. value_of d.now) found.entry) }
-{
-    match found {
-        Some(uri) => dialect_in(uri),
-        None => Some(assumed),
     }
 }
 
