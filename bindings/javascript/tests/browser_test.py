@@ -92,10 +92,8 @@ class Page(OpenPage):
         self.assertLess(time.monotonic() - begin, 4)
         self.expect_verdict("Stopped: no answer after 5 s")
         self.assertIn("The check was ended", self.find(".hint").text)
-        self.driver.execute_script(PASTE, "#instance-text", '{"x7": 0}')
-        self.expect_verdict("✗ Invalid: 1 error")
-        self.driver.execute_script(PASTE, "#instance-text", '{"y7": 0}')
-        self.expect_verdict("✓ Valid")
+        self.paste_until('{"x7": 0}', "✗ Invalid: 1 error")
+        self.paste_until('{"y7": 0}', "✓ Valid")
 
     def test_indent(self):
         self.write("#instance-text", '{"name":"é😀","list":[1,{"a":[]}],"age":9007199254740993}')

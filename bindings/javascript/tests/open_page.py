@@ -1,9 +1,11 @@
 """What the tests of the playground do in headless Chromium."""
+import contextlib
 import os
 import unittest
 
-from browsers import GIVEN, SECONDS, address, chromium, ended, served, wait_for_verdict
+from browsers import GIVEN, PASTE, SECONDS, address, chromium, ended, served, wait_for_verdict
 
+from selenium.common.exceptions import TimeoutException
 from selenium.webdriver.common.by import By
 from selenium.webdriver.common.keys import Keys
 from selenium.webdriver.support.ui import Select, WebDriverWait
@@ -54,6 +56,15 @@ class OpenPage(unittest.TestCase):
 
     def expect_verdict(self, begin):
         self.until(lambda: self.verdict().startswith(begin), f"not {begin}: {self.verdict()}")
+
+    def paste_until(self, instance, begin):
+        """Pastes an instance, again while the limit of 5 s ends its check: on a busy machine that may be a short one."""
+        for spaces in range(SECONDS // 10):
+            self.driver.execute_script(PASTE, "#instance-text", instance + " " * spaces)
+            with contextlib.suppress(TimeoutException):
+                WebDriverWait(self.driver, 10, 0.05).until(lambda _: self.verdict().startswith(begin))
+                return
+        self.fail(f"not {begin}: {self.verdict()}")
 
     def write(self, selector, text):
         """Types a text in place of another."""
