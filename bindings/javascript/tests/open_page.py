@@ -58,7 +58,7 @@ class OpenPage(unittest.TestCase):
         self.until(lambda: self.verdict().startswith(begin), f"not {begin}: {self.verdict()}")
 
     def paste_until(self, instance, begin):
-        """Pastes an instance, again while the limit of 5 s ends its check: on a busy machine that may be a short one."""
+        """Pastes an instance, again while the limit of 5 s ends its check: on a busy machine it may end a short one."""
         for spaces in range(SECONDS // 10):
             self.driver.execute_script(PASTE, "#instance-text", instance + " " * spaces)
             with contextlib.suppress(TimeoutException):
