@@ -26,7 +26,7 @@ const MOST_SITES: usize = 100_001;
 
 /// Where a schema stands.
 #[derive(Clone, Copy)]
-struct Position<'p> {
+struct SchemaPosition<'p> {
     document: usize,
     /// The base scope that it is in.
     above: &'p Arc<BaseScope>,
@@ -38,7 +38,7 @@ struct Position<'p> {
 // Lists one place, and answers the base scope of what stands below it.
 fn add_site<'a>(
     out: &mut Vec<Site<'a>>,
-    at: Position<'_>,
+    at: SchemaPosition<'_>,
     schema: &'a Doc,
 ) -> Result<Arc<BaseScope>, Memory>
     ensures added { OnOk result (map site_of out.new.items ≡ map site_of out.old.items
@@ -69,7 +69,11 @@ fn add_site<'a>(
 }
 
 #[cycle(scan)]
-fn scan_schema<'a>(out: &mut Vec<Site<'a>>, at: Position<'_>, schema: &'a Doc) -> Result<(), Memory>
+fn scan_schema<'a>(
+    out: &mut Vec<Site<'a>>,
+    at: SchemaPosition<'_>,
+    schema: &'a Doc,
+) -> Result<(), Memory>
     ensures { OnOk result (SameFront (map site_of out.new.items) (map site_of out.old.items
         ++ sites_at at.entry.document at.entry.above.now.value at.entry.pointer.now.value (value_of schema.now))) }
 {
@@ -79,7 +83,7 @@ fn scan_schema<'a>(out: &mut Vec<Site<'a>>, at: Position<'_>, schema: &'a Doc) -
     let below = add_site(out, at, schema)?;
     match schema {
         Doc::Members(members) => {
-            let inside = Position {
+            let inside = SchemaPosition {
                 above: &below,
                 ..at
             };
@@ -92,7 +96,7 @@ fn scan_schema<'a>(out: &mut Vec<Site<'a>>, at: Position<'_>, schema: &'a Doc) -
 #[cycle(scan)]
 fn scan_members<'a>(
     out: &mut Vec<Site<'a>>,
-    at: Position<'_>,
+    at: SchemaPosition<'_>,
     role: Role,
     members: &'a Members,
 ) -> Result<(), Memory>
@@ -102,7 +106,13 @@ fn scan_members<'a>(
 {
     let mut rank = 0_u32;
     for (name, value) in members.pairs() {
-        scan_member(out, Position { rank, ..at }, role, name.as_str(), value)?;
+        scan_member(
+            out,
+            SchemaPosition { rank, ..at },
+            role,
+            name.as_str(),
+            value,
+        )?;
         rank = rank.saturating_add(1);
     }
     Ok(())
@@ -112,7 +122,7 @@ fn scan_members<'a>(
 #[cycle(scan)]
 fn scan_member<'a>(
     out: &mut Vec<Site<'a>>,
-    at: Position<'_>,
+    at: SchemaPosition<'_>,
     role: Role,
     name: &str,
     value: &'a Doc,
@@ -127,7 +137,7 @@ fn scan_member<'a>(
         return Ok(());
     }
     let pointer = shared_further(*out.allocator(), at.pointer, name)?;
-    let below = Position {
+    let below = SchemaPosition {
         pointer: &pointer,
         ..at
     };
@@ -142,7 +152,7 @@ fn scan_member<'a>(
 #[cycle(scan)]
 fn scan_items<'a>(
     out: &mut Vec<Site<'a>>,
-    at: Position<'_>,
+    at: SchemaPosition<'_>,
     schemas: &'a [Doc],
 ) -> Result<(), Memory>
     ensures { OnOk result (SameFront (map site_of out.new.items) (map site_of out.old.items
@@ -152,7 +162,7 @@ fn scan_items<'a>(
     let mut digits = itoa::Buffer::new();
     for i in 0..schemas.len() {
         let pointer = shared_further(*out.allocator(), at.pointer, digits.format(i))?;
-        let item = Position {
+        let item = SchemaPosition {
             pointer: &pointer,
             rank: 0,
             ..at
@@ -173,7 +183,7 @@ fn scan_document<'a>(
 {
     let above = BaseScope::new(Pointer::new(alloc), document.uri.clone()?, alloc)?;
     let pointer = Arc::new(alloc, Pointer::new(alloc))?;
-    let root = Position {
+    let root = SchemaPosition {
         document: number,
         above: &above,
         pointer: &pointer,

@@ -16,7 +16,7 @@ use Rattle.json.specs.declared.tape.Node.TheVariants.{Object, EndObject, Array, 
 use Rattle.json.specs.declared.tape.Node.TheVariants.{Number, Bool, Null}
 use Rattle.js_doc.specs.Pointer.{Tokens}
 use Rattle.json.proofs.Found.{not_empty}
-use Rattle.js_doc.specs.Positions.{Placed, is_key, name_start, placed, spot_at, spots, token_start}
+use Rattle.js_doc.specs.Positions.{Placed, is_key, name_start, value_placed, spot_at, spots, token_start}
 use Rattle.js_doc.specs.Positions.{value_end}
 
 pub some_of : {A : Type 0} (o : Option A) → IsSome o → (a : A) × (o ≡ Some a)
@@ -59,10 +59,10 @@ all_of text o =
     (option_map (λ (p : Placed). (token_start p.0 text, (value_end p.0 p.1 text, name_start p.0 text))) o)
 
 pub spots_there : (text : List ℕ) (pointer : Tokens) (at : ℕ) (v : Json)
-    → option_and_then (placed pointer 0) (document text) ≡ Some (at, v) → spots text pointer
+    → option_and_then (value_placed pointer 0) (document text) ≡ Some (at, v) → spots text pointer
     ≡ Some (spot_at text (token_start at text), (value_end at v text, option_map (spot_at text) (name_start at text)))
 spots_there text pointer at v e = ap (all_of text) e
 
-pub spots_nowhere : (text : List ℕ) (pointer : Tokens) → option_and_then (placed pointer 0) (document text) ≡ None
+pub spots_nowhere : (text : List ℕ) (pointer : Tokens) → option_and_then (value_placed pointer 0) (document text) ≡ None
     → spots text pointer ≡ None
 spots_nowhere text pointer e = ap (all_of text) e

@@ -36,9 +36,9 @@ part_placed name n (array js) = item_placed name 0 (n + 1) js
 part_placed name n (object ms) = member_placed name None (n + 1) ms
 part_placed name n _ = None
 
-abbrev pub placed : Tokens → ℕ → Json → Option Placed
-placed [] n j = Some (n, j)
-placed (name ∷ names) n j = option_and_then (λ p. placed names p.0 p.1) (part_placed name n j)
+abbrev pub value_placed : Tokens → ℕ → Json → Option Placed
+value_placed [] n j = Some (n, j)
+value_placed (name ∷ names) n j = option_and_then (λ p. value_placed names p.0 p.1) (part_placed name n j)
 
 -- ---- where tokens begin
 
@@ -108,12 +108,13 @@ name_start (suc n) text = if is_key (get_or (tokens text) n token.null) then Som
 abbrev pub position : List ℕ → Tokens → Option (ℕ × (ℕ × Option ℕ))
 position text pointer =
     option_map (λ p. (token_start p.0 text, (value_end p.0 p.1 text, name_start p.0 text)))
-    (option_and_then (placed pointer 0) (document text))
+    (option_and_then (value_placed pointer 0) (document text))
 
 -- from the offset on the text begins with the value at the pointer
 abbrev pub BeginsAt : List ℕ → Tokens → ℕ → Type 0
 BeginsAt text pointer offset = (n : ℕ) × (v : Json)
-    × (option_and_then (placed pointer 0) (document text) ≡ Some (n, v)) × BeginsWith (tokens (drop offset text)) v
+    × (option_and_then (value_placed pointer 0) (document text) ≡ Some (n, v))
+    × BeginsWith (tokens (drop offset text)) v
 
 -- ---- lines and columns, from 1; a column counts characters
 

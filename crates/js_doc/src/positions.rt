@@ -22,7 +22,7 @@ mod starts;
 pub use batch::{Spots, positions_of};
 use ends::trimmed_length;
 pub use lines::line_and_column;
-use nodes::{after, placed};
+use nodes::{after, value_placed};
 pub use spots::Spot;
 use starts::token_start;
 
@@ -72,7 +72,7 @@ fn position_in(alloc: Global, text: &str, pointer: &Pointer) -> Result<Option<Po
         Err(_) => return Err(Memory),
     };
     let nodes = tape.nodes();
-    match placed(nodes, pointer.tokens()) {
+    match value_placed(nodes, pointer.tokens()) {
         Some(at) => Ok(Some(Position {
             offset: token_start(text.as_bytes(), at),
             end: value_end(text.as_bytes(), nodes, at),

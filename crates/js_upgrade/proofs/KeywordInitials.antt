@@ -10,7 +10,7 @@ use Rattle.js_upgrade.specs.Dialect.{found, first_of}
 use Rattle.js_upgrade.specs.Keyword.{applicator_change, applicator_rows, assertion_change, assertion_rows, change_in}
 use Rattle.js_upgrade.specs.Keyword.{core_rows}
 use Rattle.js_upgrade.specs.Keyword.{core_change, or_stays}
-use Rattle.js_upgrade.specs.code.Initials.{change_among, initial, is_among, is_early, is_late, table}
+use Rattle.js_upgrade.specs.code.Initials.{change_among, initial, is_row_named, is_early, is_late, table}
 use Rattle.js_upgrade.specs.declared.dialect.Dialect.{Dialect}
 use Rattle.js_upgrade.specs.declared.keyword.Change.{Change}
 use Rattle.js_upgrade.specs.declared.keyword.Change.TheVariants.{Stays}
@@ -48,16 +48,16 @@ module _ (p : Text → Bool) (name : Text) (fits : p name ≡ true) where
   filtered_by true row rows whole e = ap (cond (bytes_eq name row.0) (Some row.1)) e
   filtered_by false row rows whole e = e
 
-  found_filtered : (rows : List (Text × Change)) → found rows name ≡ found (filter (is_among p) rows) name
+  found_filtered : (rows : List (Text × Change)) → found rows name ≡ found (filter (is_row_named p) rows) name
   found_filtered [] = refl
   found_filtered (row ∷ rows) =
       dropped (p row.0) (bytes_eq name row.0) row (found rows name) refl refl (fits_too row.0)
-      ∙ filtered_by (p row.0) row (filter (is_among p) rows) (found rows name) (found_filtered rows)
+      ∙ filtered_by (p row.0) row (filter (is_row_named p) rows) (found rows name) (found_filtered rows)
 
   pub by_group : (d : Dialect) → unwrap_or (change_among p d name) Stays ≡ change_in d name
   unfolding change_among core_change applicator_change assertion_change
   by_group d =
-      stays d (found (filter (is_among p) (table d)) name)
+      stays d (found (filter (is_row_named p) (table d)) name)
       ∙ ap (or_stays d) (sym (found_filtered (table d))
       ∙ found_append (assertion_rows d) (applicator_rows d ++ core_rows d) name
       ∙ ap (first_of (found (assertion_rows d) name)) (found_append (applicator_rows d) (core_rows d) name))

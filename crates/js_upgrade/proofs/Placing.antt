@@ -12,8 +12,8 @@ use Rattle.js_upgrade.specs.Resource.{Resource, own_base}
 use Rattle.js_upgrade.specs.Schema.{change_of, gathered_members}
 use Rattle.js_upgrade.specs.Upgrade.{holding_in, holding_by_change, items_upgraded, keywords_upgraded}
 use Rattle.js_upgrade.specs.Upgrade.{members_upgraded, own_dialect, upgraded}
-use Rattle.js_upgrade.specs.code.Placed.{Place, argument_at, items_placed, keywords_placed, members_placed, place_below}
-use Rattle.js_upgrade.specs.code.Placed.{placed}
+use Rattle.js_upgrade.specs.code.Placed.{ScopeSeen, argument_at, items_placed, keywords_placed}
+use Rattle.js_upgrade.specs.code.Placed.{members_placed, place_below, placed}
 use Rattle.js_upgrade.specs.declared.dialect.Dialect.{Dialect}
 use Rattle.js_upgrade.specs.declared.keyword.Change.{Change}
 use Rattle.js_upgrade.specs.declared.keyword.Change.TheVariants.{Stays, Asserts, Refers}
@@ -208,11 +208,11 @@ module _ (all : List Resource) where
 
 -- ---- loops
 
-abbrev pub keywords_among : Dialect → Place → Named → Members → Named
+abbrev pub keywords_among : Dialect → ScopeSeen → Named → Members → Named
 keywords_among own q siblings ms =
     members_placed (holding_in own siblings) (λ name. argument_at q (change_of own siblings name)) own q ms
 
-pub schema_placed_is : (d own : Dialect) (p : Place) (siblings out : Named) → own ≡ own_dialect d siblings
+pub schema_placed_is : (d own : Dialect) (p : ScopeSeen) (siblings out : Named) → own ≡ own_dialect d siblings
     → out ≡ keywords_placed own (place_below p own siblings) siblings
     → object (members out) ≡ placed One d p (object (members siblings))
 schema_placed_is d own p siblings out same is =
@@ -221,7 +221,7 @@ schema_placed_is d own p siblings out same is =
     ap (λ ms. object (members ms)) is ∙ ap (λ e. made e siblings) same
     ∙ ap (λ ns. made (own_dialect d ns) ns) (sym (member_list-members siblings))
 
-module _ (held : Text → SchemaHolding) (argument : Argument) (d : Dialect) (p : Place) where
+module _ (held : Text → SchemaHolding) (argument : Argument) (d : Dialect) (p : ScopeSeen) where
   below_names : (k : Text) (ms : Named) → IsBelowHead k ms
       → IsBelowHead k (members_placed held argument d p (members ms))
   below_names k [] s = tt

@@ -4,7 +4,7 @@ use Rattle.std.specs.Prelude.{IsUtf8, ⊤}
 use Rattle.js_doc.specs.Pointer.{Tokens, pointer_text}
 use Rattle.js_doc.specs.Positions.{spots}
 use Rattle.json.specs.Json.{document}
-use Rattle.jschema_c.specs.declared.position.Position.{Position}
+use Rattle.jschema_c.specs.declared.position.ValuePosition.{ValuePosition}
 use Rattle.jschema_c.specs.declared.status.Status.{Status}
 use Rattle.jschema_c.specs.declared.status.Status.TheVariants as status
 
@@ -34,10 +34,10 @@ abbrev pub spots_told :
 spots_told None = (spot_told None, (absent_number, spot_told None))
 spots_told (Some s) = (s.0, (s.1.0, spot_told s.1.1))
 
-abbrev pub position_seen : Position → (ℕ × (ℕ × ℕ)) × (ℕ × (ℕ × (ℕ × ℕ)))
+abbrev pub position_seen : ValuePosition → (ℕ × (ℕ × ℕ)) × (ℕ × (ℕ × (ℕ × ℕ)))
 position_seen p = ((p.offset, (p.line, p.column)), (p.end, (p.name_offset, (p.name_line, p.name_column))))
 
-abbrev pub Locates : List ℕ → List ℕ → List ℕ → List Position → List Position → Status → Type 0
+abbrev pub Locates : List ℕ → List ℕ → List ℕ → List ValuePosition → List ValuePosition → Status → Type 0
 Locates text pointers ends before after status.Done =
     (ps : List Tokens) × ArePointers pointers 0 ends ps × IsUtf8 text × (document text ≢ None)
     × (map position_seen after ≡ map (λ p. spots_told (spots text p)) ps)

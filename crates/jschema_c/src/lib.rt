@@ -27,7 +27,7 @@ mod upgrading;
 
 use handle::Handle;
 use last_call::copy_fitting;
-use position::{Position, locate};
+use position::{ValuePosition, locate};
 use session::Session;
 use status::Status;
 use std::alloc::Global;
@@ -277,7 +277,7 @@ pub extern "C" fn jschema_positions(
     text: &[u8],
     pointers: &[u8],
     ends: &[usize],
-    positions: &mut [Position],
+    positions: &mut [ValuePosition],
 ) -> u32
     ensures { AnswersNumber result (Locates text.now pointers.now ends.now positions.old positions.new) }
 {

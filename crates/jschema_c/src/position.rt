@@ -14,7 +14,7 @@ use std::alloc::Global;
 /// isn't there, each number is the greatest.
 #[repr(C)]
 #[derive(Clone, Copy, Drop)]
-pub struct Position {
+pub struct ValuePosition {
     pub offset: usize,
     pub line: usize,
     pub column: usize,
@@ -33,7 +33,7 @@ pub(crate) fn locate(
     text: &[u8],
     pointers: &[u8],
     ends: &[usize],
-    positions: &mut [Position],
+    positions: &mut [ValuePosition],
 ) -> Status
     ensures { Locates text.now pointers.now ends.now positions.old positions.new result }
 {
@@ -105,7 +105,7 @@ fn parse_between(
     }
 }
 
-fn put_all(found: &[Option<Spots>], positions: &mut [Position])
+fn put_all(found: &[Option<Spots>], positions: &mut [ValuePosition])
     requires { length found.now ≡ length positions.old }
     ensures { map position_seen positions.new ≡ map (λ s. spots_told (spots_seen s)) found.now }
 {
@@ -114,7 +114,7 @@ fn put_all(found: &[Option<Spots>], positions: &mut [Position])
     }
 }
 
-fn position_of(found: Option<Spots>) -> Position
+fn position_of(found: Option<Spots>) -> ValuePosition
     ensures { position_seen result ≡ spots_told (spots_seen found) }
 {
     let (value, end, name) = match found {
@@ -123,7 +123,7 @@ fn position_of(found: Option<Spots>) -> Position
     };
     let value = spot_or_absent(value);
     let name = spot_or_absent(name);
-    Position {
+    ValuePosition {
         offset: value.offset,
         line: value.line,
         column: value.column,

@@ -71,7 +71,7 @@ fn document_parts(alloc: Global, refusal: &Refusal) -> Option<RefusalParts>
         place,
         kind,
     } = refusal;
-    placed(alloc, kind_number(*kind), DOCUMENT, *document, place)
+    refusal_at(alloc, kind_number(*kind), DOCUMENT, *document, place)
 }
 
 fn instance_parts(alloc: Global, fault: &ReadFault) -> Option<RefusalParts>
@@ -80,7 +80,7 @@ fn instance_parts(alloc: Global, fault: &ReadFault) -> Option<RefusalParts>
     match fault {
         ReadFault::Memory => Some(placeless(alloc, 0, INSTANCE)),
         ReadFault::NotJson => Some(placeless(alloc, NOT_JSON, INSTANCE)),
-        ReadFault::NotWhole(place) => placed(alloc, NOT_WHOLE, INSTANCE, NO_DOCUMENT, place),
+        ReadFault::NotWhole(place) => refusal_at(alloc, NOT_WHOLE, INSTANCE, NO_DOCUMENT, place),
     }
 }
 
@@ -89,11 +89,11 @@ fn suite_parts(alloc: Global, fault: &SuiteFault) -> Option<RefusalParts>
 {
     match fault {
         SuiteFault::NotJson => Some(placeless(alloc, NOT_JSON, SUITE)),
-        SuiteFault::BadSuite(place) => placed(alloc, BAD_SUITE, SUITE, NO_DOCUMENT, place),
+        SuiteFault::BadSuite(place) => refusal_at(alloc, BAD_SUITE, SUITE, NO_DOCUMENT, place),
     }
 }
 
-fn placed(
+fn refusal_at(
     alloc: Global,
     kind: u32,
     subject: u32,

@@ -12,7 +12,7 @@ ghost use Rattle.js_doc.specs.code.SpotTable.{AreAllBegun};
 
 use super::ends::trimmed_length;
 use super::name_token;
-use super::nodes::{after, placed};
+use super::nodes::{after, value_placed};
 use super::spots::{Spot, spot_of, spots, start_of};
 use crate::memory::Memory;
 use crate::pointer::Pointer;
@@ -92,7 +92,7 @@ fn found(text: &str, nodes: &[Node<'_>], begun: &[Spot], pointer: &Pointer) -> O
     requires { IsTape text.now nodes.now × AreAllBegun text.now begun.now }
     ensures { spots_seen result ≡ spots text.now pointer.now }
 {
-    match placed(nodes, pointer.tokens()) {
+    match value_placed(nodes, pointer.tokens()) {
         Some(at) => Some(Spots {
             value: spot_of(text, begun, at),
             end: value_end(text, nodes, begun, at),

@@ -7,7 +7,7 @@ ghost use Rattle.json.specs.Tape.{Linked, node_token};
 ghost use Rattle.json.specs.Token.{Token as JsonToken};
 ghost use Rattle.json.specs.Tree.{json_tokens};
 ghost use Rattle.json.specs.declared.tape.Node.TheVariants.{EndArray};
-ghost use Rattle.js_doc.specs.Positions.{item_placed, member_placed, part_placed, placed};
+ghost use Rattle.js_doc.specs.Positions.{item_placed, member_placed, part_placed, value_placed};
 ghost use Rattle.js_doc.specs.code.Nodes.{IsPlaced};
 
 use crate::lookup::index;
@@ -15,10 +15,10 @@ use crate::token::Token;
 use json::Node;
 
 /// The number of the token that begins the value at the pointer.
-pub(crate) fn placed(nodes: &[Node<'_>], pointer: &[Token]) -> Option<usize>
+pub(crate) fn value_placed(nodes: &[Node<'_>], pointer: &[Token]) -> Option<usize>
     requires { Linked (map node_token nodes.now) 0 nodes.now }
     ensures { (j : Json) → BeginsWith (map node_token nodes.now) j
-        → IsPlaced nodes.now result (placed pointer.now 0 j) }
+        → IsPlaced nodes.now result (value_placed pointer.now 0 j) }
 {
     let mut at = 0;
     for token in pointer {

@@ -31,7 +31,7 @@ pub(crate) fn every<'a>(start: &CursorStart<'_, 'a>) -> Asking<'a>
 }
 
 /// Whether `contains` passes: if an item matches, if none has to, or if the value is no array.
-pub(crate) fn contains(schema: &Doc, value: Instance<'_>, tally: Tally) -> bool
+pub(crate) fn contains_passes(schema: &Doc, value: Instance<'_>, tally: Tally) -> bool
     ensures { (verdicts : List Bool) → how_many verdicts ≡ tally.succeeded
         → result ≡ on_array (instance_of value.entry)
         (λ _. any verdicts || may_contain_none (entries (value_of schema.now))) }

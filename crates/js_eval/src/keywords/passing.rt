@@ -13,7 +13,7 @@ ghost use Rattle.js_eval.specs.Keywords as table;
 use crate::evaluation::Tally;
 use crate::instance::Instance;
 use crate::keywords::assertions::{look_up_assertion, satisfies};
-use crate::keywords::contains::contains;
+use crate::keywords::contains::contains_passes;
 use crate::keywords::in_place::{holds_all, holds_any};
 use crate::order::keyword::Keyword;
 use crate::searching::searchers::Searchers;
@@ -76,7 +76,7 @@ pub(crate) fn passes_by_count(
         KeywordName::OneOf => tally.succeeded == 1,
         KeywordName::Not => !holds_any(tally),
         KeywordName::If => true,
-        KeywordName::Contains => contains(schema, value, tally),
+        KeywordName::Contains => contains_passes(schema, value, tally),
         KeywordName::Assertion => said,
         KeywordName::Other(_) => true,
         _ => holds_all(tally),

@@ -35,9 +35,9 @@ is_late name = not (nat_lt (initial name) 105 || (is_m name || is_p name))
 abbrev pub table : Dialect → List (Text × Change)
 table d = assertion_rows d ++ (applicator_rows d ++ core_rows d)
 
-abbrev pub is_among : (Text → Bool) → Text × Change → Bool
-is_among p row = p row.0
+abbrev pub is_row_named : (Text → Bool) → Text × Change → Bool
+is_row_named p row = p row.0
 
 -- what the table has under the name, among the names of a group
 unfoldable pub change_among : (Text → Bool) → Dialect → Text → Option Change
-change_among p d name = found (filter (is_among p) (table d)) name
+change_among p d name = found (filter (is_row_named p) (table d)) name

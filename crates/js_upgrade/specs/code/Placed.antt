@@ -16,23 +16,23 @@ use Rattle.js_upgrade.specs.declared.keyword.Change.{Change}
 use Rattle.js_upgrade.specs.declared.scope.Scope.{Scope}
 
 -- among which resources, and below which base; none where references stay
-abbrev pub Place : Type 0
-Place = Option (List Resource × Parts)
+abbrev pub ScopeSeen : Type 0
+ScopeSeen = Option (List Resource × Parts)
 
-abbrev pub place_in : Scope → List Resource × Parts
-place_in scope = (all_of scope.resources.now, scope.base.now)
+abbrev pub scope_seen : Scope → List Resource × Parts
+scope_seen scope = (all_of scope.resources.now, scope.base.now)
 
-abbrev pub argument_at : Place → Change → Value → Value → Value
+abbrev pub argument_at : ScopeSeen → Change → Value → Value → Value
 argument_at None change v w = w
 argument_at (Some p) change v w = argument_rewritten p.0 change p.1 v w
 
 -- in a schema of this dialect
-abbrev pub place_below : Place → Dialect → Named → Place
+abbrev pub place_below : ScopeSeen → Dialect → Named → ScopeSeen
 place_below None own siblings = None
 place_below (Some p) own siblings = Some (p.0, own_base own p.1 siblings)
 
 abbrev mutual
-  pub placed : SchemaHolding → Dialect → Place → Value → Value
+  pub placed : SchemaHolding → Dialect → ScopeSeen → Value → Value
   placed One d p (object ms) =
       let own = own_dialect d (member_list ms) in
       let q = place_below p own (member_list ms) in
@@ -48,18 +48,18 @@ abbrev mutual
   placed OneOrListed d p (list vs) = list (items (items_placed d p vs))
   placed _ d p v = v
 
-  pub items_placed : Dialect → Place → Items → Values
+  pub items_placed : Dialect → ScopeSeen → Items → Values
   items_placed d p no_items = []
   items_placed d p (item v vs) = placed One d p v ∷ items_placed d p vs
 
   -- each under its name, as its keyword has it
-  pub members_placed : (Text → SchemaHolding) → (Text → Value → Value → Value) → Dialect → Place → Members → Named
+  pub members_placed : (Text → SchemaHolding) → (Text → Value → Value → Value) → Dialect → ScopeSeen → Members → Named
   members_placed held argument d p no_members = []
   members_placed held argument d p (member name v ms) =
       (name, argument name v (placed (held name) d p v)) ∷ members_placed held argument d p ms
 
 -- the keywords of a schema of this dialect, at its own place
-abbrev pub keywords_placed : Dialect → Place → Named → Named
+abbrev pub keywords_placed : Dialect → ScopeSeen → Named → Named
 keywords_placed own q siblings =
     keywords_upgraded own siblings (members_placed (holding_in own siblings)
     (λ name. argument_at q (change_of own siblings name)) own q (members siblings))

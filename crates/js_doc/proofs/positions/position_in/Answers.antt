@@ -3,7 +3,7 @@ use Rattle.std.proofs.lemmas.List.{length-map}
 use Rattle.json.specs.Find.{BeginsWith}
 use Rattle.json.specs.Lex.{tokens}
 use Rattle.json.specs.Tape.{Linked, node_token}
-use Rattle.js_doc.specs.Positions.{placed, token_start}
+use Rattle.js_doc.specs.Positions.{value_placed, token_start}
 use Rattle.js_doc.proofs.PositionsFound.{some_of, within}
 use Rattle.js_doc.proofs.TokenStarts.{begins_there}
 use Rattle.js_doc.proofs.positions.position_in.Goals as goal
@@ -40,6 +40,6 @@ returns-in-Some-clause-begins c =
     let there = begins_there text c.nodes-nodes.result.now at p.0 same p.2 in (
       at,
       p.0,
-      ap (option_and_then (placed pointer 0)) d.1 ∙ ap (λ q. placed q 0 d.0) (sym c.tokens.ensures) ∙ p.1,
+      ap (option_and_then (value_placed pointer 0)) d.1 ∙ ap (λ q. value_placed q 0 d.0) (sym c.tokens.ensures) ∙ p.1,
       subst (λ o. BeginsWith (tokens (drop o text)) p.0) (sym start) there,
     )

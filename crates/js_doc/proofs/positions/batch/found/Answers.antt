@@ -2,7 +2,7 @@ use Rattle.std.proofs.Common.{◌≡◌, None, Some, map, option_and_then, optio
 use Rattle.std.proofs.lemmas.List.{length-map}
 use Rattle.json.specs.Json.{document}
 use Rattle.json.specs.Tape.{node_token}
-use Rattle.js_doc.specs.Positions.{name_start, placed, spot_at, token_start}
+use Rattle.js_doc.specs.Positions.{name_start, value_placed, spot_at, token_start}
 use Rattle.js_doc.proofs.PositionsFound.{spots_nowhere, spots_there, within}
 use Rattle.js_doc.proofs.positions.batch.found.Goals as goal
 
@@ -22,8 +22,8 @@ pub returns-in-Some : goal.returns-in-Some
 returns-in-Some c =
     let text = c.args.text.now in let pointer = c.args.pointer.now in let at = c.in-Some.at in
     let t = c.requires.0 in let p = c.in-Some.ensures t.2 t.4 in
-    let there : option_and_then (placed pointer 0) (document text) ≡ Some (at, p.0) =
-    ap (option_and_then (placed pointer 0)) t.3 ∙ ap (λ q. placed q 0 t.2) (sym c.tokens.ensures) ∙ p.1 in
+    let there : option_and_then (value_placed pointer 0) (document text) ≡ Some (at, p.0) =
+    ap (option_and_then (value_placed pointer 0)) t.3 ∙ ap (λ q. value_placed q 0 t.2) (sym c.tokens.ensures) ∙ p.1 in
     ap₂ (λ a b. Some (a, (c.value_end.result, b))) c.spot_of.ensures c.name_spot.ensures
     ∙ ap (λ e. Some (spot_at text (token_start at text), (e, option_map (spot_at text) (name_start at text))))
     (c.value_end.ensures p.0 p.2)
@@ -32,7 +32,7 @@ returns-in-Some c =
 pub returns-in-None : goal.returns-in-None
 returns-in-None c =
     let text = c.args.text.now in let pointer = c.args.pointer.now in let t = c.requires.0 in
-    let nowhere : option_and_then (placed pointer 0) (document text) ≡ None =
-    ap (option_and_then (placed pointer 0)) t.3 ∙ ap (λ q. placed q 0 t.2) (sym c.tokens.ensures)
+    let nowhere : option_and_then (value_placed pointer 0) (document text) ≡ None =
+    ap (option_and_then (value_placed pointer 0)) t.3 ∙ ap (λ q. value_placed q 0 t.2) (sym c.tokens.ensures)
     ∙ c.in-None.ensures t.2 t.4 in
     sym (spots_nowhere text pointer nowhere)
