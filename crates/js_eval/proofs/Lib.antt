@@ -37,3 +37,4 @@ pub mod Collected
 pub mod ResultExamples
 pub mod NothingStandsIn
 pub mod PatternsAt
+pub mod NothingLeft

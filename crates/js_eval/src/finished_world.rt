@@ -154,7 +154,7 @@ impl<'a> World for FinishedSchemas<'a> {
             names,
             indexes,
         };
-        asking_of_keyword(alloc, self.schemas, &at, scene, facts)
+        asking_of_keyword(alloc, self.schemas, &at, &self.searchers, scene, facts)
     }
 
     fn next(&self, alloc: Global, asking: &mut Asking<'a>) -> Result<Option<Applied<'a>>, Memory> {

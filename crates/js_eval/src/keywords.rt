@@ -7,6 +7,7 @@ pub(crate) mod conditional;
 pub(crate) mod contains;
 pub(crate) mod in_place;
 pub(crate) mod notes;
+pub(crate) mod nothing_left;
 pub(crate) mod objects;
 pub(crate) mod others;
 pub(crate) mod passing;

@@ -2,4 +2,5 @@
 
 pub(crate) mod name_set;
 pub(crate) mod pattern_answers;
+pub(crate) mod recent_answers;
 pub(crate) mod searchers;

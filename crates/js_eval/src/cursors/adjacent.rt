@@ -13,6 +13,8 @@ pub(crate) struct Adjacent<'a> {
     pub place: Place,
     pub properties: Option<&'a Members>,
     pub patterns: Option<&'a Members>,
+    /// Whether it is stored which names the patterns match.
+    pub is_kept: bool,
     ghost there: { is_place schemas.now place ≡ true },
     ghost known: { ArePatternsAt schemas.now place (named_in patterns) },
 }

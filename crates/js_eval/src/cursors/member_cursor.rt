@@ -87,7 +87,7 @@ fn next_member<'a>(
 fn is_chosen<'a>(
     search: &PatternSearch<'_, 'a>,
     choice: &Choice<'a>,
-    name: &str,
+    name: &'a str,
 ) -> Result<bool, Memory>
     ensures { IfOk result (λ b. b ≡ is_chosen choice.now name.now) }
 {
@@ -101,6 +101,11 @@ fn is_chosen<'a>(
             let Some(patterns) = adjacent.patterns else {
                 return Ok(true);
             };
+            if adjacent.is_kept {
+                if let Some(answer) = search.searchers.any_kept(patterns, name) {
+                    return Ok(!answer);
+                }
+            }
             let place = adjacent.place;
             Ok(!matches_any(search, adjacent.schemas, place, patterns, name)?)
         }
@@ -117,22 +122,19 @@ fn is_named(properties: Option<&Members>, name: &str) -> bool
     }
 }
 
-// Whether one of the patterns of `patternProperties` at the place matches the name, as stored or by searches.
+// Whether one of the patterns of `patternProperties` at the place matches the name, by searches.
 fn matches_any<'a>(
     search: &PatternSearch<'_, 'a>,
     schemas: &'a Schemas,
     place: Place,
     patterns: &'a Members,
-    name: &str,
+    name: &'a str,
 ) -> Result<bool, Memory>
     requires place { is_place schemas.now place ≡ true }
     requires patterns { ArePatternsAt schemas.now place patterns.now }
     ensures { IfOk result (λ b. b ≡ list_any (λ p. matches p.0 name.now) patterns.now) }
 {
     let searchers = search.searchers;
-    if let Some(answer) = searchers.any_kept(patterns, name) {
-        return Ok(answer);
-    }
     for (pattern, _) in patterns.pairs() {
         let built = pattern_of(schemas, place, pattern.as_str());
         if searchers.matches_name(search.alloc, built, name)? {

@@ -14,6 +14,7 @@ use crate::instance::{Applied, Instance};
 use crate::order::keyword::KeywordAt;
 use crate::schema::argument_in;
 use crate::schema_lookup::subschema_at;
+use crate::searching::pattern_answers::are_few;
 use crate::searching::searchers::{NamedPattern, PatternSearch, pattern_of};
 use js_bundle::{Place, Step};
 use js_doc::{Doc, Members, Memory, Pairs};
@@ -33,7 +34,7 @@ pub(crate) struct PatternCursor<'a> {
     pub schema_below: &'a Doc,
     pub left: Pairs<'a>,
     /// Whether the matches of the patterns are stored, because `additionalProperties` of the same schema has needed
-    /// them.
+    /// them, and they aren't few.
     pub is_kept: bool,
 }
 
@@ -60,7 +61,8 @@ impl<'a> PatternCursor<'a> {
             below: at.place,
             schema_below: schema,
             left: members.pairs(),
-            is_kept: argument_in(schema, "additionalProperties").is_some(),
+            is_kept: !are_few(patterns, members)
+                && argument_in(schema, "additionalProperties").is_some(),
         }
     }
 
@@ -175,7 +177,7 @@ fn is_match<'a>(
     search: &PatternSearch<'_, 'a>,
     pattern: NamedPattern<'a>,
     is_kept: bool,
-    name: &str,
+    name: &'a str,
 ) -> Result<bool, Memory>
     ensures { IfOk result (λ b. b ≡ matches pattern.entry.text.now name.now) }
 {

@@ -17,6 +17,7 @@ use crate::keywords::in_place::held;
 use crate::keywords::references::{referred, referred_dynamically};
 use crate::keywords::{arrays, conditional, contains, in_place, objects, unevaluated};
 use crate::order::keyword::KeywordAt;
+use crate::searching::searchers::Searchers;
 use js_bundle::{KeywordName, Schemas};
 use js_doc::Memory;
 use std::alloc::Global;
@@ -51,6 +52,7 @@ pub(crate) fn asking_of_keyword<'a>(
     alloc: Global,
     schemas: &'a Schemas,
     at: &KeywordAt<'a>,
+    searchers: &Searchers<'a>,
     scene: Scene<'_, 'a>,
     facts: Facts<'_, 'a>,
 ) -> Result<Asking<'a>, Memory>
@@ -90,7 +92,7 @@ pub(crate) fn asking_of_keyword<'a>(
         KeywordName::Items => Ok(arrays::following(&start)),
         KeywordName::Contains => Ok(contains::every(&start)),
         KeywordName::Properties => objects::properties(&start),
-        KeywordName::PatternProperties => objects::patterns(&start),
+        KeywordName::PatternProperties => objects::patterns(&start, searchers),
         KeywordName::AdditionalProperties => objects::additional(&start),
         KeywordName::PropertyNames => objects::property_names(&start),
         KeywordName::UnevaluatedItems => unevaluated::unevaluated_items(&start, facts.indexes),

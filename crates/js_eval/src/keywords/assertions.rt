@@ -42,7 +42,7 @@ pub(crate) fn satisfies<'a>(
     alloc: Global,
     searchers: &Searchers<'a>,
     assertion: &'a Assertion,
-    value: Instance<'_>,
+    value: Instance<'a>,
     matching: u64,
 ) -> Result<bool, Memory>
     ensures { IfOk result (λ b. b ≡ spec.says assertion.now (instance_of value.entry) matching) }
@@ -58,7 +58,7 @@ fn has_match<'a>(
     alloc: Global,
     searchers: &Searchers<'a>,
     pattern: &'a Pattern,
-    value: Instance<'_>,
+    value: Instance<'a>,
 ) -> Result<bool, Memory>
     ensures { IfOk result (λ b. b ≡ on_string (instance_of value.entry) (λ s. matches pattern.now s)) }
 {
@@ -106,7 +106,7 @@ pub(crate) fn error_of<'a>(
     alloc: Global,
     searchers: &Searchers<'a>,
     assertion: Option<&'a Assertion>,
-    value: Instance<'_>,
+    value: Instance<'a>,
     matching: u64,
 ) -> Result<Option<String>, Memory>
     ensures { IfOk result (λ e. option_map string_bytes e

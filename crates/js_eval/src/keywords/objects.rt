@@ -10,6 +10,7 @@ ghost use Rattle.js_eval.specs.code.Asked.{IsAsking, asked};
 ghost use Rattle.js_eval.specs.code.Cursors.{is_chosen, is_among_keys, members_asked};
 ghost use Rattle.js_eval.specs.code.Holding.{IsIn};
 ghost use Rattle.js_eval.specs.code.NamesLeft.{members_among};
+ghost use Rattle.js_eval.specs.code.Patterns.{ArePatternsAt};
 ghost use Rattle.js_eval.specs.code.Starting.{HoldsBy, HoldsOne, IsAtPlace, by_keyword, on_members, on_namesakes};
 ghost use Rattle.js_eval.specs.code.Terms.{Documents, entries, has, instance_of, keyword_of, texts_of, value_of};
 ghost use Rattle.js_bundle.specs.declared.keyword_name.KeywordName.TheVariants.{PatternProperties};
@@ -27,10 +28,13 @@ use crate::cursors::name_cursor::{Among, NameCursor};
 use crate::cursors::pattern_cursor::PatternCursor;
 use crate::cursors::start::CursorStart;
 use crate::instance::{Instance, names_ascend};
+use crate::keywords::nothing_left::{are_all_named, match_none};
 use crate::order::keyword::KeywordAt;
 use crate::schema::{object_at, patterns_in};
 use crate::schema_lookup::held_below;
 use crate::searching::name_set::{is_in, set_of};
+use crate::searching::pattern_answers::are_few;
+use crate::searching::searchers::Searchers;
 use js_doc::{Doc, Members, Memory};
 use js_tree::{Names, Note};
 use std::alloc::Global;
@@ -111,7 +115,10 @@ fn among_members<'a>(named: &'a Members, members: &'a Members) -> Among<'a>
 ///
 /// # Errors
 /// `Memory` if an allocation fails.
-pub(crate) fn patterns<'a>(start: &CursorStart<'_, 'a>) -> Result<Asking<'a>, Memory>
+pub(crate) fn patterns<'a>(
+    start: &CursorStart<'_, 'a>,
+    searchers: &Searchers<'a>,
+) -> Result<Asking<'a>, Memory>
     requires place { IsAtPlace start.now.schemas.now start.now.at.now }
     requires keyword { IsIn (value_of start.now.at.now.schema.now) (keyword_of start.now.at.now.keyword) }
     requires kind { start.now.at.now.keyword.which ≡ PatternProperties }
@@ -127,11 +134,42 @@ pub(crate) fn patterns<'a>(start: &CursorStart<'_, 'a>) -> Result<Asking<'a>, Me
     match start.value.object() {
         Some(members) => {
             names_ascend(patterns);
-            let cursor = PatternCursor::new(start.at, patterns, members);
-            Ok(Asking::Patterns(in_box(start.alloc, cursor)?))
+            on_matching(start, searchers, patterns, members)
         }
         None => Ok(Asking::One(None)),
     }
+}
+
+// The schema of each pattern, on each member whose name it matches.
+fn on_matching<'a>(
+    start: &CursorStart<'_, 'a>,
+    searchers: &Searchers<'a>,
+    patterns: &'a Members,
+    members: &'a Members,
+) -> Result<Asking<'a>, Memory>
+    requires place { IsAtPlace start.now.schemas.now start.now.at.now }
+    requires patterns { ArePatternsAt start.now.schemas.now start.now.at.now.place patterns.now }
+    ensures asked { IfOk result (λ a. asked start.now.schemas.now a
+        ≡ flat_map (λ p. map (λ m. by_keyword start.now.schemas.now start.now.at.now (spec.Name p.0) (spec.Name m.0)
+        m.1) (filter (λ m. matches p.0 m.0) members.now)) patterns.now) }
+    ensures is { IfOk result (λ a. IsAsking start.now.schemas.now a) }
+{
+    let at = start.at;
+    if are_few(patterns, members) {
+        let none = match_none(
+            start.alloc,
+            start.schemas,
+            searchers,
+            at.place,
+            patterns,
+            members,
+        )?;
+        if none {
+            return Ok(Asking::One(None));
+        }
+    }
+    let cursor = PatternCursor::new(at, patterns, members);
+    Ok(Asking::Patterns(in_box(start.alloc, cursor)?))
 }
 
 /// The applications of `additionalProperties`.
@@ -153,15 +191,27 @@ pub(crate) fn additional<'a>(start: &CursorStart<'_, 'a>) -> Result<Asking<'a>, 
     let at = start.at;
     let schema = at.schema;
     let properties = object_at(schema, "properties");
+    if are_all_named(properties, members) {
+        return Ok(Asking::One(None));
+    }
     let patterns = patterns_in(schema);
     let choice = Choice::Additional(Adjacent {
         schemas: start.schemas,
         place: at.place,
         properties,
         patterns,
+        is_kept: !are_few_in(patterns, members),
     });
     let cursor = on_chosen(start, AppliedTo::Part, members, choice);
     Ok(Asking::Members(in_box(start.alloc, cursor)?))
+}
+
+// Whether the answers of the patterns, if there are any, aren't stored.
+fn are_few_in(patterns: Option<&Members>, members: &Members) -> bool {
+    match patterns {
+        Some(patterns) => are_few(patterns, members),
+        None => true,
+    }
 }
 
 /// The applications of `propertyNames`.

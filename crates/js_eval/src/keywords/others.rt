@@ -27,7 +27,7 @@ pub(crate) fn judge_others<'a>(
     schemas: &'a Schemas,
     searchers: &Searchers<'a>,
     place: Place,
-    value: Instance<'_>,
+    value: Instance<'a>,
     matching: u64,
 ) -> Result<Others, Memory>
     requires { is_place schemas.now place ≡ true }
@@ -43,7 +43,7 @@ fn holds_each<'a>(
     alloc: Global,
     searchers: &Searchers<'a>,
     assertions: &'a [Assertion],
-    value: Instance<'_>,
+    value: Instance<'a>,
     matching: u64,
 ) -> Result<bool, Memory>
     ensures { IfOk result (λ b. b ≡ list_all (λ a. spec.says a (instance_of value.entry) matching) assertions.now) }

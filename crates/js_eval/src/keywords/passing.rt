@@ -34,7 +34,7 @@ pub(crate) fn judge_keyword<'a>(
     searchers: &Searchers<'a>,
     place: Place,
     schema: &Doc,
-    value: Instance<'_>,
+    value: Instance<'a>,
     keyword: Keyword<'_>,
     tally: Tally,
     matching: u64,

@@ -11,6 +11,7 @@ use crate::cursors::asking::{Asking, in_box};
 use crate::cursors::item_cursor::ItemCursor;
 use crate::cursors::member_cursor::Choice;
 use crate::cursors::start::CursorStart;
+use crate::keywords::nothing_left::are_all_evaluated;
 use crate::keywords::objects::on_chosen;
 use crate::schema_lookup::held_below;
 use crate::searching::name_set::set_of;
@@ -72,6 +73,9 @@ pub(crate) fn unevaluated_properties<'a>(
     let Some(members) = start.value.object() else {
         return Ok(Asking::One(None));
     };
+    if are_all_evaluated(members, evaluated) {
+        return Ok(Asking::One(None));
+    }
     let set = set_of(start.alloc, evaluated)?;
     let cursor = on_chosen(start, AppliedTo::Part, members, Choice::Except(set));
     Ok(Asking::Members(in_box(start.alloc, cursor)?))

@@ -1,5 +1,5 @@
-//! Which names of an object the patterns of `patternProperties` match. `additionalProperties` needs this first, and
-//! `patternProperties` of the same schema reuses it.
+//! Which names of a large object the patterns of `patternProperties` match. `additionalProperties` needs this first,
+//! and `patternProperties` of the same schema reuses it.
 ghost use Rattle.std.specs.Prelude.{◌≡◌, IfOk, MatchOption, drop, map};
 ghost use Rattle.std.specs.List.{list_any};
 ghost use Rattle.js_assert.specs.Pattern.{matches};
@@ -9,10 +9,22 @@ ghost use Rattle.js_eval.specs.code.Standing.{IsSchemaAt};
 use crate::instance::Instance;
 use crate::marks::is_marked;
 use crate::schema::patterns_in;
+use crate::schema_lookup::names_at;
 use crate::searching::searchers::{NamedPattern, Searchers, pattern_of};
-use js_bundle::{Place, Schemas};
+use js_bundle::{KeywordName, Place, Schemas};
 use js_doc::{Doc, Members, Memory, Pairs};
 use std::alloc::Global;
+
+/// Where an object has no more members than this, and a schema no more patterns than `FEW_PATTERNS`, what the patterns
+/// match isn't stored: recent answers are remembered anyway.
+const FEW_MEMBERS: usize = 16;
+
+const FEW_PATTERNS: usize = 4;
+
+/// Whether there are so few patterns and members that what they match isn't stored.
+pub(crate) fn are_few(patterns: &Members, members: &Members) -> bool {
+    patterns.len() <= FEW_PATTERNS && members.len() <= FEW_MEMBERS
+}
 
 /// For one pattern: whether it matches each name of an object. Names are asked for in ascending order, and some may be
 /// skipped.
@@ -129,7 +141,7 @@ impl<'p> AllAnswers<'p> {
 }
 
 /// Tries each pattern of a schema's `patternProperties` on each name of the value, if it is an object, and stores the
-/// answers in `searchers`.
+/// answers in `searchers`, unless they are few.
 ///
 /// # Errors
 /// `Memory` if an allocation fails.
@@ -144,12 +156,18 @@ pub(crate) fn keep_all<'p>(
 ) -> Result<(), Memory>
     requires { IsSchemaAt schemas.now place (value_of schema.now) }
 {
+    if !has_patterns(names_at(schemas, place)) {
+        return Ok(());
+    }
     let Some(patterns) = patterns_in(schema) else {
         return Ok(());
     };
     let Some(members) = value.object() else {
         return Ok(());
     };
+    if are_few(patterns, members) {
+        return Ok(());
+    }
     let mut each = Vec::with_capacity(alloc, patterns.len())?;
     for (text, _) in patterns.pairs() {
         let pattern = pattern_of(schemas, place, text.as_str());
@@ -160,6 +178,16 @@ pub(crate) fn keep_all<'p>(
         present: 0,
         next: 0,
     })
+}
+
+// Whether a schema with these keywords has `patternProperties`.
+fn has_patterns(names: &[KeywordName]) -> bool {
+    for name in names {
+        if matches!(*name, KeywordName::PatternProperties) {
+            return true;
+        }
+    }
+    false
 }
 
 // Whether the pattern matches each of the names.

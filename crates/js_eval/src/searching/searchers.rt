@@ -6,6 +6,7 @@ ghost use Rattle.js_bundle.specs.Schemas.{is_place};
 ghost use Rattle.js_eval.specs.code.Patterns.{IsPatternAt};
 
 use crate::searching::pattern_answers::AllAnswers;
+use crate::searching::recent_answers::RecentAnswers;
 use js_assert::{Pattern, Searcher};
 use js_bundle::{Place, Schemas};
 use js_doc::{Members, Memory};
@@ -48,8 +49,8 @@ pub(crate) struct PatternSearch<'s, 'p> {
 }
 
 /// Searches with patterns. A searcher is kept for the next search with the same pattern, because making one takes
-/// longer than most searches. Which names of an object the patterns of a schema match is stored while two of its
-/// keywords need it.
+/// longer than most searches, and so are the answers of recent searches. Which names of a large object the patterns of
+/// a schema match is stored while two of its keywords need it.
 #[derive(Drop)]
 pub(crate) struct Searchers<'p> {
     cache: RefCell<Cache<'p>>,
@@ -58,10 +59,11 @@ pub(crate) struct Searchers<'p> {
     answers: RefCell<Vec<AllAnswers<'p>>>,
 }
 
-/// The cached searchers, sorted by the text of their patterns, and the number of bytes searched. If either limit is
-/// exceeded, all searchers are dropped.
+/// The recent answers, the cached searchers, sorted by the text of their patterns, and the number of bytes searched. If
+/// either limit is exceeded, all searchers are dropped.
 #[derive(Drop)]
 struct Cache<'p> {
+    recent: RecentAnswers<'p>,
     all: Vec<Marked<'p>>,
     searched: usize,
 }
@@ -79,6 +81,7 @@ impl<'p> Searchers<'p> {
     pub fn new(alloc: Global) -> Searchers<'p> {
         Searchers {
             cache: RefCell::new(Cache {
+                recent: RecentAnswers::new(alloc),
                 all: Vec::new(alloc),
                 searched: 0,
             }),
@@ -95,16 +98,13 @@ impl<'p> Searchers<'p> {
         &self,
         alloc: Global,
         named: NamedPattern<'p>,
-        name: &str,
+        name: &'p str,
     ) -> Result<bool, Memory>
         ensures { IfOk result (λ b. b ≡ matches named.entry.text.now name.now) }
     {
         let NamedPattern { pattern, text } = named;
         match self.cache.try_borrow_mut() {
-            Ok(mut cache) => match search_again(&mut cache, text, name) {
-                Some(found) => Ok(found),
-                None => search_first(alloc, &mut cache, pattern, text, name),
-            },
+            Ok(mut cache) => answer(alloc, &mut cache, pattern, text, name),
             Err(_) => pattern.holds(alloc, name),
         }
     }
@@ -156,6 +156,42 @@ impl<'p> Searchers<'p> {
             Ok(mut entries) => entries.last_mut()?.find(pattern, name),
             Err(_) => None,
         }
+    }
+}
+
+// Whether the pattern matches the name, as remembered or by a search.
+fn answer<'p>(
+    alloc: Global,
+    cache: &mut Cache<'p>,
+    pattern: &'p Pattern,
+    text: &'p str,
+    name: &'p str,
+) -> Result<bool, Memory>
+    requires { pattern.now ≡ text.now }
+    ensures { IfOk result (λ b. b ≡ matches text.now name.now) }
+{
+    if let Some(found) = cache.recent.find(text, name) {
+        return Ok(found);
+    }
+    let found = search(alloc, cache, pattern, text, name)?;
+    cache.recent.remember(text, name, found);
+    Ok(found)
+}
+
+// Searches with a cached searcher, or with a new one.
+fn search<'p>(
+    alloc: Global,
+    cache: &mut Cache<'p>,
+    pattern: &'p Pattern,
+    text: &'p str,
+    name: &str,
+) -> Result<bool, Memory>
+    requires { pattern.now ≡ text.now }
+    ensures { IfOk result (λ b. b ≡ matches text.now name.now) }
+{
+    match search_again(cache, text, name) {
+        Some(found) => Ok(found),
+        None => search_first(alloc, cache, pattern, text, name),
     }
 }
 

@@ -6,6 +6,6 @@ use Rattle.js_eval.proofs.cursors.member_cursor.matches_any.Goals as goal
 
 pub pattern_of-built-requires-clause-pattern : goal.pattern_of-built-requires-clause-pattern
 pattern_of-built-requires-clause-pattern c =
-    let known = subst (λ es. ArePatternsAt c.args.schemas.now c.args.place (map pair_of es)) c.in-Some-2.ensures.steps
+    let known = subst (λ es. ArePatternsAt c.args.schemas.now c.args.place (map pair_of es)) c.in-Some.ensures.steps
     c.loop-pattern.invariant.known in
     subst (IsPatternAt c.args.schemas.now c.args.place) (sym c.as_str.ensures) (and_parts _ _ known).0
