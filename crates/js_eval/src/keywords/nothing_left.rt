@@ -16,10 +16,10 @@ use std::alloc::Global;
 use std::cmp::Ordering;
 
 /// Names and members are gone through side by side, unless there are more names than this number times the members.
-const MANY_MORE: usize = 4;
+const NAMES_PER_MEMBER: usize = 4;
 
 /// The names of more members than this, or more evaluated names than four times as many, are put into a set.
-const FEW: usize = 32;
+const FEW_TO_SEARCH: usize = 32;
 
 /// Whether each member is named in the adjacent `properties`. Without such a keyword the answer is no.
 pub(crate) fn are_all_named(properties: Option<&Members>, members: &Members) -> bool
@@ -45,7 +45,7 @@ fn each_is_named(named: &Members, members: &Members) -> bool
 
 // The rank to begin with: the first, or none where a step through all names would take too long.
 fn first_rank(named: &Members, members: &Members) -> usize {
-    if named.len() / MANY_MORE > members.len() {
+    if named.len() / NAMES_PER_MEMBER > members.len() {
         named.len()
     } else {
         0
@@ -92,7 +92,7 @@ fn rank_near(named: &Members, name: &str, start: usize) -> usize {
 pub(crate) fn are_all_evaluated(members: &Members, evaluated: &[&str]) -> bool
     ensures { result ≡ true → list_all (λ m. among_names m.0 (texts_of evaluated.now)) members.now ≡ true }
 {
-    if members.len() > FEW || evaluated.len() > 4 * FEW {
+    if members.len() > FEW_TO_SEARCH || evaluated.len() > 4 * FEW_TO_SEARCH {
         return false;
     }
     let mut near = 0;

@@ -33,7 +33,7 @@ impl<'p> RecentAnswers<'p> {
     }
 
     /// Whether the pattern matches the name, if that is remembered.
-    pub fn find(&self, pattern: &str, name: &str) -> Option<bool>
+    pub fn recall(&self, pattern: &str, name: &str) -> Option<bool>
         ensures { MatchOption result (Unit {0}) (λ b. b ≡ matches pattern.now name.now) }
     {
         let answer = self.slots.get(slot_of(pattern, name))?;

@@ -170,7 +170,7 @@ fn answer<'p>(
     requires { pattern.now ≡ text.now }
     ensures { IfOk result (λ b. b ≡ matches text.now name.now) }
 {
-    if let Some(found) = cache.recent.find(text, name) {
+    if let Some(found) = cache.recent.recall(text, name) {
         return Ok(found);
     }
     let found = search(alloc, cache, pattern, text, name)?;
