@@ -1,11 +1,8 @@
 """The JavaScript package as tests of the Python package call theirs: by a process that is asked."""
-import atexit
 import base64
 import json
-import subprocess
-from functools import lru_cache
 
-from this_command import HERE, NODE
+from this_command import process
 
 import jschema  # isort: skip
 from jschema.lint import Finding  # isort: skip
@@ -13,21 +10,9 @@ from jschema.positions import Position, Text  # isort: skip
 from jschema.sources import Range  # isort: skip
 
 
-@lru_cache(maxsize=None)
-def process():
-    """The process, which ends with this one."""
-    started = subprocess.Popen([NODE, str(HERE / "asked.js")], stdin=subprocess.PIPE, stdout=subprocess.PIPE,
-                               encoding="utf-8")
-    atexit.register(started.wait)
-    atexit.register(started.stdin.close)
-    return started
-
-
 def asked(name, *given):
     """What a call returns. Raises what Python's package would."""
-    process().stdin.write(json.dumps([name, *given]) + "\n")
-    process().stdin.flush()
-    answer = json.loads(process().stdout.readline())
+    answer = process("asked.js").asked([name, *given])
     if "answer" in answer:
         return answer["answer"]
     if answer["thrown"] == "Refused":
