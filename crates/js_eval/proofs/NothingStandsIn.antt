@@ -13,14 +13,12 @@ use Rattle.std.proofs.lemmas.Option.{slice_get-get_or}
 use Rattle.std.proofs.lemmas.Slice.Eq.{bytes_eq-Decides}
 use borrow.Author.Tests.{ltb-true}
 use Rattle.url.specs.Parts.{Parts}
-use Rattle.js_doc.proofs.EachSame.{each_same}
 use Rattle.js_doc.proofs.FiniteMaps.{get_here}
 use Rattle.js_doc.specs.Members.{get, name_cmp, IsAscending, IsBelowFirst, IsBelowHead}
 use Rattle.js_doc.specs.Members.{NamesAscend, NamesAscendInMembers}
 use Rattle.js_doc.specs.Parts.{member_list}
 use Rattle.js_doc.specs.Value.{Value, null, object, Members, no_members, member, Named}
 use Rattle.js_assert.specs.Argument.{entries, values, has}
-use Rattle.js_assert.specs.Keyword.{keyword_named}
 use Rattle.js_assert.specs.Pattern.{matches}
 use Rattle.js_bundle.specs.Document.{Documents}
 use Rattle.js_bundle.specs.FindingLaws.{EachIsFound, FindsAll}

@@ -1,10 +1,10 @@
 -- The members of `patternProperties` are the patterns of the place.
-use Rattle.std.proofs.Common.{◌≡◌, ℕ, List, [], ◌∷◌, Option, Some, None, true, refl, sym, ap, ◌∙◌, subst}
+use Rattle.std.proofs.Common.{◌≡◌, ℕ, List, [], ◌∷◌, Option, Some, None, refl, sym, ap, ◌∙◌, subst}
 use Rattle.std.specs.Prelude.{codes, is_some, option_and_then, option_map}
 use Rattle.std.specs.Option.{option_map_or}
 use Rattle.js_assert.specs.Argument.{entries}
 use Rattle.js_bundle.specs.Document.{Documents}
-use Rattle.js_bundle.specs.Schemas.{pattern, place_at}
+use Rattle.js_bundle.specs.Schemas.{pattern}
 use Rattle.js_doc.specs.Members.{IsAscending, get}
 use Rattle.js_doc.specs.Parts.{members_of}
 use Rattle.js_doc.specs.Value.{Value, Named}

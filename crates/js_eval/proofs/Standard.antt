@@ -20,7 +20,7 @@ use Rattle.js_bundle.specs.declared.keyword_name.KeywordName.TheVariants.{Assert
 use Rattle.js_bundle.specs.declared.keyword_name.OtherName.{OtherName}
 use Rattle.js_bundle.specs.declared.keyword_name.OtherName.TheVariants.{Unknown}
 use Rattle.js_eval.specs.Keywords.{has_node, is_else, is_after_if, without_node}
-use Rattle.js_eval.specs.code.Standard.{turn_by_keyword, turn_by_side, keyword_names_of}
+use Rattle.js_eval.specs.code.Standard.{turn_by_keyword, keyword_names_of}
 use Rattle.js_eval.specs.code.Turns.{turn_by, turn_of}
 use Rattle.js_eval.specs.declared.order.turn.Turn.{Turn}
 use Rattle.js_eval.specs.declared.order.turn.Turn.TheVariants.{Never, First, Last}

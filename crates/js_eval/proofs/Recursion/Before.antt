@@ -33,7 +33,7 @@ use Rattle.js_eval.specs.SchemaSet.{Text, SchemaSet, Alone}
 use Rattle.js_eval.specs.Verdict as verdict
 use Rattle.js_eval.specs.Verdict.{Known, within, asks, passes}
 use Rattle.js_bundle.specs.declared.keyword_name.KeywordName.{KeywordName}
-use Rattle.js_bundle.specs.declared.keyword_name.KeywordName.TheVariants.{Then, Else, Assertion, Other}
+use Rattle.js_bundle.specs.declared.keyword_name.KeywordName.TheVariants.{Then, Else, Assertion}
 use Rattle.js_bundle.specs.declared.keyword_name.KeywordName.TheVariants.{UnevaluatedItems, UnevaluatedProperties}
 use Rattle.js_eval.proofs.Standard.{by_keyword}
 use Rattle.js_eval.proofs.FoundByName.{IsAmong, AreAmong, all_of_filter, keywords_among}

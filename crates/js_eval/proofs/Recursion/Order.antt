@@ -22,7 +22,7 @@ use Rattle.js_eval.specs.SchemaSet.{Text, SchemaSet, Alone}
 use Rattle.js_eval.specs.Verdict as verdict
 use Rattle.js_eval.specs.Verdict.{Known}
 use Rattle.js_bundle.specs.declared.keyword_name.KeywordName.{KeywordName}
-use Rattle.js_bundle.specs.declared.keyword_name.KeywordName.TheVariants.{If, Then, Else, Contains, Assertion, Other}
+use Rattle.js_bundle.specs.declared.keyword_name.KeywordName.TheVariants.{If, Then, Else, Contains}
 use Rattle.js_eval.proofs.Standard.{by_keyword}
 use Rattle.js_eval.proofs.FoundByName.{IsAmong, AreAmong, keywords_among}
 use Rattle.js_eval.specs.Walk.Keeping.{condition_step, matching_step}
