@@ -91,10 +91,12 @@ def judge(given, documents, document, folder):
 
 
 def upgrade(given, folder, pairs, document):
-    """Upgrades documents into the folder `new`; why they, or what they become, are refused."""
+    """Upgrades documents into the folder `new`; why they, or what they become, are refused. Those that name no dialect
+    are of this document's."""
     new = os.path.join(folder, "new")
     os.makedirs(new, exist_ok=True)
-    _, refused = run(given, folder, given.upgrade, "--into", "new", *pairs)
+    assumed = ["--default-dialect", document.dialect()] if document.draft() else []
+    _, refused = run(given, folder, given.upgrade, *assumed, "--into", "new", *pairs)
     if refused:
         return f"upgrade: {refused}"
     _, refused = run(given, folder, given.program, "check", "flag", "instance.json", document.uri, *new_pairs(pairs))
