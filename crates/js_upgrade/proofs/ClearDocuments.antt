@@ -1,23 +1,23 @@
 -- Documents that are clear, and have no copies: the resources are their roots.
-use Rattle.std.proofs.Common.{◌≡◌, ℕ, ◌+◌, List, [], ◌∷◌, ◌++◌, Bool, true, false, Option, Some, None, refl, sym, ap, ◌∙◌}
-use Rattle.std.specs.Prelude.{◌||◌, option_map, option_to_list, unwrap_or}
+use Rattle.std.proofs.Common.{◌≡◌, ℕ, ◌+◌, List, [], ◌∷◌, ◌++◌, Bool, true, false, Some, None, refl, sym, ap, ◌∙◌}
+use Rattle.std.specs.Prelude.{◌||◌, option_map}
 use Rattle.std.specs.List.{list_any}
 use Rattle.std.proofs.lemmas.List.{append-nil}
 use Rattle.url.specs.Parts.{Parts}
-use Rattle.js_doc.specs.Parts.{member_list, members_of}
+use Rattle.js_doc.specs.Parts.{member_list}
 use Rattle.js_doc.specs.Value.{Value, object, Members, Named, members}
 use Rattle.js_doc.proofs.PartLists.{member_list-members, members-member_list}
 use Rattle.js_upgrade.specs.Copies.{Copies}
 use Rattle.js_upgrade.specs.Dialect.{first_of}
 use Rattle.js_upgrade.specs.Documents.{SourceDocument, Sources, all_resources, resources_by, source_dialect}
 use Rattle.js_upgrade.specs.Documents.{source_resources}
-use Rattle.js_upgrade.specs.Fault.{deeper, documents_fault, fault_by_dialect, fault_in, in_document, member_fault}
-use Rattle.js_upgrade.specs.Fault.{schema_fault, source_fault}
+use Rattle.js_upgrade.specs.Fault.{documents_fault, fault_by_dialect, fault_in, in_document, member_fault}
+use Rattle.js_upgrade.specs.Fault.{schema_fault}
 use Rattle.js_upgrade.specs.Resource.{Resource, begun, document_resources, identity, member_resources, own_base}
 use Rattle.js_upgrade.specs.Resource.{own_resources, resource_under}
 use Rattle.js_upgrade.specs.Upgrade.{holding_in, own_dialect}
-use Rattle.js_upgrade.specs.code.Clear.{AreClear, AreClearMembers, IsClearBelow, IsClearDocument, IsClearRoot}
-use Rattle.js_upgrade.specs.code.Clear.{all_roots, own_root, roots_by, source_roots}
+use Rattle.js_upgrade.specs.code.Clear.{AreClear, IsClearDocument, IsClearRoot}
+use Rattle.js_upgrade.specs.code.Clear.{own_root, roots_by, source_roots}
 use Rattle.js_upgrade.specs.code.Copied.{has_some}
 use Rattle.js_upgrade.specs.declared.dialect.Dialect.{Dialect}
 use Rattle.js_upgrade.specs.declared.fault.Pass.TheVariants.{AnyOfThese}

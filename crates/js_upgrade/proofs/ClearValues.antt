@@ -1,21 +1,19 @@
 -- What is clear, from what it holds.
-use Rattle.std.proofs.Common.{◌≡◌, ℕ, ◌+◌, ◌<◌, List, [], ◌∷◌, ◌++◌, Bool, true, false, not, ◌&&◌, Option, Some, None}
+use Rattle.std.proofs.Common.{◌≡◌, ℕ, ◌+◌, ◌<◌, List, ◌∷◌, ◌++◌, Bool, true, false, not, ◌&&◌, Option, Some, None}
 use Rattle.std.proofs.Common.{cond, codes, drop, get_or, length, map, refl, sym, ap, ◌∙◌}
 use Rattle.std.specs.Prelude.{decimal, option_and_then, option_map, unwrap_or}
 use Rattle.std.proofs.lemmas.List.{drop_more}
 use Rattle.url.specs.Parts.{Parts}
 use Rattle.js_doc.specs.Members.{get, has_name}
-use Rattle.js_doc.specs.Parts.{member_list}
 use Rattle.js_doc.specs.Seen.{value_of, pair_of}
-use Rattle.js_doc.specs.Value.{Value, Text, Values, Named, object, items, members}
+use Rattle.js_doc.specs.Value.{Text, Named, object, items, members}
 use Rattle.js_doc.specs.declared.doc.Doc.{Doc}
 use Rattle.js_doc.proofs.PartLists.{member_list-members}
 use Rattle.js_upgrade.specs.Dialect.{first_of, is_before}
-use Rattle.js_upgrade.specs.Fault.{FoundFault, at_keyword, deeper, dialect_kind, fault_in, identifier_kind, item_fault}
+use Rattle.js_upgrade.specs.Fault.{at_keyword, deeper, dialect_kind, identifier_kind, item_fault}
 use Rattle.js_upgrade.specs.Fault.{member_fault, name_fault, other_fault, reference_fault, reference_kind, schema_fault}
 use Rattle.js_upgrade.specs.Fault.{unevaluated_fault}
 use Rattle.js_upgrade.specs.Resource.{Resource, begun, identity, item_resources, joined_text, member_resources}
-use Rattle.js_upgrade.specs.Resource.{resources}
 use Rattle.js_upgrade.specs.Schema.{hides, is_identifier}
 use Rattle.js_upgrade.specs.Upgrade.{dialect_in, dialect_or, holding_in, identifier, own_dialect}
 use Rattle.js_upgrade.specs.code.Clear.{AreClearItems, AreClearMembers, HasNoName, IsClear, IsClearSchema}

@@ -1,26 +1,23 @@
 -- A usual reference leads to the definition that it names, and to nothing that is copied.
-use Rattle.std.proofs.Common.{◌≡◌, ℕ, ◌+◌, ◌<◌, ◌≤◌, List, [], ◌∷◌, ◌++◌, Bool, true, false, not, ◌&&◌, ◌||◌, Option, Some, None}
-use Rattle.std.proofs.Common.{zero, suc, cond, length, nat_lt, codes, refl, sym, ap, ◌∙◌, arith, flat_map}
-use Rattle.std.specs.Prelude.{◌==◌, ◌/◌, bytes_eq, is_none, is_some, option_and_then, option_map, slice_get, if◌then◌else◌}
-use Rattle.std.specs.List.{list_all, position_from}
-use Rattle.std.specs.Str.{IsAscii, IsUtf8, is_utf8}
+use Rattle.std.proofs.Common.{◌≡◌, ℕ, ◌+◌, ◌<◌, ◌≤◌, [], ◌∷◌, ◌++◌, Bool, true, false, not, ◌&&◌, ◌||◌, Option, Some, None}
+use Rattle.std.proofs.Common.{zero, suc, cond, length, nat_lt, codes, refl, sym, ap, ◌∙◌, arith}
+use Rattle.std.specs.Prelude.{◌==◌, option_and_then, if◌then◌else◌}
+use Rattle.std.specs.List.{list_all}
+use Rattle.std.specs.Str.{IsAscii, is_utf8}
 use Rattle.std.proofs.lemmas.Bool.{agree_below, agree_below_at, and_parts, le-ltb, ltb-false, ltb-true}
 use Rattle.std.proofs.lemmas.Bool.Decides.{nat_tests}
 use Rattle.std.proofs.lemmas.List.{append-nil}
 use Rattle.std.proofs.lemmas.Str.{IsUtf8-from_ascii, is_utf8-from_IsUtf8}
 use Rattle.percent_encoding.specs.Percent.{percent_decode}
 use Rattle.percent_encoding.proofs.PercentLemmas.{percent_decode-nil, percent_decode_not_percent}
-use Rattle.url.specs.Parts.{Parts}
-use Rattle.js_doc.specs.Fragment.{fragment_byte}
-use Rattle.js_doc.specs.Members.{get}
 use Rattle.js_doc.specs.Plain.{is_plain}
 use Rattle.js_doc.specs.Pointer.{Tokens, escape, pointer_text}
 use Rattle.js_doc.specs.PointerReading.{pointer_of}
 use Rattle.js_doc.specs.Value.{Text}
-use Rattle.js_doc.proofs.PlainTokens.{all_kept, all_plain, kept_too}
+use Rattle.js_doc.proofs.PlainTokens.{all_kept, kept_too}
 use Rattle.js_doc.proofs.PointerTexts.{pointer_of-text}
 use Rattle.js_upgrade.specs.CopyName.{definitions_name}
-use Rattle.js_upgrade.specs.Dialect.{after_prefix, is_before}
+use Rattle.js_upgrade.specs.Dialect.{after_prefix}
 use Rattle.js_upgrade.specs.Url.{uri_limit}
 use Rattle.js_upgrade.specs.code.Local.{is_fragment_byte, local_fragment}
 use Rattle.js_upgrade.specs.code.Usual.{plain_name, usual_name, usual_prefix}

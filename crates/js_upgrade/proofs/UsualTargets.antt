@@ -11,19 +11,19 @@ use Rattle.js_doc.specs.Members.{get}
 use Rattle.js_doc.specs.Parts.{member_list, members_of}
 use Rattle.js_doc.specs.Plain.{is_plain}
 use Rattle.js_doc.specs.Fragment.{fragment_byte}
-use Rattle.js_doc.specs.Pointer.{Tokens, escape, pointer_text}
+use Rattle.js_doc.specs.Pointer.{Tokens, escape}
 use Rattle.js_doc.specs.Value.{Value, null, truth, whole, text, list, object, Members, Text, Named, members}
 use Rattle.js_doc.proofs.PartLists.{members-member_list}
 use Rattle.js_doc.proofs.PlainTokens.{all_plain}
 use Rattle.js_doc.proofs.TokenLookup.{is_text-refl, member_is}
 use Rattle.js_upgrade.specs.Apart.{apart, copy_of, if_schema, onward, takes_copies, under_name}
 use Rattle.js_upgrade.specs.Apart.{definitions_of}
-use Rattle.js_upgrade.specs.Copies.{Copies, copied_at, copied_for_text, copied_for_uri, copied_in, with_copy}
+use Rattle.js_upgrade.specs.Copies.{Copies, copied_at, copied_for_text, copied_in, with_copy}
 use Rattle.js_upgrade.specs.CopyName.{definitions_name, free_name, is_rooted}
 use Rattle.js_upgrade.specs.CopyName.{redirected}
 use Rattle.js_upgrade.specs.Dialect.{draft_number, is_before}
 use Rattle.js_upgrade.specs.Fault.{target_kind}
-use Rattle.js_upgrade.specs.Keyword.{applicator_change, assertion_change, change_in, core_change}
+use Rattle.js_upgrade.specs.Keyword.{applicator_change, assertion_change, core_change}
 use Rattle.js_upgrade.specs.Moved.{both, keyword_step, moved_tokens, step, tokens_under}
 use Rattle.js_upgrade.specs.Reference.{are_same_tokens, followed, in_resource, moved_in, with_pointer, with_target}
 use Rattle.js_upgrade.specs.Resource.{Resource}
