@@ -76,8 +76,8 @@ module _ (all : List Resource) where
           (members (member_list siblings)) ≡ []
           → own_resources [] d uri (member_list siblings) (object siblings) ≡ own_root d uri (object siblings)
       nothing_more own nothing =
-          ap (λ rs. begun d (object siblings) (identity (own_dialect d (member_list siblings)) uri (member_list siblings))
-          ++ rs)
+          ap (λ rs. begun d (object siblings)
+          (identity (own_dialect d (member_list siblings)) uri (member_list siblings)) ++ rs)
           (ap (λ e. member_resources (holding_in e (member_list siblings)) e (own_base e uri (member_list siblings))
           (members (member_list siblings))) own ∙ nothing)
           ∙ append-nil _

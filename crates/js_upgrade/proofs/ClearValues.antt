@@ -16,7 +16,7 @@ use Rattle.js_upgrade.specs.Fault.{unevaluated_fault}
 use Rattle.js_upgrade.specs.Resource.{Resource, begun, identity, item_resources, joined_text, member_resources}
 use Rattle.js_upgrade.specs.Schema.{hides, is_identifier}
 use Rattle.js_upgrade.specs.Upgrade.{dialect_in, dialect_or, holding_in, identifier, own_dialect}
-use Rattle.js_upgrade.specs.code.Clear.{AreClearItems, AreClearMembers, HasNoName, IsClear, IsClearSchema}
+use Rattle.js_upgrade.specs.code.Clear.{AreClearItems, AreClearMembers, IsAnonymous, IsClear, IsClearSchema}
 use Rattle.js_upgrade.specs.declared.dialect.Dialect.{Dialect}
 use Rattle.js_upgrade.specs.declared.dialect.Dialect.TheVariants.{Draft03, Draft04, Draft06}
 use Rattle.js_upgrade.specs.declared.dialect.Dialect.TheVariants.{Draft07, Draft2019, Draft2020}
@@ -62,7 +62,7 @@ module _ (all : List Resource) where
       (at_keyword (identifier d) (cond (hides d siblings) None (identifier_kind base o)))) none
       ∙ ap (at_keyword (identifier d)) (either (hides d siblings) None)
 
-  pub alone : (d : Dialect) (base : Parts) (siblings : Named) → HasNoName d siblings
+  pub alone : (d : Dialect) (base : Parts) (siblings : Named) → IsAnonymous d siblings
       → reference_kind all base (get (codes "$ref") siblings) ≡ None → IsClearSchema all d base siblings
   alone d base siblings (old, undeclared, unnamed) leads = (
     ap (λ o. dialect_or d siblings (option_and_then dialect_in o)) undeclared,

@@ -1,7 +1,8 @@
 -- Where a usual reference leads, by what is known of the definitions of its resource.
 use Rattle.std.proofs.Common.{◌≡◌, ℕ, List, [], ◌∷◌, ◌++◌, Bool, true, false, ◌&&◌, Option, Some, None}
 use Rattle.std.proofs.Common.{Bor, IfSome, cond, codes, flat_map, refl, sym, ap, ◌∙◌}
-use Rattle.std.specs.Prelude.{◌==◌, ◌/◌, is_none, is_some, length, nat_lt, option_and_then, option_map, slice_get, if◌then◌else◌}
+use Rattle.std.specs.Prelude.{◌==◌, ◌/◌, is_none, is_some, length, nat_lt, option_and_then, option_map}
+use Rattle.std.specs.Prelude.{slice_get, if◌then◌else◌}
 use Rattle.std.specs.List.{after_first, list_all, position_from}
 use Rattle.std.proofs.lemmas.Bool.{and_parts}
 use Rattle.std.proofs.lemmas.List.{append-nil}
@@ -275,7 +276,8 @@ moved_from d (list vs) name ms own there has = absurd (cc)
 -- ---- its text
 
 same_twice : (x y : Text) → are_same_tokens (x ∷ y ∷ []) (x ∷ y ∷ []) ≡ true
-same_twice x y = ap (λ b. b && are_same_tokens (y ∷ []) (y ∷ [])) (is_text-refl x) ∙ ap (λ b. b && true) (is_text-refl y)
+same_twice x y =
+    ap (λ b. b && are_same_tokens (y ∷ []) (y ∷ [])) (is_text-refl x) ∙ ap (λ b. b && true) (is_text-refl y)
 
 stays_by : (t name : Text) (same : Bool) → are_same_tokens (defs_tokens name) (defs_tokens name) ≡ same
     → same ≡ true → with_target t (defs_tokens name) (Some (defs_tokens name)) ≡ t

@@ -1,5 +1,6 @@
 -- The URIs that most schemas of a dialect have name the dialect, wherever their `$schema` counts.
-use Rattle.std.proofs.Common.{◌≡◌, [], ◌∷◌, ◌++◌, Bool, true, false, Option, Some, None, cond, codes, refl, sym, ap, ◌∙◌}
+use Rattle.std.proofs.Common.{◌≡◌, [], ◌∷◌, ◌++◌, Bool, true, false, Option, Some, None, cond, codes, refl, sym, ap}
+use Rattle.std.proofs.Common.{◌∙◌}
 use Rattle.std.specs.Prelude.{option_and_then, option_map, unwrap_or}
 use Rattle.js_doc.specs.Value.{Value, null, truth, whole, text, list, object, Named, Text}
 use Rattle.js_doc.proofs.TokenLookup.{is_text-sound}

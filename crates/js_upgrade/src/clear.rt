@@ -6,7 +6,7 @@ ghost use Rattle.js_doc.specs.Value.{items, members, object};
 ghost use Rattle.js_upgrade.specs.Fault.{reference_kind, schema_fault};
 ghost use Rattle.js_upgrade.specs.Resource.{identity};
 ghost use Rattle.js_upgrade.specs.Upgrade.{holding_in, own_dialect};
-ghost use Rattle.js_upgrade.specs.code.Clear.{AreClearItems, AreClearMembers, HasNoName, IsClear, IsClearSchema};
+ghost use Rattle.js_upgrade.specs.code.Clear.{AreClearItems, AreClearMembers, IsAnonymous, IsClear, IsClearSchema};
 ghost use Rattle.js_upgrade.specs.code.Table.{all_of};
 ghost use Rattle.js_upgrade.specs.declared.holding.SchemaHolding.TheVariants.{One};
 
@@ -61,12 +61,12 @@ fn is_clear_alone(scope: Scope<'_>, dialect: Dialect, siblings: &Members) -> boo
     ensures { result ≡ true → IsClearSchema (all_of scope.entry.resources.now) dialect scope.entry.base.now
         siblings.now }
 {
-    has_no_name(dialect, siblings) && refers_usually(scope, found(siblings, "$ref"))
+    is_anonymous(dialect, siblings) && refers_usually(scope, found(siblings, "$ref"))
 }
 
 // Neither `$schema` nor an identifier.
-fn has_no_name(dialect: Dialect, siblings: &Members) -> bool
-    ensures { result ≡ true → HasNoName dialect siblings.now }
+fn is_anonymous(dialect: Dialect, siblings: &Members) -> bool
+    ensures { result ≡ true → IsAnonymous dialect siblings.now }
 {
     dialect.is_before(Dialect::Draft2019)
         && (found(siblings, "$schema").is_none() && found(siblings, identifier(dialect)).is_none())

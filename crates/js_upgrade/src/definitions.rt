@@ -158,7 +158,8 @@ pub(crate) fn usual_text(
     if !target.moves {
         return Ok(String::from_str(alloc, reference)?);
     }
-    let mut text = String::from_str(alloc, "#/$defs/")?;
+    let mut text = String::with_capacity(alloc, target.name.len().saturating_add(8))?;
+    text.push_str("#/$defs/")?;
     text.push_str(target.name)?;
     Ok(text)
 }

@@ -17,8 +17,8 @@ use Rattle.js_upgrade.specs.declared.holding.SchemaHolding.{SchemaHolding}
 
 -- ---- in a value
 
-abbrev pub HasNoName : Dialect → Named → Type 0
-HasNoName d siblings =
+abbrev pub IsAnonymous : Dialect → Named → Type 0
+IsAnonymous d siblings =
     (is_before d Draft2019 ≡ true) × (get (codes "$schema") siblings ≡ None) × (get (identifier d) siblings ≡ None)
 
 module _ (all : List Resource) where
