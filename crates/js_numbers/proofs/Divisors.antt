@@ -1,17 +1,9 @@
 -- Euclid's algorithm gives the greatest common divisor.
-use Rattle.std.proofs.Common.{◌≡◌, ℕ, zero, suc, ◌*◌, ◌%◌, ◌<◌, ◌≤◌, arith, refl, sym, subst, eqb-true}
+use Rattle.std.proofs.Common.{◌≡◌, ℕ, zero, suc, ◌%◌, ◌≤◌, arith, refl}
 use Rattle.std.specs.Int.{IsGcd}
 use Rattle.std.proofs.lemmas.Nat.Gcd.{IsGcd-from_zero, IsGcd-from_mod, same_from_IsGcd}
-use native.Mathlib.Nat.{eq-zero-or-pos, mod-lt}
+use native.Mathlib.Nat.{mod-lt}
 use Rattle.js_numbers.specs.Decimal.{gcd, gcd_within}
-
-pub gcd_within_zero : (n a : ℕ) → gcd_within n a 0 ≡ a
-gcd_within_zero zero a = refl
-gcd_within_zero (suc n) a = refl
-
-pub gcd_within_pos : (n a b : ℕ) → 0 < b → gcd_within (suc n) a b ≡ gcd_within n b (a % b)
-gcd_within_pos n a zero h = absurd (omega arith)
-gcd_within_pos n a (suc b) h = refl
 
 pub is_gcd_within : (n a b : ℕ) → b ≤ n → IsGcd a b (gcd_within n a b)
 is_gcd_within zero a b h = IsGcd-from_zero a b (omega arith)

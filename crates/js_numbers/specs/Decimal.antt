@@ -74,7 +74,8 @@ whole d = if is_whole d then in_range (bound (floor d)) else None
 -- the greatest common divisor, by Euclid's algorithm in at most so many steps
 abbrev pub gcd_within : ℕ → ℕ → ℕ → ℕ
 gcd_within zero a b = a
-gcd_within (suc n) a b = if b == 0 then a else gcd_within n b (a % b)
+gcd_within (suc n) a zero = a
+gcd_within (suc n) a (suc b) = gcd_within n (suc b) (a % suc b)
 
 abbrev pub gcd : ℕ → ℕ → ℕ
 gcd a b = gcd_within b a b
