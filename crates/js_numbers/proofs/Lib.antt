@@ -1,2 +1,5 @@
+pub mod Comparing
 pub mod Divisors
+pub mod InRange
+pub mod Sizes
 pub mod Tens

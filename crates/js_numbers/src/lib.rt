@@ -3,6 +3,7 @@
 
 mod bound;
 mod decimal;
+pub mod laws;
 mod numerator;
 mod rounding;
 mod text;
