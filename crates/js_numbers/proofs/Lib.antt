@@ -3,3 +3,4 @@ pub mod Divisors
 pub mod InRange
 pub mod Sizes
 pub mod Tens
+pub mod Wholes

@@ -1,5 +1,6 @@
 //! Laws of numbers. Calling one does nothing.
 ghost use Rattle.js_numbers.specs.Laws.{ExclusiveMaximumIsCeiling, ExclusiveMinimumIsFloor, MaximumIsFloor, MinimumIsCeiling};
+ghost use Rattle.js_numbers.specs.Laws.{WholeIsEqual};
 
 /// An integer in the range is at least the number exactly if it is at least its ceiling.
 pub fn a_minimum_is_its_ceiling()
@@ -19,4 +20,9 @@ pub fn an_exclusive_minimum_is_its_floor()
 /// An integer in the range is below the number exactly if it is below its ceiling.
 pub fn an_exclusive_maximum_is_its_ceiling()
     ensures { ExclusiveMaximumIsCeiling }
+{}
+
+/// The number is the integer that `whole` returns, if it is one in the range.
+pub fn whole_is_equal()
+    ensures { WholeIsEqual }
 {}
