@@ -48,7 +48,7 @@ above_fraction a b n false e some =
     let step = div-lt_iff_lt-mul {k = b} {x = a} {y = n} some in
     (λ h. step.1 (omega (arith, other)), λ h. omega (arith, step.0 h))
 
-below_pos : (d : Decimal) → 0 < below d
+pub below_pos : (d : Decimal) → 0 < below d
 below_pos d = tens_pos (d.down - d.up)
 
 -- ---- rounding of a number

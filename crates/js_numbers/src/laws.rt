@@ -1,6 +1,6 @@
 //! Laws of numbers. Calling one does nothing.
 ghost use Rattle.js_numbers.specs.Laws.{ExclusiveMaximumIsCeiling, ExclusiveMinimumIsFloor, MaximumIsFloor, MinimumIsCeiling};
-ghost use Rattle.js_numbers.specs.Laws.{WholeIsEqual};
+ghost use Rattle.js_numbers.specs.Laws.{MultiplesAreOfNumerator, WholeIsEqual};
 
 /// An integer in the range is at least the number exactly if it is at least its ceiling.
 pub fn a_minimum_is_its_ceiling()
@@ -25,4 +25,9 @@ pub fn an_exclusive_maximum_is_its_ceiling()
 /// The number is the integer that `whole` returns, if it is one in the range.
 pub fn whole_is_equal()
     ensures { WholeIsEqual }
+{}
+
+/// An integer in the range is a multiple of the number exactly if it is one of its numerator.
+pub fn multiples_are_those_of_the_numerator()
+    ensures { MultiplesAreOfNumerator }
 {}
