@@ -3,8 +3,8 @@ use Rattle.std.proofs.Common.{◌≡◌, ℕ, ℤ, pos, negsuc, ◌^◌, ◌↔�
 use Rattle.std.specs.Prelude.{◌≤ℤ◌, ◌<ℤ◌, if◌then◌else◌, nat_lt}
 use Rattle.std.proofs.lemmas.Bool.Decides.{nat_tests}
 use Rattle.std.proofs.lemmas.Int.{ints}
-use Rattle.js_numbers.specs.Decimal.{bound}
-use Rattle.js_numbers.specs.Laws.{IsInRange, MeetsMinimum, MeetsMaximum, MeetsExclusiveMinimum, MeetsExclusiveMaximum}
+use Rattle.js_numbers.specs.Decimal.{IsInRange, bound}
+use Rattle.js_numbers.specs.Laws.{MeetsMinimum, MeetsMaximum, MeetsExclusiveMinimum, MeetsExclusiveMaximum}
 use Rattle.js_numbers.specs.declared.bound.Bound.TheVariants.{Below, Whole, Above}
 
 -- no integer in the range is as large, or as small

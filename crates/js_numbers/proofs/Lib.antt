@@ -4,4 +4,5 @@ pub mod InRange
 pub mod Multiples
 pub mod Sizes
 pub mod Tens
+pub mod Tokens
 pub mod Wholes

@@ -3,8 +3,7 @@ use Rattle.std.proofs.Common.{◌≡◌, ℕ, ℤ, pos, negsuc, neg_ℤ, suc, �
 use Rattle.std.specs.Prelude.{◌≤ℤ◌, if◌then◌else◌, nat_lt}
 use Rattle.std.proofs.lemmas.Bool.Decides.{nat_tests}
 use Rattle.std.proofs.lemmas.Int.{ints}
-use Rattle.js_numbers.specs.Decimal.{bound, in_range}
-use Rattle.js_numbers.specs.Laws.{IsInRange}
+use Rattle.js_numbers.specs.Decimal.{IsInRange, bound, in_range}
 use Rattle.js_numbers.specs.declared.bound.Bound.TheVariants.{Below, Whole, Above}
 
 -- ---- the range

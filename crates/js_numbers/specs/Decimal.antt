@@ -1,5 +1,5 @@
 -- What the text of a JSON number is (RFC 8259, section 6): digits * 10 ^ up / 10 ^ down, or that less than 0.
-use Rattle.std.specs.Prelude.{◌≡◌, ℕ, zero, suc, ℤ, pos, negsuc, neg_ℤ, ◌-◌, ◌*◌, ◌/◌, ◌%◌, ◌^◌, Bool, false, ◌&&◌, ◌==◌}
+use Rattle.std.specs.Prelude.{◌≡◌, ℕ, zero, suc, ℤ, pos, negsuc, neg_ℤ, ◌-◌, ◌*◌, ◌/◌, ◌%◌, ◌^◌, ◌<◌, Bool, false, ◌&&◌, ◌==◌}
 use Rattle.std.specs.Prelude.{nat_lt, if◌then◌else◌, List, drop, slice_index, Option, Some, None}
 use Rattle.fast_float.specs.Text.{Parts, scan, digits_of, tens_up, tens_down, minus}
 use Rattle.js_numbers.specs.declared.bound.Bound.{Bound}
@@ -55,6 +55,11 @@ abbrev pub ceiling : Decimal → ℤ
 ceiling d = if d.is_negative then neg_ℤ (pos (size_down d)) else pos (size_up d)
 
 -- ---- the range
+
+-- from -2^63 to 2^64 - 1
+abbrev pub IsInRange : ℤ → Type 0
+IsInRange (pos n) = n < 2 ^ 64
+IsInRange (negsuc n) = n < 2 ^ 63
 
 abbrev pub bound : ℤ → Bound
 bound (pos n) = if nat_lt n (2 ^ 64) then Whole (pos n) else Above

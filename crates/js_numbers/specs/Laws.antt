@@ -3,7 +3,7 @@
 use Rattle.std.specs.Prelude.{◌≡◌, ℕ, ℤ, pos, negsuc, ◌*◌, ◌*ℤ◌, ◌^◌, ◌<◌, ◌≤ℤ◌, ◌<ℤ◌, ◌↔◌, Some, ⊤}
 use Rattle.core.specs.Int.{◌∣◌}
 use Rattle.fast_float.specs.Text.{with_sign}
-use Rattle.js_numbers.specs.Decimal.{bound, ceiling, floor, numerator, whole}
+use Rattle.js_numbers.specs.Decimal.{IsInRange, bound, ceiling, floor, numerator, whole}
 use Rattle.js_numbers.specs.declared.bound.Bound.{Bound}
 use Rattle.js_numbers.specs.declared.bound.Bound.TheVariants.{Below, Whole, Above}
 use Rattle.js_numbers.specs.declared.decimal.Decimal.{Decimal}
@@ -15,11 +15,6 @@ scaled_number d = with_sign d.is_negative (d.digits * 10 ^ d.up)
 
 abbrev pub scaled : Decimal → ℤ → ℤ
 scaled d z = z *ℤ pos (10 ^ d.down)
-
--- from -2^63 to 2^64 - 1
-abbrev pub IsInRange : ℤ → Type 0
-IsInRange (pos n) = n < 2 ^ 64
-IsInRange (negsuc n) = n < 2 ^ 63
 
 -- ---- what such a bound says of an integer in the range
 

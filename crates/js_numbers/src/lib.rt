@@ -3,10 +3,13 @@
 
 mod bound;
 mod decimal;
+mod error;
+mod instance;
 pub mod laws;
 mod numerator;
 mod rounding;
-mod text;
 
 pub use bound::Bound;
 pub use decimal::Decimal;
+pub use error::TextError;
+pub use instance::exact_instance;

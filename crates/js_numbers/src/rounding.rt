@@ -1,6 +1,6 @@
 //! The integers next to a number.
-ghost use Rattle.std.specs.Prelude.{◌≡◌, ◌≤◌, ◌*◌, ◌/◌, ◌%◌, ◌^◌, ◌==◌, min};
-ghost use Rattle.js_numbers.specs.Decimal.{bound, ceiling, floor, is_whole, size_down, size_up, whole};
+ghost use Rattle.std.specs.Prelude.{◌≡◌, ◌≤◌, ◌*◌, ◌/◌, ◌%◌, ◌^◌, ◌==◌, min, IfSome};
+ghost use Rattle.js_numbers.specs.Decimal.{IsInRange, bound, ceiling, floor, is_whole, size_down, size_up, whole};
 
 use crate::bound::{Bound, negative, positive};
 use crate::decimal::Decimal;
@@ -102,7 +102,8 @@ impl Decimal {
 
     /// The integer that the number is, or None where it is none in the range.
     pub fn whole(self) -> Option<i128>
-        ensures { result ≡ whole self }
+        ensures same { result ≡ whole self }
+        ensures range { IfSome result IsInRange }
     {
         if !self.is_whole() {
             return None;

@@ -1,6 +1,6 @@
 use Rattle.std.proofs.Common.{◌++◌, arith, zero-add, length-append}
 use Rattle.core.proofs.dec2flt.Rows.{one_more}
-use Rattle.js_numbers.proofs.text.value_of_digits.Goals as goal
+use Rattle.js_numbers.proofs.decimal.value_of_digits.Goals as goal
 
 pub loop-at-preserved : goal.loop-at-preserved
 loop-at-preserved c =
