@@ -1,5 +1,6 @@
 pub mod Comparing
 pub mod Divisors
+pub mod Examples
 pub mod InRange
 pub mod Multiples
 pub mod Sizes
