@@ -1,11 +1,10 @@
 -- What some numbers are, and what becomes of some texts.
-use Rattle.std.proofs.Common.{◌≡◌, pos, negsuc, ◌-◌, ◌^◌, List, ℕ, Some, None, refl}
+use Rattle.std.proofs.Common.{◌≡◌, pos, negsuc, ◌-◌, ◌^◌, Some, None, refl}
 use Rattle.std.specs.Prelude.{codes}
 use Rattle.core.specs.Fmt.{digits}
 use Rattle.fast_float.proofs.OnLiterals.{fast_float_on_literals}
 use Rattle.js_numbers.specs.Decimal.{bound, ceiling, decimal, floor, short_numerator}
 use Rattle.js_numbers.specs.Instance.{exact_instance, exact_number, whole_number}
-use Rattle.js_numbers.specs.declared.bound.Bound.{Bound}
 use Rattle.js_numbers.specs.declared.bound.Bound.TheVariants.{Below, Whole, Above}
 use Rattle.json.proofs.OnLiterals.{json_on_literals}
 

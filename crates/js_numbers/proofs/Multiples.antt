@@ -1,5 +1,5 @@
 -- The multiples of a number are those of its numerator.
-use Rattle.std.proofs.Common.{◌≡◌, ℕ, zero, suc, pos, ◌*◌, ◌/◌, ◌^◌, ◌<◌, ◌≤◌, ◌↔◌, min, Bool, true, false, arith, refl}
+use Rattle.std.proofs.Common.{◌≡◌, ℕ, zero, suc, pos, ◌*◌, ◌/◌, ◌^◌, ◌<◌, ◌↔◌, min, Bool, true, false, arith, refl}
 use Rattle.std.proofs.Common.{sym, ap, ◌∙◌, subst}
 use Rattle.std.specs.Prelude.{if◌then◌else◌, nat_lt}
 use Rattle.std.proofs.lemmas.Bool.Decides.{nat_tests}
@@ -18,14 +18,15 @@ times_is : (d : Decimal) (times : ℕ) → times * (d.digits * 10 ^ d.up) ≡ ti
 times_is d times = ap (λ k. times * k) (number_is d) ∙ sym (mul_assoc times (above d) (common d))
 
 pub of_numerator : (d : Decimal) (n : ℕ) → IsMultiple d n ↔ (numerator d ∣ n)
-of_numerator d n =
-    (λ h.
-    let e : n * below d * common d ≡ h.0 * above d * common d = sym (scaled_is d n) ∙ h.1 ∙ times_is d h.0 in
-    multiple_gives (above d) (below d) n h.0 (below_pos d)
-    (eq_of_mul-eq-mul_right (common d) (tens_pos (min d.up d.down)) (n * below d) (h.0 * above d) e),
-    λ h.
-    let times = n / numerator d * (below d / gcd (above d) (below d)) in
-    (times, scaled_is d n ∙ ap (λ k. k * common d) (multiple_from (above d) (below d) n h) ∙ sym (times_is d times)))
+of_numerator d n = (
+  λ h.
+      let e : n * below d * common d ≡ h.0 * above d * common d = sym (scaled_is d n) ∙ h.1 ∙ times_is d h.0 in
+      multiple_gives (above d) (below d) n h.0 (below_pos d)
+      (eq_of_mul-eq-mul_right (common d) (tens_pos (min d.up d.down)) (n * below d) (h.0 * above d) e),
+  λ h.
+      let times = n / numerator d * (below d / gcd (above d) (below d)) in
+      (times, scaled_is d n ∙ ap (λ k. k * common d) (multiple_from (above d) (below d) n h) ∙ sym (times_is d times)),
+)
 
 large : (m n : ℕ) → nat_lt m (2 ^ 64) ≡ false → n < 2 ^ 64 → m ∣ n → n ≡ 0
 large m zero e r h = refl

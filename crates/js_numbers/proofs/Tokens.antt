@@ -2,8 +2,9 @@
 use Rattle.std.proofs.Common.{◌≡◌, ℕ, zero, suc, List, [], ◌∷◌, ◌++◌, length, map, Option, Some, None, option_and_then}
 use Rattle.std.proofs.Common.{refl, sym, ap, ◌∙◌, subst, append_assoc, append-nil}
 use Rattle.std.specs.Prelude.{⊤, IsSome}
-use Rattle.json.specs.Json.{Json, null, boolean, number, string, array, object, Items, no_items, item, Members, no_members}
-use Rattle.json.specs.Json.{member, Parse, parse_map, after_end_array, read_key, items_step, members_step, items, members}
+use Rattle.json.specs.Json.{Json, array, object, Items, item, Members}
+use Rattle.json.specs.Json.{member, Parse, parse_map, after_end_array, read_key, items_step, members_step, items}
+use Rattle.json.specs.Json.{members}
 use Rattle.json.specs.Json.{value_with, value, if_last, max_depth, document}
 use Rattle.json.specs.Lex.{tokens}
 use Rattle.json.specs.Print.{ArePrintable, IsPrintable}
@@ -30,13 +31,15 @@ item_then ts s j e None h = tt
 item_then ts s j e (Some (js, r)) h =
     e ∙ ap (λ l. json_tokens j ++ l) h ∙ sym (append_assoc (json_tokens j) (items_tokens js) r)
 
-item_and_more : (more : Parse Items) → ReadsAll items_tokens more → (ts : List Token) (first : Option (Json × List Token))
-    → Reads json_tokens ts first → Reads items_tokens ts (option_and_then (λ p. parse_map (item p.0) (more p.1)) first)
+item_and_more : (more : Parse Items) → ReadsAll items_tokens more → (ts : List Token)
+    → (first : Option (Json × List Token)) → Reads json_tokens ts first
+    → Reads items_tokens ts (option_and_then (λ p. parse_map (item p.0) (more p.1)) first)
 item_and_more more again ts None h = tt
 item_and_more more again ts (Some (j, s)) h = item_then ts s j h (more s) (again s)
 
-item_turn : (p : Parse Json) → ReadsAll json_tokens p → (more : Parse Items) → ReadsAll items_tokens more → (ts : List Token)
-    → (end : Option (List Token)) → after_end_array ts ≡ end → Reads items_tokens ts (items_step p more ts end)
+item_turn : (p : Parse Json) → ReadsAll json_tokens p → (more : Parse Items) → ReadsAll items_tokens more
+    → (ts : List Token) → (end : Option (List Token)) → after_end_array ts ≡ end
+    → Reads items_tokens ts (items_step p more ts end)
 item_turn p reads more again ts (Some r) e = closed_array ts r e
 item_turn p reads more again ts None e = item_and_more more again ts (p ts) (reads ts)
 
@@ -116,7 +119,8 @@ last_reads ts (Some (v, [])) j h e = let same : v ≡ j = cc in h ∙ append-nil
 last_reads ts (Some (v, t ∷ rest)) j h e = absurd cc
 
 pub document_tokens : (text : List ℕ) (j : Json) → document text ≡ Some j → tokens text ≡ json_tokens j
-document_tokens text j e = last_reads (tokens text) (value max_depth (tokens text)) j (value_reads max_depth (tokens text)) e
+document_tokens text j e =
+    let ts = tokens text in last_reads ts (value max_depth ts) j (value_reads max_depth ts) e
 
 pub document_printable : (text : List ℕ) (j : Json) → document text ≡ Some j → ArePrintable (tokens text)
 document_printable text j e =

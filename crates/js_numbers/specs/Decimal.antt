@@ -1,5 +1,5 @@
 -- What the text of a JSON number is (RFC 8259, section 6): digits * 10 ^ up / 10 ^ down, or that less than 0.
-use Rattle.std.specs.Prelude.{◌≡◌, ℕ, zero, suc, ℤ, pos, negsuc, neg_ℤ, ◌-◌, ◌*◌, ◌/◌, ◌%◌, ◌^◌, ◌<◌, Bool, false, ◌&&◌, ◌==◌}
+use Rattle.std.specs.Prelude.{ℕ, zero, suc, ℤ, pos, negsuc, neg_ℤ, ◌-◌, ◌*◌, ◌/◌, ◌%◌, ◌^◌, ◌<◌, Bool, ◌&&◌, ◌==◌}
 use Rattle.std.specs.Prelude.{nat_lt, if◌then◌else◌, List, drop, slice_index, Option, Some, None}
 use Rattle.fast_float.specs.Text.{Parts, scan, digits_of, tens_up, tens_down, minus}
 use Rattle.js_numbers.specs.declared.bound.Bound.{Bound}

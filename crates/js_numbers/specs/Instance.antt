@@ -1,10 +1,11 @@
 -- An instance's text, with each integer in the range written in digits alone.
-use Rattle.std.specs.Prelude.{ℕ, ℤ, List, map, Bool, Option, Some, None, option_map, if◌then◌else◌}
+use Rattle.std.specs.Prelude.{ℕ, ℤ, List, map, Option, Some, None, option_map, if◌then◌else◌}
 use Rattle.std.specs.Fmt.{signed_decimal}
 use Rattle.json.specs.Json.{document}
 use Rattle.json.specs.Lex.{tokens}
 use Rattle.json.specs.Print.{print}
-use Rattle.json.specs.Token.{Token, begin_object, end_object, begin_array, end_array, key, string, number, boolean, null, bad}
+use Rattle.json.specs.Token.{Token, begin_object, end_object, begin_array, end_array, key, string, number, boolean}
+use Rattle.json.specs.Token.{null, bad}
 use Rattle.js_numbers.specs.Decimal.{decimal, is_short, whole}
 
 -- the integer in the range that a number's text is

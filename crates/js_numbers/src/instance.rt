@@ -9,8 +9,8 @@ ghost use Rattle.json.specs.Written.{Writes};
 ghost use Rattle.js_numbers.specs.declared.error.TextError.TheVariants.{Memory, NotJson};
 ghost use Rattle.js_numbers.specs.Instance.{exact_instance, exact_number, exact_token, whole_number};
 
-use crate::error::TextError;
 use crate::decimal::Decimal;
+use crate::error::TextError;
 use json::{Reader, Scratch, Token, Writer, is_valid};
 use std::alloc::{AllocError, Allocator};
 

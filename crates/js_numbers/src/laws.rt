@@ -1,5 +1,6 @@
 //! Laws of numbers. Calling one does nothing.
-ghost use Rattle.js_numbers.specs.Laws.{ExclusiveMaximumIsCeiling, ExclusiveMinimumIsFloor, MaximumIsFloor, MinimumIsCeiling};
+ghost use Rattle.js_numbers.specs.Laws.{ExclusiveMaximumIsCeiling, ExclusiveMinimumIsFloor, MaximumIsFloor};
+ghost use Rattle.js_numbers.specs.Laws.{MinimumIsCeiling};
 ghost use Rattle.js_numbers.specs.Laws.{MultiplesAreOfNumerator, WholeIsEqual};
 
 /// An integer in the range is at least the number exactly if it is at least its ceiling.

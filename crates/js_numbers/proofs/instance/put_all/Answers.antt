@@ -4,7 +4,9 @@ use Rattle.js_numbers.proofs.Tokens.{exact_more, printable_more}
 use Rattle.js_numbers.proofs.instance.put_all.Goals as goal
 
 pub put-requires : goal.put-requires
-put-requires g c = (printable_more _ _ (token_of c.in-Some.token) c.in-Some.ensures.value c.loop-token.invariant.printable).0
+put-requires g c =
+    let next = c.in-Some.ensures.value in
+    (printable_more _ _ (token_of c.in-Some.token) next c.loop-token.invariant.printable).0
 
 pub loop-token-preserved : goal.loop-token-preserved
 loop-token-preserved g c =
