@@ -1,3 +1,4 @@
+pub mod Appending
 pub mod Comparing
 pub mod Divisors
 pub mod Examples

@@ -1,6 +1,6 @@
 -- What the text of a JSON number is (RFC 8259, section 6): digits * 10 ^ up / 10 ^ down, or that less than 0.
 use Rattle.std.specs.Prelude.{ℕ, zero, suc, ℤ, pos, negsuc, neg_ℤ, ◌-◌, ◌*◌, ◌/◌, ◌%◌, ◌^◌, ◌<◌, Bool, ◌&&◌, ◌==◌}
-use Rattle.std.specs.Prelude.{nat_lt, if◌then◌else◌, List, drop, slice_index, Option, Some, None}
+use Rattle.std.specs.Prelude.{nat_lt, if◌then◌else◌, List, drop, slice_index, Option, Some, None, ⊤}
 use Rattle.fast_float.specs.Text.{Parts, scan, digits_of, tens_up, tens_down, minus}
 use Rattle.js_numbers.specs.declared.bound.Bound.{Bound}
 use Rattle.js_numbers.specs.declared.bound.Bound.TheVariants.{Below, Whole, Above}
@@ -64,6 +64,11 @@ IsInRange (negsuc n) = n < 2 ^ 63
 abbrev pub bound : ℤ → Bound
 bound (pos n) = if nat_lt n (2 ^ 64) then Whole (pos n) else Above
 bound (negsuc n) = if nat_lt n (2 ^ 63) then Whole (negsuc n) else Below
+
+abbrev pub IsBoundInRange : Bound → Type 0
+IsBoundInRange Below = ⊤
+IsBoundInRange (Whole z) = IsInRange z
+IsBoundInRange Above = ⊤
 
 abbrev pub in_range : Bound → Option ℤ
 in_range Below = None

@@ -10,6 +10,8 @@ pub enum TextError {
     Memory,
     /// It isn't JSON.
     NotJson,
+    /// An object in it has a name twice.
+    RepeatedName,
 }
 
 impl From<AllocError> for TextError {
@@ -19,5 +21,19 @@ impl From<AllocError> for TextError {
 
     fn from(_refused: AllocError) -> TextError {
         TextError::Memory
+    }
+}
+
+impl From<json::Error> for TextError {
+    ghost use Rattle.js_numbers.specs.code.Reading.{text_error};
+
+    ghost from_gives = { λ error e. e ≡ text_error error };
+
+    fn from(error: json::Error) -> TextError {
+        match error {
+            json::Error::Invalid => TextError::NotJson,
+            json::Error::DuplicateKey => TextError::RepeatedName,
+            json::Error::OutOfMemory | json::Error::TooLong => TextError::Memory,
+        }
     }
 }

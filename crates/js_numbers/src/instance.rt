@@ -1,6 +1,7 @@
 //! Instances whose integers are written as people write numbers.
 ghost use Rattle.std.specs.Prelude.{◌≡◌, ◌++◌, [], map, Some, None, OnOk, IfOk, IfErr, ◌⊎◌, IfSome};
 ghost use Rattle.std.specs.Fmt.{signed_decimal};
+ghost use Rattle.std.specs.Str.{IsUtf8};
 ghost use Rattle.js_numbers.specs.Decimal.{IsInRange};
 ghost use Rattle.json.specs.Print.{IsNumber, IsPrintable, ArePrintable};
 ghost use Rattle.json.specs.Reads.{token_of};
@@ -22,7 +23,7 @@ fn whole_number(text: &str) -> Option<i128>
     Decimal::of_text(text)?.whole()
 }
 
-fn put_whole<A: Allocator>(writer: &mut Writer<A>, value: i128) -> Result<(), AllocError>
+pub(crate) fn put_whole<A: Allocator>(writer: &mut Writer<A>, value: i128) -> Result<(), AllocError>
     requires { IsInRange value }
     ensures { Writes result writer.old writer.new (number (signed_decimal value)) }
 {
@@ -72,6 +73,7 @@ fn put_all<A: Allocator>(writer: &mut Writer<A>, reader: &mut Reader<'_>) -> Res
 /// `NotJson`: the text isn't JSON. `Memory` may come at any point, also for such a text.
 pub fn exact_instance<A: Allocator + Copy>(text: &str, alloc: A) -> Result<Vec<u8, A>, TextError>
     ensures ok { IfOk result (λ exact. exact_instance text.now ≡ Some exact.items) }
+    ensures utf8 { IfOk result (λ exact. IsUtf8 exact.items) }
     ensures err { IfErr result
         (λ e. (e ≡ Memory) ⊎ ((e ≡ NotJson) × (exact_instance text.now ≡ None))) }
 {

@@ -1,26 +1,25 @@
 //! Laws of numbers. Calling one does nothing.
-ghost use Rattle.js_numbers.specs.Laws.{ExclusiveMaximumIsCeiling, ExclusiveMinimumIsFloor, MaximumIsFloor};
-ghost use Rattle.js_numbers.specs.Laws.{MinimumIsCeiling};
-ghost use Rattle.js_numbers.specs.Laws.{MultiplesAreOfNumerator, WholeIsEqual};
+ghost use Rattle.js_numbers.specs.Laws.{ExclusiveMaximumSaysTheSame, ExclusiveMinimumSaysTheSame};
+ghost use Rattle.js_numbers.specs.Laws.{MaximumSaysTheSame, MinimumSaysTheSame, MultiplesAreOfNumerator, WholeIsEqual};
 
-/// An integer in the range is at least the number exactly if it is at least its ceiling.
-pub fn a_minimum_is_its_ceiling()
-    ensures { MinimumIsCeiling }
+/// Each integer in the range is at least the number exactly if it meets the limit that `minimum` returns.
+pub fn a_minimum_says_the_same()
+    ensures { MinimumSaysTheSame }
 {}
 
-/// An integer in the range is at most the number exactly if it is at most its floor.
-pub fn a_maximum_is_its_floor()
-    ensures { MaximumIsFloor }
+/// Each integer in the range is at most the number exactly if it meets the limit that `maximum` returns.
+pub fn a_maximum_says_the_same()
+    ensures { MaximumSaysTheSame }
 {}
 
-/// An integer in the range is above the number exactly if it is above its floor.
-pub fn an_exclusive_minimum_is_its_floor()
-    ensures { ExclusiveMinimumIsFloor }
+/// Each integer in the range is above the number exactly if it meets the limit that `exclusive_minimum` returns.
+pub fn an_exclusive_minimum_says_the_same()
+    ensures { ExclusiveMinimumSaysTheSame }
 {}
 
-/// An integer in the range is below the number exactly if it is below its ceiling.
-pub fn an_exclusive_maximum_is_its_ceiling()
-    ensures { ExclusiveMaximumIsCeiling }
+/// Each integer in the range is below the number exactly if it meets the limit that `exclusive_maximum` returns.
+pub fn an_exclusive_maximum_says_the_same()
+    ensures { ExclusiveMaximumSaysTheSame }
 {}
 
 /// The number is the integer that `whole` returns, if it is one in the range.

@@ -1,6 +1,6 @@
 //! The numerator of a number.
-ghost use Rattle.std.specs.Prelude.{◌≡◌, ◌<◌};
-ghost use Rattle.js_numbers.specs.Decimal.{gcd, short_numerator};
+ghost use Rattle.std.specs.Prelude.{◌≡◌, ◌<◌, IfSome};
+ghost use Rattle.js_numbers.specs.Decimal.{IsBoundInRange, gcd, short_numerator};
 
 use crate::bound::{Bound, positive};
 use crate::decimal::Decimal;
@@ -25,7 +25,8 @@ impl Decimal {
     /// The numerator of the number's size in lowest terms: an integer is a multiple of the number exactly if it is one
     /// of the numerator. None for a number with more than 38 places behind the point.
     pub fn numerator(self) -> Option<Bound>
-        ensures { result ≡ short_numerator self }
+        ensures same { result ≡ short_numerator self }
+        ensures range { IfSome result IsBoundInRange }
     {
         if self.up >= self.down {
             return Some(positive(multiplied(self.digits, self.up - self.down)));

@@ -1,6 +1,6 @@
 //! The integers next to a number.
 ghost use Rattle.std.specs.Prelude.{◌≡◌, ◌≤◌, ◌*◌, ◌/◌, ◌%◌, ◌^◌, ◌==◌, min, IfSome};
-ghost use Rattle.js_numbers.specs.Decimal.{IsInRange, bound, ceiling, floor, is_whole, size_down, size_up, whole};
+ghost use Rattle.js_numbers.specs.Decimal.{IsBoundInRange, IsInRange, bound, ceiling, floor, is_whole, size_down, size_up, whole};
 
 use crate::bound::{Bound, negative, positive};
 use crate::decimal::Decimal;
@@ -47,7 +47,7 @@ fn is_divisible(digits: u128, tens: u64) -> bool
 }
 
 impl Decimal {
-    fn is_whole(self) -> bool
+    pub(crate) fn is_whole(self) -> bool
         ensures { result ≡ is_whole self }
     {
         if self.up < self.down {
@@ -80,7 +80,8 @@ impl Decimal {
 
     /// The greatest integer that isn't above the number.
     pub fn floor(self) -> Bound
-        ensures { result ≡ bound (floor self) }
+        ensures same { result ≡ bound (floor self) }
+        ensures range { IsBoundInRange result }
     {
         if self.is_negative {
             negative(self.size_up())
@@ -91,7 +92,8 @@ impl Decimal {
 
     /// The least integer that isn't below the number.
     pub fn ceiling(self) -> Bound
-        ensures { result ≡ bound (ceiling self) }
+        ensures same { result ≡ bound (ceiling self) }
+        ensures range { IsBoundInRange result }
     {
         if self.is_negative {
             negative(self.size_down())

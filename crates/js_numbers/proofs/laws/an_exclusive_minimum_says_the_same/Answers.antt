@@ -3,7 +3,7 @@ use Rattle.js_numbers.specs.Laws.{scaled, scaled_number}
 use Rattle.js_numbers.proofs.Comparing.{maximum, order_turned}
 use Rattle.js_numbers.proofs.InRange as in_range
 use Rattle.js_numbers.proofs.Sizes.{is_between}
-use Rattle.js_numbers.proofs.laws.an_exclusive_minimum_is_its_floor.Goals as goal
+use Rattle.js_numbers.proofs.laws.an_exclusive_minimum_says_the_same.Goals as goal
 
 pub returns : goal.returns
 returns c d z r =

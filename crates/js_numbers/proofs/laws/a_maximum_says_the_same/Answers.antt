@@ -2,7 +2,7 @@ use Rattle.js_numbers.specs.Decimal.{floor}
 use Rattle.js_numbers.proofs.Comparing.{maximum}
 use Rattle.js_numbers.proofs.InRange as in_range
 use Rattle.js_numbers.proofs.Sizes.{is_between}
-use Rattle.js_numbers.proofs.laws.a_maximum_is_its_floor.Goals as goal
+use Rattle.js_numbers.proofs.laws.a_maximum_says_the_same.Goals as goal
 
 pub returns : goal.returns
 returns c d z r =
