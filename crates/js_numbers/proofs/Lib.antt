@@ -4,6 +4,7 @@ pub mod Divisors
 pub mod Examples
 pub mod InRange
 pub mod Multiples
+pub mod SchemaExamples
 pub mod Sizes
 pub mod Tens
 pub mod Tokens

@@ -1,9 +1,9 @@
 -- What becomes of a keyword whose number is no integer in the range.
-use Rattle.std.specs.Prelude.{ℕ, ℤ, pos, negsuc, Bool, true, false, not, ◌&&◌, ◌||◌, List, [], ◌∷◌, Option, Some, None}
+use Rattle.std.specs.Prelude.{ℤ, Bool, true, false, not, ◌&&◌, ◌||◌, List, [], ◌∷◌, Option, Some, None}
 use Rattle.std.specs.Prelude.{option_map, option_and_then, is_some, is_none, codes, if◌then◌else◌, ⊤}
 use Rattle.std.specs.Fmt.{signed_decimal}
 use Rattle.json.specs.Find.{get}
-use Rattle.json.specs.Json.{Json, null, boolean, number, string, array, object, Items, no_items, item, Members, no_members}
+use Rattle.json.specs.Json.{Json, boolean, number, array, object, Items, no_items, item, Members, no_members}
 use Rattle.json.specs.Json.{member}
 use Rattle.js_doc.specs.Value.{Text}
 use Rattle.js_upgrade.specs.declared.dialect.Dialect.{Dialect}
@@ -11,7 +11,7 @@ use Rattle.js_numbers.specs.Decimal.{IsInRange, decimal, is_short, is_whole, sho
 use Rattle.js_numbers.specs.Limit.{IsLimitInRange, exclusive_maximum, exclusive_minimum, greatest, maximum, minimum}
 use Rattle.js_numbers.specs.NumberKeyword.{number_keyword}
 use Rattle.js_numbers.specs.declared.bound.Bound.{Bound}
-use Rattle.js_numbers.specs.declared.bound.Bound.TheVariants.{Below, Whole, Above}
+use Rattle.js_numbers.specs.declared.bound.Bound.TheVariants.{Whole}
 use Rattle.js_numbers.specs.declared.change.NumberChange.{NumberChange}
 use Rattle.js_numbers.specs.declared.change.NumberChange.TheVariants.{Stays, Goes, Limited, OldLimited, Integer}
 use Rattle.js_numbers.specs.declared.change.NumberChange.TheVariants.{Possible, Impossible}

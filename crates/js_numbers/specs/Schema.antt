@@ -1,13 +1,11 @@
 -- A schema document in which numbers are integers where that says the same. Its integers are written in digits first,
 -- as in an instance.
-use Rattle.std.specs.Prelude.{◌≡◌, ℕ, ℤ, pos, negsuc, Bool, true, false, not, ◌&&◌, ◌||◌, List, [], ◌∷◌, Option, Some, None}
-use Rattle.std.specs.Prelude.{option_map, option_and_then, is_some, is_none, codes, if◌then◌else◌, nat_lt}
-use Rattle.std.specs.Fmt.{signed_decimal}
+use Rattle.std.specs.Prelude.{ℕ, Bool, false, not, ◌&&◌, List, [], ◌∷◌, Option, Some, None}
+use Rattle.std.specs.Prelude.{option_map, option_and_then, is_some, codes, if◌then◌else◌}
 use Rattle.json.specs.Find.{get}
-use Rattle.json.specs.Json.{Json, null, boolean, number, string, array, object, Items, no_items, item, Members, no_members}
+use Rattle.json.specs.Json.{Json, string, array, object, Items, no_items, item, Members, no_members}
 use Rattle.json.specs.Json.{member, document}
 use Rattle.json.specs.Print.{print}
-use Rattle.json.specs.Token.{Token, key}
 use Rattle.json.specs.Tree.{json_tokens}
 use Rattle.js_doc.specs.Value.{Text}
 use Rattle.js_upgrade.specs.Dialect.{dialect_named, is_before}

@@ -1,11 +1,10 @@
 //! What becomes of a keyword whose number is no integer in the range.
-ghost use Rattle.std.specs.Prelude.{◌≡◌, codes, is_some, option_and_then, option_map, IfSome, if◌then◌else◌};
-ghost use Rattle.json.specs.Find.{get};
+ghost use Rattle.std.specs.Prelude.{◌≡◌, is_some, option_and_then, option_map, IfSome, if◌then◌else◌};
 ghost use Rattle.json.specs.Value.{items_view, members_view, value_view};
 ghost use Rattle.js_numbers.specs.Decimal.{IsBoundInRange, decimal};
-ghost use Rattle.js_numbers.specs.Change.{IsChangeInRange, change, change_by, counted, divided, fraction, goes_or};
+ghost use Rattle.js_numbers.specs.Change.{IsChangeInRange, change, counted, divided, fraction, goes_or};
 ghost use Rattle.js_numbers.specs.Change.{has_impossible, has_impossible_member, has_no_constant, is_excluding};
-ghost use Rattle.js_numbers.specs.Change.{is_constant, is_impossible, is_impossible_at, is_replaced, is_true, limit_at};
+ghost use Rattle.js_numbers.specs.Change.{is_impossible, is_replaced, is_true, limit_at};
 ghost use Rattle.js_numbers.specs.Change.{limit_by, limited, old_limited, outside, positive_numerator};
 ghost use Rattle.js_numbers.specs.Limit.{IsLimitInRange};
 ghost use Rattle.js_numbers.specs.declared.change.NumberChange.TheVariants.{Impossible, Stays};
@@ -145,7 +144,10 @@ fn old_limited(limit: Option<Limit>) -> NumberChange
 fn is_excluding(limit: Option<Limit>) -> bool
     ensures { result ≡ is_excluding limit }
 {
-    matches!(limit, Some(Limit::ExclusiveMinimum(_) | Limit::ExclusiveMaximum(_)))
+    matches!(
+        limit,
+        Some(Limit::ExclusiveMinimum(_) | Limit::ExclusiveMaximum(_))
+    )
 }
 
 fn is_replaced(is_least: bool, found: Option<&Value<'_>>) -> bool

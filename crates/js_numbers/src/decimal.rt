@@ -1,7 +1,7 @@
 //! The number that a text is: digits and powers of ten.
-ghost use Rattle.std.specs.Prelude.{◌≡◌, ◌≤◌, ◌^◌, ◌++◌, min, if◌then◌else◌, Some, None};
+ghost use Rattle.std.specs.Prelude.{◌≡◌, ◌^◌, ◌++◌, min, if◌then◌else◌, Some, None};
 ghost use Rattle.std.specs.Str.Parse.{digits_value, AllDigits};
-ghost use Rattle.js_numbers.specs.Decimal.{decimal, is_short, is_negative, parts};
+ghost use Rattle.js_numbers.specs.Decimal.{decimal, is_short};
 
 use core::dec2flt::{byte_at, digit_at};
 use fast_float::Numeral;

@@ -1,5 +1,5 @@
 //! Instances whose integers are written as people write numbers.
-ghost use Rattle.std.specs.Prelude.{◌≡◌, ◌++◌, [], map, Some, None, OnOk, IfOk, IfErr, ◌⊎◌, IfSome};
+ghost use Rattle.std.specs.Prelude.{◌≡◌, ◌++◌, map, Some, None, OnOk, IfOk, IfErr, ◌⊎◌, IfSome};
 ghost use Rattle.std.specs.Fmt.{signed_decimal};
 ghost use Rattle.std.specs.Str.{IsUtf8};
 ghost use Rattle.js_numbers.specs.Decimal.{IsInRange};

@@ -8,6 +8,7 @@ use crate::bound::Bound;
 use crate::decimal::Decimal;
 
 const LEAST: i128 = -9_223_372_036_854_775_808;
+
 pub(crate) const GREATEST: i128 = 18_446_744_073_709_551_615;
 
 /// A bound by an integer.

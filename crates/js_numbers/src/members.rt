@@ -1,11 +1,11 @@
 //! The members that a keyword becomes, written.
-ghost use Rattle.std.specs.Prelude.{◌≡◌, ◌≢◌, [], ◌∷◌, codes, true};
+ghost use Rattle.std.specs.Prelude.{◌≢◌, [], ◌∷◌, codes, true};
 ghost use Rattle.json.specs.Json.{Json, array, boolean, no_items};
 ghost use Rattle.json.specs.Tree.{HasNumbers, ItemsHaveNumbers, items_tokens, json_tokens};
 ghost use Rattle.json.specs.Value.{items_view, value_view};
 ghost use Rattle.js_numbers.specs.Decimal.{IsInRange};
-ghost use Rattle.js_numbers.specs.Change.{IsChangeInRange, becomes, integer, limit_members, old_limit_members, possible};
-ghost use Rattle.js_numbers.specs.Change.{possible_items};
+ghost use Rattle.js_numbers.specs.Change.{IsChangeInRange, becomes, integer, limit_members, old_limit_members};
+ghost use Rattle.js_numbers.specs.Change.{possible, possible_items};
 ghost use Rattle.js_numbers.specs.Limit.{IsLimitInRange};
 ghost use Rattle.js_numbers.specs.declared.change.NumberChange.TheVariants.{Stays};
 ghost use Rattle.js_numbers.specs.code.Appended.{Appends, named_tokens};

@@ -1,6 +1,7 @@
 //! The keywords whose numbers say something of a value.
 ghost use Rattle.std.specs.Prelude.{◌≡◌};
-ghost use Rattle.js_numbers.specs.NumberKeyword.{acting_named, acts, bound_named, number_keyword, or_other, other_named};
+ghost use Rattle.js_numbers.specs.NumberKeyword.{acting_named, acts, bound_named, number_keyword};
+ghost use Rattle.js_numbers.specs.NumberKeyword.{other_named};
 
 use js_upgrade::{Change, Dialect, change_in};
 

@@ -1,5 +1,4 @@
 //! The schemas in a value, written with integers where numbers have other forms.
-ghost use Rattle.std.specs.Prelude.{◌≡◌};
 ghost use Rattle.json.specs.Json.{array, object};
 ghost use Rattle.json.specs.Tree.{HasNumbers, ItemsHaveNumbers, MembersHaveNumbers, json_tokens};
 ghost use Rattle.json.specs.Value.{items_view, members_view, value_view};

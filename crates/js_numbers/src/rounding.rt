@@ -1,6 +1,7 @@
 //! The integers next to a number.
 ghost use Rattle.std.specs.Prelude.{◌≡◌, ◌≤◌, ◌*◌, ◌/◌, ◌%◌, ◌^◌, ◌==◌, min, IfSome};
-ghost use Rattle.js_numbers.specs.Decimal.{IsBoundInRange, IsInRange, bound, ceiling, floor, is_whole, size_down, size_up, whole};
+ghost use Rattle.js_numbers.specs.Decimal.{IsBoundInRange, IsInRange, bound, ceiling, floor, is_whole, size_down};
+ghost use Rattle.js_numbers.specs.Decimal.{size_up, whole};
 
 use crate::bound::{Bound, negative, positive};
 use crate::decimal::Decimal;

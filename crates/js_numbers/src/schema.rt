@@ -55,6 +55,11 @@ fn root_text(alloc: Global, assumed: Dialect, root: &Value<'_>) -> Result<Vec<u8
     ensures { IfOk result (λ exact. exact_root assumed (value_view root.now) ≡ exact.items) }
 {
     let mut writer = Writer::new(Vec::new(alloc));
-    put(&mut writer, SchemaHolding::One, root_dialect(assumed, root), root)?;
+    put(
+        &mut writer,
+        SchemaHolding::One,
+        root_dialect(assumed, root),
+        root,
+    )?;
     Ok(writer.into_inner())
 }

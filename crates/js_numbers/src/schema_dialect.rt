@@ -1,10 +1,9 @@
 //! The dialect of a schema, and how its keywords hold schemas, of a value whose numbers are texts.
-ghost use Rattle.std.specs.Prelude.{◌≡◌, codes, option_and_then, option_map};
-ghost use Rattle.json.specs.Find.{get};
+ghost use Rattle.std.specs.Prelude.{◌≡◌, option_map};
 ghost use Rattle.json.specs.Value.{value_view};
 ghost use Rattle.js_upgrade.specs.Schema.{is_uri};
 ghost use Rattle.js_upgrade.specs.Upgrade.{holding_by_change, identifier};
-ghost use Rattle.js_numbers.specs.Schema.{declared, dialect_in, dialect_or, hides, identifies, is_identifier};
+ghost use Rattle.js_numbers.specs.Schema.{declared, dialect_in, hides, identifies, is_identifier};
 ghost use Rattle.js_numbers.specs.Schema.{own_dialect, root_dialect};
 
 use js_upgrade::{Change, Dialect, SchemaHolding};

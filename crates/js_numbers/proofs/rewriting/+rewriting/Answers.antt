@@ -46,7 +46,8 @@ put_named-put-requires t c =
     drop_more xs l.member-index x (omega arith) ∙ ap (λ y. y ∷ drop (l.member-index + 1) xs) (sym c.member-item.is) in
     let numbers : HasNumbers (value_view x.1) =
     (subst (λ ys. MembersHaveNumbers (members_view ys)) here l.invariant.numbers).0 in
-    let smaller : length (json_tokens (value_view x.1)) < length (members_tokens (members_view c.args.members.now.items)) =
+    let all = members_view c.args.members.now.items in
+    let smaller : length (json_tokens (value_view x.1)) < length (members_tokens all) =
     subst (λ ys. length (json_tokens (value_view x.1)) < length (members_tokens (members_view ys)))
     c.deref-member-items.ensures.value
     (subst (λ y. length (json_tokens (value_view y.1)) < length (members_tokens (members_view xs)))
@@ -62,7 +63,8 @@ put_schema-put_keyword-requires t c =
     drop_more xs l.member-index x (omega arith) ∙ ap (λ y. y ∷ drop (l.member-index + 1) xs) (sym c.member-item.is) in
     let numbers : HasNumbers (value_view x.1) =
     (subst (λ ys. MembersHaveNumbers (members_view ys)) here l.invariant.numbers).0 in
-    let smaller : length (json_tokens (value_view x.1)) < length (members_tokens (members_view c.args.members.now.items)) =
+    let all = members_view c.args.members.now.items in
+    let smaller : length (json_tokens (value_view x.1)) < length (members_tokens all) =
     subst (λ ys. length (json_tokens (value_view x.1)) < length (members_tokens (members_view ys)))
     c.deref-member-items.ensures.value
     (subst (λ y. length (json_tokens (value_view y.1)) < length (members_tokens (members_view xs)))
