@@ -1,6 +1,7 @@
 pub mod Appending
 pub mod Comparing
 pub mod Divisors
+pub mod Equals
 pub mod Examples
 pub mod InRange
 pub mod Multiples

@@ -3,6 +3,7 @@
 use Rattle.std.specs.Prelude.{◌≡◌, ℕ, ℤ, pos, negsuc, ◌*◌, ◌*ℤ◌, ◌^◌, ◌<◌, ◌≤ℤ◌, ◌<ℤ◌, ◌↔◌, Some}
 use Rattle.core.specs.Int.{◌∣◌}
 use Rattle.fast_float.specs.Text.{with_sign}
+use Rattle.js_numbers.specs.Change.{outside}
 use Rattle.js_numbers.specs.Decimal.{IsInRange, bound, numerator, whole}
 use Rattle.js_numbers.specs.Limit.{Meets, exclusive_maximum, exclusive_minimum, maximum, minimum}
 use Rattle.js_numbers.specs.declared.bound.Bound.{Bound}
@@ -40,6 +41,11 @@ ExclusiveMaximumSaysTheSame = (d : Decimal) (z : ℤ) → IsInRange z
 -- d is the integer that `whole` gives, if it is one in the range
 abbrev pub WholeIsEqual : Type 0
 WholeIsEqual = (d : Decimal) (z : ℤ) → (IsInRange z × (scaled_number d ≡ scaled d z)) ↔ (whole d ≡ Some z)
+
+-- what `outside` finds is no integer in the range, so no number of an instance is equal to it
+abbrev pub OutsideIsNoInteger : Type 0
+OutsideIsNoInteger = (d found : Decimal) (z : ℤ) → outside d ≡ Some found → IsInRange z
+    → scaled_number d ≡ scaled d z → ⊥
 
 -- ---- multiples, of sizes
 
