@@ -1,8 +1,7 @@
 -- A number equals the integer that `whole` gives, and no other in the range.
-use Rattle.std.proofs.Common.{◌≡◌, ℤ, Bool, true, false, Option, Some, None, arith, sym, ◌∙◌}
+use Rattle.std.proofs.Common.{◌≡◌, ℤ, Bool, true, false, Option, Some, None, arith}
 use Rattle.std.specs.Prelude.{◌&&◌, is_none, if◌then◌else◌}
 use Rattle.std.proofs.lemmas.Int.{ints}
-use Rattle.js_numbers.specs.Change.{outside}
 use Rattle.js_numbers.specs.Decimal.{is_short, is_whole, size_down, whole}
 use Rattle.js_numbers.specs.Laws.{OutsideIsNoInteger, WholeIsEqual}
 use Rattle.js_numbers.specs.declared.decimal.Decimal.{Decimal}
