@@ -1,0 +1,12 @@
+pub mod Appending
+pub mod Comparing
+pub mod Divisors
+pub mod Equals
+pub mod Examples
+pub mod InRange
+pub mod Multiples
+pub mod SchemaExamples
+pub mod Sizes
+pub mod Tens
+pub mod Tokens
+pub mod Wholes

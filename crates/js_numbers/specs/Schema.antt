@@ -1,0 +1,97 @@
+-- A schema document in which numbers are integers where that says the same. Its integers are written in digits first,
+-- as in an instance.
+use Rattle.std.specs.Prelude.{ℕ, Bool, false, not, ◌&&◌, List, [], ◌∷◌, Option, Some, None}
+use Rattle.std.specs.Prelude.{option_map, option_and_then, is_some, codes, if◌then◌else◌}
+use Rattle.json.specs.Find.{get}
+use Rattle.json.specs.Json.{Json, string, array, object, Items, no_items, item, Members, no_members}
+use Rattle.json.specs.Json.{member, document}
+use Rattle.json.specs.Print.{print}
+use Rattle.json.specs.Tree.{json_tokens}
+use Rattle.js_doc.specs.Value.{Text}
+use Rattle.js_upgrade.specs.Dialect.{dialect_named, is_before}
+use Rattle.js_upgrade.specs.Keyword.{change_in}
+use Rattle.js_upgrade.specs.Schema.{is_uri}
+use Rattle.js_upgrade.specs.Upgrade.{holding_by_change, identifier}
+use Rattle.js_upgrade.specs.declared.dialect.Dialect.{Dialect}
+use Rattle.js_upgrade.specs.declared.dialect.Dialect.TheVariants.{Draft2019}
+use Rattle.js_upgrade.specs.declared.holding.SchemaHolding.{SchemaHolding}
+use Rattle.js_upgrade.specs.declared.holding.SchemaHolding.TheVariants.{One, Listed, Named, OneOrListed}
+use Rattle.js_numbers.specs.Change.{becomes, change}
+use Rattle.js_numbers.specs.Instance.{exact_instance}
+
+-- ---- the dialect of a schema, as the upgrade has it
+
+abbrev pub dialect_in : Json → Option Dialect
+dialect_in (string uri) = dialect_named uri
+dialect_in _ = None
+
+abbrev pub is_identifier : Option Json → Bool
+is_identifier (Some (string uri)) = is_uri uri
+is_identifier _ = false
+
+-- whether a reference hides its siblings
+abbrev pub hides : Dialect → Json → Bool
+hides d schema = is_before d Draft2019 && is_some (get (codes "$ref") schema)
+
+abbrev pub identifies : Dialect → Json → Bool
+identifies d schema = is_identifier (get (identifier d) schema) && not (hides d schema)
+
+abbrev pub dialect_or : Dialect → Json → Option Dialect → Dialect
+dialect_or d schema None = d
+dialect_or d schema (Some e) = if identifies e schema then e else d
+
+-- what the schema's `$schema` names
+abbrev pub declared : Json → Option Dialect
+declared schema = option_and_then dialect_in (get (codes "$schema") schema)
+
+-- below the root `$schema` counts beside an identifier of the dialect that it names
+abbrev pub own_dialect : Dialect → Json → Dialect
+own_dialect d schema = dialect_or d schema (declared schema)
+
+-- ---- the schemas in a value that holds some
+
+-- the members, with some before them
+abbrev pub with_members : List (Text × Json) → Members → Members
+with_members [] ms = ms
+with_members (m ∷ front) ms = member m.0 m.1 (with_members front ms)
+
+abbrev mutual
+  pub rewritten : SchemaHolding → Dialect → Json → Json
+  rewritten One d (object ms) = object (keywords (own_dialect d (object ms)) (object ms) ms)
+  rewritten OneOrListed d (object ms) = object (keywords (own_dialect d (object ms)) (object ms) ms)
+  rewritten Named d (object ms) = object (each_named d ms)
+  rewritten Listed d (array js) = array (each_listed d js)
+  rewritten OneOrListed d (array js) = array (each_listed d js)
+  rewritten _ d j = j
+
+  pub each_listed : Dialect → Items → Items
+  each_listed d no_items = no_items
+  each_listed d (item j js) = item (rewritten One d j) (each_listed d js)
+
+  pub each_named : Dialect → Members → Members
+  each_named d no_members = no_members
+  each_named d (member name j ms) = member name (rewritten One d j) (each_named d ms)
+
+  -- the keywords of the schema
+  pub keywords : Dialect → Json → Members → Members
+  keywords d schema no_members = no_members
+  keywords d schema (member name j ms) =
+      with_members (becomes (change d schema name j) name j (rewritten (holding_by_change (change_in d name)) d j))
+      (keywords d schema ms)
+
+-- ---- a document
+
+-- what the root's `$schema` names, or what is assumed
+abbrev pub known_or : Dialect → Option Dialect → Dialect
+known_or assumed None = assumed
+known_or assumed (Some d) = d
+
+abbrev pub root_dialect : Dialect → Json → Dialect
+root_dialect assumed root = known_or assumed (declared root)
+
+abbrev pub exact_root : Dialect → Json → List ℕ
+exact_root assumed root = print (json_tokens (rewritten One (root_dialect assumed root) root))
+
+-- none if it isn't JSON
+abbrev pub exact_schema : Dialect → List ℕ → Option (List ℕ)
+exact_schema assumed text = option_map (exact_root assumed) (option_and_then document (exact_instance text))

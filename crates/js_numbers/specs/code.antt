@@ -1,0 +1,3 @@
+-- What only private functions speak of: no public clause cites it.
+pub mod Appended
+pub mod Reading
