@@ -151,8 +151,8 @@ def upgrade_usages(interface):
     """The usage texts that jschema-upgrade has and jschema doesn't."""
     upgrade = interface["upgrade"]
     return [f"usage: {text}" for text in (
-        f"jschema-upgrade {upgrade['arguments']}", upgrade["dialect_usage"], upgrade["folder_usage"],
-        upgrade["names_usage"])]
+        f"jschema-upgrade {upgrade['arguments']}", upgrade["dialect_usage"], upgrade["numbers_usage"],
+        upgrade["folder_usage"], upgrade["names_usage"])]
 
 
 def upgrade_help(interface):
@@ -161,8 +161,8 @@ def upgrade_help(interface):
     options = [(f"{it['name']} {it['argument']}", it["help"]) for it in upgrade["option"]]
     statuses = [(str(it["number"]), it.get("launcher", it["help"])) for it in upgrade["status"]]
     return function("print_upgrade", (
-        f"{upgrade['summary']}\n\nUsage:\n  jschema-upgrade [--default-dialect DIALECT] [--into FOLDER]\n"
-        "      URI FILE [URI FILE]...\n\n"
+        f"{upgrade['summary']}\n\nUsage:\n  jschema-upgrade [--default-dialect DIALECT] [--numbers RANGE]\n"
+        "      [--into FOLDER] URI FILE [URI FILE]...\n\n"
         "Each FILE holds a schema document. References find it by the URI before it;\nnothing is fetched.\n\n"
         + section("Options", options, 29) + section("Exit status", statuses, 5)))
 
@@ -187,12 +187,15 @@ def upgrade_statuses(interface):
 def upgrade_bash_words(interface):
     options = " ".join(it["name"] for it in interface["upgrade"]["option"])
     return (f"_jschema_upgrade_options='{options}'\n"
-            f"_jschema_upgrade_dialects='{' '.join(interface['upgrade']['dialects'])}'\n")
+            f"_jschema_upgrade_dialects='{' '.join(interface['upgrade']['dialects'])}'\n"
+            f"_jschema_upgrade_ranges='{' '.join(interface['upgrade']['ranges'])}'\n")
 
 
 def upgrade_zsh_words(interface):
     options = "".join(f"    '{it['name']}:{it['short']}'\n" for it in interface["upgrade"]["option"])
-    return f"local -a options=(\n{options})\nlocal -a dialects=({' '.join(interface['upgrade']['dialects'])})\n"
+    upgrade = interface["upgrade"]
+    return (f"local -a options=(\n{options})\nlocal -a dialects=({' '.join(upgrade['dialects'])})\n"
+            f"local -a ranges=({' '.join(upgrade['ranges'])})\n")
 
 
 def by_number(entries):

@@ -1,8 +1,9 @@
 # Completions of jschema-upgrade for bash.
 
 # interface: upgrade words
-_jschema_upgrade_options='--default-dialect --into'
+_jschema_upgrade_options='--default-dialect --numbers --into'
 _jschema_upgrade_dialects='draft-03 draft-04 draft-06 draft-07 2019-09 2020-12'
+_jschema_upgrade_ranges='exact whole'
 # interface: end
 
 _jschema_upgrade() {
@@ -10,6 +11,7 @@ _jschema_upgrade() {
     COMPREPLY=()
     case $before:$current in
         --default-dialect:*) mapfile -t COMPREPLY < <(compgen -W "$_jschema_upgrade_dialects" -- "$current") ;;
+        --numbers:*) mapfile -t COMPREPLY < <(compgen -W "$_jschema_upgrade_ranges" -- "$current") ;;
         --into:*) compopt -o dirnames ;;
         *:-*) mapfile -t COMPREPLY < <(compgen -W "$_jschema_upgrade_options" -- "$current") ;;
         *) compopt -o default ;; # a file

@@ -20,6 +20,7 @@ use Rattle.js_upgrade_command.specs.Outputs.{IsPartlyWritten, IsWritten, Written
 use Rattle.js_upgrade_command.specs.Stop.{stopped_by}
 use Rattle.js_upgrade_command.specs.Upgraded.{upgraded_or_refused}
 use Rattle.js_upgrade_command.specs.Words.{UpgradeRequest, and_then}
+use Rattle.js_upgrade_command.specs.declared.numbers.Numbers.{Numbers}
 use Rattle.js_upgrade_command.specs.code.Seen.{IsUpgradeMisuse, RefusesWith, upgrade_misuse_status}
 use Rattle.js_upgrade_command.specs.declared.words.UpgradeMisuse.{UpgradeMisuse}
 use Rattle.js_upgrade_command.specs.declared.words.UpgradeMisuse.TheVariants as misuse
@@ -55,25 +56,26 @@ untaken_stops contents request d _ h = h
 
 -- ---- refusals
 
-pub outcome_there : (assumed : _) (texts : DocumentTexts) (sources : Sources) (answer : Result Values Refusal)
-    → sources_after assumed [] 0 texts ≡ Ok sources → upgraded_or_refused sources ≡ answer → outcome assumed texts
-    ≡ answer
-outcome_there assumed texts sources answer e f = ap (λ r. and_then r upgraded_or_refused) e ∙ f
+pub outcome_there : (numbers : Numbers) (assumed : _) (texts : DocumentTexts) (sources : Sources)
+    (answer : Result Values Refusal) → sources_after numbers assumed [] 0 texts ≡ Ok sources
+    → upgraded_or_refused sources ≡ answer → outcome numbers assumed texts ≡ answer
+outcome_there numbers assumed texts sources answer e f = ap (λ r. and_then r upgraded_or_refused) e ∙ f
 
 module _ (contents : ContentsByPath) (request : UpgradeRequest) (texts : DocumentTexts)
     (holds : AreContents contents request.documents texts) where
-  pub unread_stops : (f : Fault) → RefusesWith (sources_after request.assumed [] 0 texts) f
+  pub unread_stops : (f : Fault) → RefusesWith (sources_after request.numbers request.assumed [] 0 texts) f
       → IsUpgradeStop contents request (stopped_by f).document (stopped_by f).fault
   unread_stops fault.Memory h = tt
   unread_stops (fault.Refused r) h = (refl, (texts, holds, ap (λ r. and_then r upgraded_or_refused) h))
   unread_stops _ h = absurd h
 
-  pub refused_stops : (sources : Sources) (f : Fault) → sources_after request.assumed [] 0 texts ≡ Ok sources
+  pub refused_stops : (sources : Sources) (f : Fault)
+      → sources_after request.numbers request.assumed [] 0 texts ≡ Ok sources
       → RefusesWith (upgraded_or_refused sources) f
       → IsUpgradeStop contents request (stopped_by f).document (stopped_by f).fault
   refused_stops sources fault.Memory e h = tt
   refused_stops sources (fault.Refused r) e h =
-      (refl, (texts, holds, outcome_there request.assumed texts sources (Err r) e h))
+      (refl, (texts, holds, outcome_there request.numbers request.assumed texts sources (Err r) e h))
   refused_stops sources _ e h = absurd h
 
 -- ---- with nothing written, and with a prefix

@@ -1,4 +1,5 @@
 pub mod Names
+pub mod Numbers
 pub mod Outcome
 pub mod Outputs
 pub mod Stop

@@ -22,10 +22,12 @@ use Rattle.js_command.specs.Words.{files_of}
 use Rattle.js_upgrade.specs.Documents.{SourceDocument, Sources}
 use Rattle.js_upgrade.specs.declared.dialect.Dialect.{Dialect}
 use Rattle.js_output.specs.Device.{Tracked}
+use Rattle.js_upgrade_command.specs.Numbers.{text_read}
 use Rattle.js_upgrade_command.specs.Outputs.{Flushes, IsPartlyWritten, IsWritten, Written}
 use Rattle.js_upgrade_command.specs.Stop.{stop_line}
 use Rattle.js_upgrade_command.specs.Upgraded.{upgraded_or_refused}
 use Rattle.js_upgrade_command.specs.Words.{UpgradeRequest, and_then, upgrade_request_of}
+use Rattle.js_upgrade_command.specs.declared.numbers.Numbers.{Numbers}
 use Rattle.js_upgrade_command.specs.declared.stop.RequestStop.{RequestStop}
 
 -- ---- documents, as their texts are read
@@ -51,27 +53,28 @@ root_or number (Err f) = Err (refusal_of_read number f)
 abbrev pub root_read : ℕ → List ℕ → Result Value Refusal
 root_read number bytes = root_or number (reading bytes)
 
-abbrev pub source_read : Dialect → ℕ → List ℕ × List ℕ → Result SourceDocument Refusal
-source_read assumed number d =
-    and_then (uri_read number d.0) (λ uri. and_then (root_read number d.1)
+abbrev pub source_read : Numbers → Dialect → ℕ → List ℕ × List ℕ → Result SourceDocument Refusal
+source_read numbers assumed number d =
+    and_then (uri_read number d.0) (λ uri. and_then (root_read number (text_read numbers assumed d.1))
     (λ root. Ok (record { uri = uri; assumed = assumed; root = root })))
 
 -- one after another, behind those that were read
-abbrev pub sources_after : Dialect → Sources → ℕ → DocumentTexts → Result Sources Refusal
-sources_after assumed before number [] = Ok before
-sources_after assumed before number (d ∷ ds) =
-    and_then (source_read assumed number d) (λ s. sources_after assumed (before ++ s ∷ []) (number + 1) ds)
+abbrev pub sources_after : Numbers → Dialect → Sources → ℕ → DocumentTexts → Result Sources Refusal
+sources_after numbers assumed before number [] = Ok before
+sources_after numbers assumed before number (d ∷ ds) =
+    and_then (source_read numbers assumed number d)
+    (λ s. sources_after numbers assumed (before ++ s ∷ []) (number + 1) ds)
 
 -- ---- the upgraded documents, or the first refusal
 
-abbrev pub outcome : Dialect → DocumentTexts → Result Values Refusal
-outcome assumed documents = and_then (sources_after assumed [] 0 documents) upgraded_or_refused
+abbrev pub outcome : Numbers → Dialect → DocumentTexts → Result Values Refusal
+outcome numbers assumed documents = and_then (sources_after numbers assumed [] 0 documents) upgraded_or_refused
 
 -- what comes of what the files hold
 abbrev pub UpgradeOutcome : ContentsByPath → UpgradeRequest → Result Values Refusal → Type 0
 UpgradeOutcome contents request answer =
     (documents : DocumentTexts) × AreContents contents request.documents documents
-    × (outcome request.assumed documents ≡ answer)
+    × (outcome request.numbers request.assumed documents ≡ answer)
 
 -- the file with this number is the first that isn't taken, for this fault
 abbrev pub IsUntaken : ContentsByPath → ℕ → List (List ℕ) → Option ℕ → Fault → Type 0

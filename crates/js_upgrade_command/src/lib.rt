@@ -4,6 +4,7 @@
 mod documents;
 mod folder;
 mod names;
+mod numbers;
 mod outputs;
 mod program;
 mod request;

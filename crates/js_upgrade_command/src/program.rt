@@ -21,7 +21,9 @@ use crate::request::{UpgradeRequest, upgrade_request_of};
 use crate::sources::sources_of;
 use crate::stop::{RequestStop, stop_line};
 use crate::upgraded::upgraded_or_refused;
-use crate::words::{DIALECT_USAGE, FOLDER_USAGE, NAMES_USAGE, UPGRADE_USAGE, UpgradeMisuse};
+use crate::words::{
+    DIALECT_USAGE, FOLDER_USAGE, NAMES_USAGE, NUMBERS_USAGE, UPGRADE_USAGE, UpgradeMisuse,
+};
 use js_command::{FAILED, Files, MISUSED, PAIRS_USAGE};
 use js_doc::Doc;
 use js_output::Sink;
@@ -34,10 +36,11 @@ pub const DONE: u8 = 0;
 /// Runs the program on its arguments (`words`, without the program's name) and returns the exit status: [`DONE`],
 /// `MISUSED`, `REFUSED` or `FAILED` of `js_command`.
 ///
-/// The words are `[--default-dialect DIALECT] [--into FOLDER] URI FILE [URI FILE]...`. Options may stand anywhere
-/// before `--`. The files are taken in the order given, and all documents are upgraded before one is written: as its
-/// compact text and a line feed, to `out`, which is flushed then; or with `--into` to the path that `folder` has
-/// under FOLDER for the file's name. `faults` gets a usage text, or the line of a fault and a line feed (nothing if
+/// The words are `[--default-dialect DIALECT] [--numbers RANGE] [--into FOLDER] URI FILE [URI FILE]...`. Options may
+/// stand anywhere before `--`. RANGE is `exact`, where integers take the place of numbers that say the same, or `whole`.
+/// The files are taken in the order given, and all documents are upgraded before one is written: as its compact text
+/// and a line feed, to `out`, which is flushed then; or with `--into` to the path that `folder` has under FOLDER for
+/// the file's name. `faults` gets a usage text, or the line of a fault and a line feed (nothing if
 /// memory for the line runs out); its own failure changes no status.
 pub fn upgrade_command<'a, F: Files, P: Folder, W: Write, V: Write>(
     alloc: Global,
@@ -111,7 +114,7 @@ fn documents_upgraded<F: Files>(
         s.document s.fault) }
 {
     let taken = take_all(alloc, request.documents.as_slice(), files)?;
-    let sources = sources_of(alloc, request.assumed, taken.as_slice())?;
+    let sources = sources_of(alloc, request.numbers, request.assumed, taken.as_slice())?;
     Ok(upgraded_or_refused(alloc, sources.as_slice())?)
 }
 
@@ -163,6 +166,7 @@ fn usage_text(misuse: UpgradeMisuse) -> &'static [u8]
         UpgradeMisuse::OtherForm => UPGRADE_USAGE,
         UpgradeMisuse::OddPairs => PAIRS_USAGE,
         UpgradeMisuse::NoDialect => DIALECT_USAGE,
+        UpgradeMisuse::NoNumbers => NUMBERS_USAGE,
         UpgradeMisuse::NoFolder => FOLDER_USAGE,
         UpgradeMisuse::OneName => NAMES_USAGE,
     }

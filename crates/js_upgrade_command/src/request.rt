@@ -5,15 +5,18 @@ ghost use Rattle.js_upgrade_command.specs.Words.{request_from, misplaced, misuse
 ghost use Rattle.js_upgrade_command.specs.code.Seen.{IsUpgradeMisuse, upgrade_request_seen, said_seen};
 
 use crate::names::are_apart;
+use crate::numbers::Numbers;
 use crate::words::{SaidSoFar, UpgradeMisuse, Waiting, say_word};
 use js_command::DocumentFile;
 use js_upgrade::Dialect;
 use std::alloc::Global;
 
-/// Documents to be upgraded, the dialect of those that name none, and the folder of the results, if there is one.
+/// Documents to be upgraded, the dialect of those that name none, which numbers they may have, and the folder of the
+/// results, if there is one.
 #[derive(Drop)]
 pub(crate) struct UpgradeRequest<'a> {
     pub(crate) assumed: Dialect,
+    pub(crate) numbers: Numbers,
     pub(crate) into: Option<&'a str>,
     pub(crate) documents: Vec<DocumentFile<'a>>,
 }
@@ -32,6 +35,7 @@ pub(crate) fn upgrade_request_of<'a>(
     let mut said = SaidSoFar {
         waiting: Waiting::ForAny,
         assumed: Dialect::Draft2020,
+        numbers: Numbers::Whole,
         into: None,
         uri: None,
         documents: Vec::new(alloc),
@@ -52,12 +56,14 @@ fn request_from<'a>(said: SaidSoFar<'a>) -> Result<UpgradeRequest<'a>, UpgradeMi
     }
     let SaidSoFar {
         assumed,
+        numbers,
         into,
         documents,
         ..
     } = said;
     Ok(UpgradeRequest {
         assumed,
+        numbers,
         into,
         documents,
     })
@@ -68,7 +74,9 @@ fn misuse_in(said: &SaidSoFar) -> Option<UpgradeMisuse>
     ensures { result ≡ misuse_in (said_seen said.now) }
 {
     match said.waiting {
-        Waiting::ForDialect | Waiting::ForFolder => return Some(UpgradeMisuse::OtherForm),
+        Waiting::ForDialect | Waiting::ForNumbers | Waiting::ForFolder => return Some(
+            UpgradeMisuse::OtherForm,
+        ),
         Waiting::ForAny | Waiting::ForPairs => {}
     }
     if said.uri.is_some() {

@@ -3,12 +3,14 @@ ghost use Rattle.std.specs.Prelude.{◌≡◌, [], Ok, IfOk, IfErr, map};
 ghost use Rattle.js_doc.specs.Seen.{value_of};
 ghost use Rattle.js_output.specs.Documents.{unfragmented};
 ghost use Rattle.js_upgrade.specs.Seen.{source_of};
+ghost use Rattle.js_upgrade_command.specs.Numbers.{exact_text};
 ghost use Rattle.js_upgrade_command.specs.Outcome.{refused_whole, root_read, source_read, sources_after};
 ghost use Rattle.js_upgrade_command.specs.Outcome.{uri_or, uri_read};
 ghost use Rattle.js_upgrade_command.specs.code.Seen.{RefusesWith, taken_seen, texts_seen};
 ghost use Rattle.js_output.specs.declared.fault.Fault.TheVariants as fault;
 
 use crate::documents::DocumentText;
+use crate::numbers::{Numbers, exact_text};
 use js_bundle::uri::{LONGEST, has_no_fragment, without_fragment};
 use js_command::append;
 use js_doc::{Doc, Pointer, read};
@@ -23,16 +25,17 @@ use url::{ParseError, Url};
 /// The first refusal: of each document `UriTooLong`, `BadUri`, `NotJson`, `NotWhole`; `Memory` at any point.
 pub(crate) fn sources_of(
     alloc: Global,
+    numbers: Numbers,
     assumed: Dialect,
     documents: &[DocumentText],
 ) -> Result<Vec<SourceDocument>, Fault>
-    ensures ok { IfOk result (λ v. sources_after assumed [] 0 (texts_seen documents.now)
+    ensures ok { IfOk result (λ v. sources_after numbers assumed [] 0 (texts_seen documents.now)
         ≡ Ok (map source_of v.items)) }
-    ensures err { IfErr result (RefusesWith (sources_after assumed [] 0 (texts_seen documents.now))) }
+    ensures err { IfErr result (RefusesWith (sources_after numbers assumed [] 0 (texts_seen documents.now))) }
 {
     let mut sources = Vec::new(alloc);
     for number in 0..documents.len() {
-        let source = source_of(alloc, assumed, number, &documents[number])?;
+        let source = source_of(alloc, numbers, assumed, number, &documents[number])?;
         append(&mut sources, source)?;
     }
     Ok(sources)
@@ -40,16 +43,31 @@ pub(crate) fn sources_of(
 
 fn source_of(
     alloc: Global,
+    numbers: Numbers,
     assumed: Dialect,
     number: usize,
     document: &DocumentText,
 ) -> Result<SourceDocument, Fault>
-    ensures ok { IfOk result (λ s. source_read assumed number (taken_seen document.now) ≡ Ok (source_of s)) }
-    ensures err { IfErr result (RefusesWith (source_read assumed number (taken_seen document.now))) }
+    ensures ok { IfOk result (λ s. source_read numbers assumed number (taken_seen document.now) ≡ Ok (source_of s)) }
+    ensures err { IfErr result (RefusesWith (source_read numbers assumed number (taken_seen document.now))) }
 {
     let uri = uri_of(alloc, number, document.uri)?;
-    let root = root_of(alloc, number, document.text.as_slice())?;
+    let text = document.text.as_slice();
+    let root = match numbers {
+        Numbers::Whole => root_of(alloc, number, text)?,
+        Numbers::Exact => exact_root_of(alloc, assumed, number, text)?,
+    };
     Ok(SourceDocument { uri, assumed, root })
+}
+
+fn exact_root_of(alloc: Global, assumed: Dialect, number: usize, text: &[u8]) -> Result<Doc, Fault>
+    ensures ok { IfOk result (λ d. root_read number (exact_text assumed text.now) ≡ Ok (value_of d)) }
+    ensures err { IfErr result (RefusesWith (root_read number (exact_text assumed text.now))) }
+{
+    match exact_text(alloc, assumed, text)? {
+        Some(exact) => root_of(alloc, number, exact.as_slice()),
+        None => root_of(alloc, number, text),
+    }
 }
 
 fn root_of(alloc: Global, number: usize, text: &[u8]) -> Result<Doc, Fault>

@@ -1,20 +1,24 @@
 //! The program's words, one after another.
 ghost use Rattle.std.specs.Prelude.{◌≡◌, Ok, OnOk, IfErr};
 ghost use Rattle.js_upgrade_command.specs.Words.{dialect_of, dialect_said, is_option, option_said};
-ghost use Rattle.js_upgrade_command.specs.Words.{plain_said, word_said};
+ghost use Rattle.js_upgrade_command.specs.Words.{numbers_of, numbers_said, plain_said, word_said};
 ghost use Rattle.js_upgrade_command.specs.code.Seen.{IsUpgradeMisuse, said_seen};
 
+use crate::numbers::Numbers;
 use js_command::{DocumentFile, append};
 use js_upgrade::Dialect;
 use std::alloc::AllocFailed;
 
 /// The usage text, written if the words don't have the program's form.
 pub const UPGRADE_USAGE: &[u8] =
-    b"usage: jschema-upgrade [--default-dialect DIALECT] [--into FOLDER] URI FILE [URI FILE]...\n";
+    b"usage: jschema-upgrade [--default-dialect DIALECT] [--numbers RANGE] [--into FOLDER] URI FILE [URI FILE]...\n";
 
 /// The usage text if a word that is to be a dialect is none.
 pub(crate) const DIALECT_USAGE: &[u8] =
     b"usage: DIALECT is draft-03, draft-04, draft-06, draft-07, 2019-09, 2020-12 or its URI\n";
+
+/// The usage text if a word that is to be a range of numbers is none.
+pub(crate) const NUMBERS_USAGE: &[u8] = b"usage: RANGE is exact or whole\n";
 
 /// The usage text if there are several documents, and no folder.
 pub(crate) const FOLDER_USAGE: &[u8] = b"usage: several documents need --into FOLDER\n";
@@ -33,6 +37,8 @@ pub enum UpgradeMisuse {
     OddPairs,
     /// A word that is to be a dialect is none.
     NoDialect,
+    /// A word that is to be a range of numbers is none.
+    NoNumbers,
     /// There are several documents, and no folder.
     NoFolder,
     /// Two documents would be written to one file.
@@ -56,6 +62,8 @@ pub(crate) enum Waiting {
     ForAny,
     /// The dialect that is assumed.
     ForDialect,
+    /// Which numbers are taken.
+    ForNumbers,
     /// The folder.
     ForFolder,
     /// A word of a pair.
@@ -67,6 +75,7 @@ pub(crate) enum Waiting {
 pub(crate) struct SaidSoFar<'a> {
     pub(crate) waiting: Waiting,
     pub(crate) assumed: Dialect,
+    pub(crate) numbers: Numbers,
     pub(crate) into: Option<&'a str>,
     /// A URI whose file is the next word of a pair.
     pub(crate) uri: Option<&'a str>,
@@ -84,6 +93,7 @@ pub(crate) fn say_word<'a>(said: &mut SaidSoFar<'a>, word: &'a str) -> Result<()
     match said.waiting {
         Waiting::ForAny => say_option(said, word),
         Waiting::ForDialect => say_dialect(said, dialect_of(word)),
+        Waiting::ForNumbers => say_numbers(said, numbers_of(word)),
         Waiting::ForFolder => {
             said.waiting = Waiting::ForAny;
             said.into = Some(word);
@@ -99,6 +109,7 @@ fn say_option<'a>(said: &mut SaidSoFar<'a>, word: &'a str) -> Result<(), Upgrade
 {
     match word {
         "--default-dialect" => said.waiting = Waiting::ForDialect,
+        "--numbers" => said.waiting = Waiting::ForNumbers,
         "--into" => said.waiting = Waiting::ForFolder,
         "--" => said.waiting = Waiting::ForPairs,
         _ => {
@@ -143,6 +154,29 @@ fn dialect_of(word: &str) -> Option<Dialect>
         "2019-09" => Some(Dialect::Draft2019),
         "2020-12" => Some(Dialect::Draft2020),
         _ => Dialect::of_uri(word),
+    }
+}
+
+fn say_numbers(said: &mut SaidSoFar<'_>, numbers: Option<Numbers>) -> Result<(), UpgradeMisuse>
+    ensures ok { OnOk result (numbers_said (said_seen said.old) numbers ≡ Ok (said_seen said.new)) }
+    ensures err { IfErr result (IsUpgradeMisuse (numbers_said (said_seen said.old) numbers)) }
+{
+    let Some(numbers) = numbers else {
+        return Err(UpgradeMisuse::NoNumbers);
+    };
+    said.waiting = Waiting::ForAny;
+    said.numbers = numbers;
+    Ok(())
+}
+
+// Which numbers a word says are taken.
+fn numbers_of(word: &str) -> Option<Numbers>
+    ensures { result ≡ numbers_of word.now }
+{
+    match word {
+        "exact" => Some(Numbers::Exact),
+        "whole" => Some(Numbers::Whole),
+        _ => None,
     }
 }
 

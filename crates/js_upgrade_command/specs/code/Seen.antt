@@ -21,6 +21,7 @@ abbrev pub said_seen : rust.SaidSoFar → SaidSoFar
 said_seen s = record {
   waiting = s.waiting;
   assumed = s.assumed;
+  numbers = s.numbers;
   into = option_map (λ w. w.now) s.into;
   uri = option_map (λ w. w.now) s.uri;
   documents = pairs_seen s.documents.items;
@@ -29,6 +30,7 @@ said_seen s = record {
 abbrev pub upgrade_request_seen : rust_request.UpgradeRequest → UpgradeRequest
 upgrade_request_seen r = record {
   assumed = r.assumed;
+  numbers = r.numbers;
   into = option_map (λ w. w.now) r.into;
   documents = pairs_seen r.documents.items;
 }
