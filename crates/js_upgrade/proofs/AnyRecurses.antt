@@ -3,7 +3,7 @@ use Rattle.std.proofs.Common.{◌≡◌, List, [], ◌∷◌, ◌||◌, map, ref
 use Rattle.std.specs.List.{list_any}
 use Rattle.js_upgrade.specs.Resource.{recurses}
 use Rattle.js_upgrade.specs.Seen.{resource_seen}
-use Rattle.js_upgrade.specs.declared.resources.Resource.{Resource}
+use Rattle.js_upgrade.specs.declared.resource.Resource.{Resource}
 
 pub any_recurses : (all : List Resource)
     → list_any recurses (map resource_seen all) ≡ list_any (λ r. recurses (resource_seen r)) all

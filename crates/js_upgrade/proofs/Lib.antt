@@ -4,6 +4,8 @@ pub mod Agreeing
 pub mod Alternatives
 pub mod AnyFault
 pub mod AnyRecurses
+pub mod ClearDocuments
+pub mod ClearValues
 pub mod CopiesAscend
 pub mod CopyLoops
 pub mod DocumentExamples
@@ -45,5 +47,7 @@ pub mod Staying
 pub mod StayingTogether
 pub mod StepsBack
 pub mod Tables
+pub mod UsualReferences
+pub mod UsualTargets
 pub mod UsualUris
 pub mod WithoutCopies

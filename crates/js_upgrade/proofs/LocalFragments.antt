@@ -30,11 +30,9 @@ use Rattle.js_upgrade.specs.Resource.{Resource, resource_named}
 use Rattle.js_upgrade.specs.declared.fault.UpgradeFaultKind.TheVariants.{Unresolved}
 use Rattle.js_upgrade.specs.Url.{fragment_pointer, uri_joined, uri_limit, uri_parsed, uri_printed, uri_without_fragment}
 use Rattle.js_upgrade.specs.code.First.{has_uri}
+use Rattle.js_upgrade.proofs.Prefixes.{some_is}
 use Rattle.js_upgrade.proofs.Tables.{found_at}
 use Rattle.js_upgrade.specs.code.Local.{is_fragment_byte, kept_fragment, local_fragment, local_uri}
-
-some_is : {A : Type 0} (x y : A) → Some x ≡ Some y → x ≡ y
-some_is x y e = cc
 
 -- ---- what such a reference consists of
 

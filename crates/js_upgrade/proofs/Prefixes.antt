@@ -28,3 +28,19 @@ pub after_is : (p s : Text) (r : Option (Bor Text)) → MatchOption r (LacksText
 after_is p s None lacks = sym (after-none p s lacks)
 after_is p s (Some x) strips =
     ap Some strips.2 ∙ sym (after-append p (drop strips.0 s)) ∙ ap (after_prefix p) (sym strips.1.1)
+
+-- ---- the text is the prefix and what stands behind it
+
+pub some_is : {A : Type 0} (x y : A) → Some x ≡ Some y → x ≡ y
+some_is x y e = cc
+
+prefixed_by : (b p : ℕ) (ps bs r : Text) (same : Bool) → (b == p) ≡ same
+    → (after_prefix ps bs ≡ Some r → bs ≡ ps ++ r) → cond same (after_prefix ps bs) None ≡ Some r
+    → b ∷ bs ≡ p ∷ (ps ++ r)
+prefixed_by b p ps bs r true is more found = λ i. eqb-true b p is i ∷ more found i
+prefixed_by b p ps bs r false is more found = absurd (cc)
+
+pub after-prefixed : (p t r : Text) → after_prefix p t ≡ Some r → t ≡ p ++ r
+after-prefixed [] t r is = some_is t r is
+after-prefixed (p ∷ ps) [] r is = absurd (cc)
+after-prefixed (p ∷ ps) (b ∷ bs) r is = prefixed_by b p ps bs r (b == p) refl (after-prefixed ps bs r) is

@@ -10,7 +10,7 @@ use Rattle.js_doc.specs.Value.{Text}
 use Rattle.js_upgrade.specs.Resource.{Resource}
 use Rattle.js_upgrade.specs.Seen.{resource_seen}
 use Rattle.js_upgrade.specs.code.First.{FindsFirstResource, has_uri}
-use Rattle.js_upgrade.specs.declared.resources.Resource as rust
+use Rattle.js_upgrade.specs.declared.resource.Resource as rust
 
 -- ---- one resource more
 

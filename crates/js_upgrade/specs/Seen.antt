@@ -8,7 +8,7 @@ use Rattle.js_upgrade.specs.Fault.{FoundFault}
 use Rattle.js_upgrade.specs.Resource.{Resource}
 use Rattle.js_upgrade.specs.declared.documents.SourceDocument as rust
 use Rattle.js_upgrade.specs.declared.finding.FoundFault as rust_found
-use Rattle.js_upgrade.specs.declared.resources.Resource as rust_resource
+use Rattle.js_upgrade.specs.declared.resource.Resource as rust_resource
 
 -- none where there are none
 abbrev pub copies_seen : Option (Bor Named) → Named

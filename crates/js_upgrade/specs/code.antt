@@ -1,5 +1,6 @@
 -- What only private functions speak of: no public clause cites it.
 pub mod Back
+pub mod Clear
 pub mod Copied
 pub mod FaultBelow
 pub mod First
@@ -10,4 +11,6 @@ pub mod Onward
 pub mod Placed
 pub mod Pushed
 pub mod Table
+pub mod Usual
+pub mod UsualRoot
 pub mod UsualUri

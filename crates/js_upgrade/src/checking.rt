@@ -1,11 +1,12 @@
 //! The first fault of documents that are upgraded together.
-ghost use Rattle.std.specs.Prelude.{◌≡◌, [], IfOk, map, option_map};
+ghost use Rattle.std.specs.Prelude.{◌≡◌, [], IfOk, None, map, option_map};
 ghost use Rattle.js_doc.specs.Seen.{value_of};
 ghost use Rattle.js_upgrade.specs.Fault.{contained_fault, documents_fault, fault_among, in_document, names_fault};
 ghost use Rattle.js_upgrade.specs.Fault.{number_fault, references_fault, repeated_fault, root_fault, source_fault};
 ghost use Rattle.js_upgrade.specs.Fault.{uris_fault};
 ghost use Rattle.js_upgrade.specs.Seen.{found_of, source_of};
 ghost use Rattle.js_upgrade.specs.code.Table.{all_of};
+ghost use Rattle.js_upgrade.specs.declared.fault.Pass.TheVariants.{AnyOfThese};
 
 use crate::documents::{SourceDocument, source_dialect};
 use crate::fault::{Pass, UpgradeFault, UpgradeFaultKind, of_document};
@@ -36,6 +37,24 @@ pub(crate) fn fault_among(
     match number_fault(alloc, sources.len()) {
         Some(fault) => Ok(Some(fault)),
         None => names_fault(alloc, resources, sources),
+    }
+}
+
+/// The same, where it is known that the first three passes find nothing.
+///
+/// # Errors
+/// `Memory`.
+pub(crate) fn clear_fault(
+    alloc: Global,
+    resources: &ResourceTable<'_>,
+    sources: &[SourceDocument],
+) -> Result<Option<UpgradeFault>, Memory>
+    requires { documents_fault AnyOfThese (all_of resources.now) 0 (map source_of sources.now) ≡ None }
+    ensures { IfOk result (λ f. f ≡ fault_among (all_of resources.now) (map source_of sources.now)) }
+{
+    match number_fault(alloc, sources.len()) {
+        Some(fault) => Ok(Some(fault)),
+        None => repeated_fault(alloc, sources),
     }
 }
 

@@ -71,12 +71,12 @@ pub(crate) fn free_name(
         ≡ free_name (copies_seen definitions.entry) pointer.now) }
 {
     if let Some(name) = kept_name(pointer.tokens()) {
-        if !has_copy(definitions, name) {
+        if !has_name(definitions, name) {
             return Ok(Some(String::from_str(alloc, name)?));
         }
     }
     let text = pointer.text(alloc)?;
-    if has_copy(definitions, text.as_str()) {
+    if has_name(definitions, text.as_str()) {
         Ok(None)
     } else {
         Ok(Some(text))
@@ -103,7 +103,7 @@ fn copied_name(alloc: Global, copies: &Members, pointer: &Pointer) -> Result<Opt
     }
 }
 
-pub(crate) fn has_copy(members: Option<&Members>, name: &str) -> bool
+pub(crate) fn has_name(members: Option<&Members>, name: &str) -> bool
     ensures { result ≡ has_name name.now (copies_seen members.entry) }
 {
     match members {

@@ -12,10 +12,11 @@ ghost use Rattle.js_upgrade.specs.code.Table.{all_of};
 
 use crate::apart::{apart, may_be_schema};
 use crate::copy_name::{definitions_name, free_name, is_rooted};
+use crate::definitions::is_usual;
 use crate::dialect::Dialect;
 use crate::identifier::after_mark;
+use crate::resource::Resource;
 use crate::resource_table::{ResourceTable, number_by_uri, resource_numbered};
-use crate::resources::Resource;
 use crate::scope::Scope;
 use crate::uri::{
     fragment_pointer, local_fragment, pointer_in, uri_joined, uri_printed, uri_without_fragment,
@@ -52,6 +53,9 @@ fn copy_for_text(
     ensures { OnOk result (copies.new.items ≡ copied_for_text (all_of scope.entry.resources.now)
         scope.entry.base.now reference.now copies.old.items) }
 {
+    if is_usual(scope, reference) {
+        return Ok(());
+    }
     if is_rooted(after_mark(reference)) {
         copy_for_part(alloc, copies, scope, reference)
     } else {

@@ -1,7 +1,8 @@
 //! The dialects, and the URIs that name them.
 ghost use Rattle.std.specs.Prelude.{◌≡◌, option_map};
 ghost use Rattle.js_upgrade.specs.Dialect.{after_prefix, dialect_named, is_before, draft_number, version_named};
-ghost use Rattle.js_upgrade.specs.code.UsualUri.{usual_uri};
+ghost use Rattle.js_upgrade.specs.code.UsualRoot.{is_same_dialect};
+ghost use Rattle.js_upgrade.specs.code.UsualUri.{after_scheme, is_no_fragment, is_usual_uri, usual_path};
 
 /// A draft of JSON Schema.
 #[derive(Clone, Copy, Debug, PartialEq, Eq)]
@@ -38,18 +39,35 @@ impl Dialect {
         self.draft_number() < other.draft_number()
     }
 
-    /// The URI that most of its schemas have in `$schema`.
-    pub(crate) fn usual_uri(self) -> &'static str
-        ensures { result.now ≡ usual_uri self }
+    /// Whether it is the URI that most of its schemas have in `$schema`, with `http` or `https`, and with an empty
+    /// fragment or none.
+    pub(crate) fn is_usual_uri(self, uri: &str) -> bool
+        ensures { result ≡ is_usual_uri self uri.now }
+    {
+        match after_scheme(uri) {
+            Some(path) => is_no_fragment(after_prefix(self.usual_path(), path)),
+            None => false,
+        }
+    }
+
+    fn usual_path(self) -> &'static str
+        ensures { result.now ≡ usual_path self }
     {
         match self {
-            Dialect::Draft03 => "http://json-schema.org/draft-03/schema#",
-            Dialect::Draft04 => "http://json-schema.org/draft-04/schema#",
-            Dialect::Draft06 => "http://json-schema.org/draft-06/schema#",
-            Dialect::Draft07 => "http://json-schema.org/draft-07/schema#",
-            Dialect::Draft2019 => "https://json-schema.org/draft/2019-09/schema",
-            Dialect::Draft2020 => "https://json-schema.org/draft/2020-12/schema",
+            Dialect::Draft03 => "://json-schema.org/draft-03/schema",
+            Dialect::Draft04 => "://json-schema.org/draft-04/schema",
+            Dialect::Draft06 => "://json-schema.org/draft-06/schema",
+            Dialect::Draft07 => "://json-schema.org/draft-07/schema",
+            Dialect::Draft2019 => "://json-schema.org/draft/2019-09/schema",
+            Dialect::Draft2020 => "://json-schema.org/draft/2020-12/schema",
         }
+    }
+
+    /// Whether it is the same draft.
+    pub(crate) fn is_same(self, other: Dialect) -> bool
+        ensures { result ≡ is_same_dialect self other }
+    {
+        self.draft_number() == other.draft_number()
     }
 
     fn draft_number(self) -> u8
@@ -63,6 +81,24 @@ impl Dialect {
             Dialect::Draft2019 => 4,
             Dialect::Draft2020 => 5,
         }
+    }
+}
+
+// What stands behind `http` or `https`.
+fn after_scheme(uri: &str) -> Option<&str>
+    ensures { option_map (λ t. t.now) result ≡ after_scheme uri.now }
+{
+    let rest = after_prefix("http", uri)?;
+    Some(after_prefix("s", rest).unwrap_or(rest))
+}
+
+// Whether a URI that goes on with this has an empty fragment, or none.
+fn is_no_fragment(rest: Option<&str>) -> bool
+    ensures { result ≡ is_no_fragment (option_map (λ t. t.now) rest.entry) }
+{
+    match rest {
+        Some(rest) => rest.is_empty() || rest == "#",
+        None => false,
     }
 }
 

@@ -1,21 +1,26 @@
 //! Documents that are upgraded together: a reference of one may lead into another.
-ghost use Rattle.std.specs.Prelude.{◌≡◌, IfErr, IfOk, OnOk, None, Some, ◌++◌, map};
+ghost use Rattle.std.specs.Prelude.{◌≡◌, IfErr, IfOk, OnOk, None, Some, ◌++◌, false, map};
+ghost use Rattle.std.specs.List.{list_any};
 ghost use Rattle.js_doc.specs.Seen.{value_of};
 ghost use Rattle.js_upgrade.specs.Copies.{sources_with};
 ghost use Rattle.js_upgrade.specs.Documents.{all_resources, all_upgraded, source_dialect};
 ghost use Rattle.js_upgrade.specs.Documents.{source_resources, upgraded_among, upgraded_with};
 ghost use Rattle.js_upgrade.specs.Fault.{fault_with, first_fault, IsUpgradeFault, IsStoppedBy};
 ghost use Rattle.js_upgrade.specs.Seen.{copies_seen, resource_seen, source_of};
+ghost use Rattle.js_upgrade.specs.code.Clear.{AreClear, all_roots};
+ghost use Rattle.js_upgrade.specs.code.Copied.{has_some};
 ghost use Rattle.js_upgrade.specs.code.Table.{all_of};
 
-use crate::checking::fault_among;
+use crate::checking::{clear_fault, fault_among};
+use crate::clear_documents::{all_roots, are_clear};
 use crate::copies::{copies_at, copies_of, has_some, sources_with};
 use crate::dialect::Dialect;
 use crate::document::{declaring, document_dialect};
 use crate::fault::{Stop, UpgradeFault, fault_of};
 use crate::recursion::{anchored, has_recursion};
+use crate::resource::Resource;
 use crate::resource_table::{ResourceTable, table_of};
-use crate::resources::{Resource, push_document_resources};
+use crate::resources::push_document_resources;
 use crate::scope::{Scope, number_here};
 use crate::uncopied::in_original;
 use crate::walking::upgraded_in;
@@ -88,6 +93,49 @@ fn upgraded_copied(
 
 // Of documents that have these copies.
 fn upgraded_with(
+    alloc: Global,
+    copies: &[Members],
+    sources: &[SourceDocument],
+) -> Result<Vec<Doc>, Stop>
+    ensures ok { IfOk result (λ v. upgraded_with copies.now (map source_of sources.now)
+        ≡ Some (map value_of v.items)) }
+    ensures clear { OnOk result (fault_with copies.now (map source_of sources.now) ≡ None) }
+    ensures err { IfErr result (IsStoppedBy (fault_with copies.now (map source_of sources.now))) }
+{
+    if has_some(copies) {
+        return upgraded_among_all(alloc, copies, sources);
+    }
+    let roots = table_of(alloc, all_roots(alloc, sources)?)?;
+    if are_clear(alloc, &roots, sources)? {
+        clear_upgraded(alloc, copies, &roots, sources)
+    } else {
+        upgraded_among_all(alloc, copies, sources)
+    }
+}
+
+// Where they are clear, and have no copies.
+fn clear_upgraded(
+    alloc: Global,
+    copies: &[Members],
+    roots: &ResourceTable<'_>,
+    sources: &[SourceDocument],
+) -> Result<Vec<Doc>, Stop>
+    requires roots { all_of roots.now ≡ all_roots (map source_of sources.now) }
+    requires clear { AreClear (all_of roots.now) 0 (map source_of sources.now) }
+    requires uncopied { list_any has_some copies.now ≡ false }
+    ensures ok { IfOk result (λ v. upgraded_with copies.now (map source_of sources.now)
+        ≡ Some (map value_of v.items)) }
+    ensures clear { OnOk result (fault_with copies.now (map source_of sources.now) ≡ None) }
+    ensures err { IfErr result (IsStoppedBy (fault_with copies.now (map source_of sources.now))) }
+{
+    match clear_fault(alloc, roots, sources)? {
+        Some(fault) => Err(Stop::Fault(fault)),
+        None => Ok(upgraded_clear(alloc, copies, roots, sources)?),
+    }
+}
+
+// Among all their resources.
+fn upgraded_among_all(
     alloc: Global,
     copies: &[Members],
     sources: &[SourceDocument],

@@ -109,7 +109,11 @@ fn schema_fault(
     }
 }
 
-fn any_fault(
+/// What the first three passes look for in a schema itself.
+///
+/// # Errors
+/// `Memory`.
+pub(crate) fn any_fault(
     alloc: Global,
     scope: Scope<'_>,
     dialect: Dialect,

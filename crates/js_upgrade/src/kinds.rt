@@ -11,11 +11,12 @@ ghost use Rattle.js_upgrade.specs.code.Table.{all_of};
 ghost use Rattle.js_upgrade.specs.declared.fault.UpgradeFaultKind.TheVariants.{Unresolved};
 
 use crate::containing::holder;
+use crate::definitions::usual_target;
 use crate::dialect::Dialect;
 use crate::fault::UpgradeFaultKind;
 use crate::lookup::found;
+use crate::resource::Resource;
 use crate::resource_table::{ResourceTable, resource_named, resource_numbered};
-use crate::resources::Resource;
 use crate::schema::{dialect_in, hides, identifier, identifies, is_uri};
 use crate::scope::Scope;
 use crate::target::moved_in;
@@ -240,6 +241,20 @@ pub(crate) fn reference_kind(
 }
 
 fn text_kind(
+    alloc: Global,
+    scope: Scope<'_>,
+    reference: &str,
+) -> Result<Option<UpgradeFaultKind>, Memory>
+    ensures { IfOk result (λ k. k
+        ≡ target_kind (all_of scope.entry.resources.now) (uri_joined scope.entry.base.now reference.now)) }
+{
+    if usual_target(scope, reference).is_some() {
+        return Ok(None);
+    }
+    unusual_kind(alloc, scope, reference)
+}
+
+fn unusual_kind(
     alloc: Global,
     scope: Scope<'_>,
     reference: &str,

@@ -6,18 +6,29 @@ ghost use Rattle.js_doc.specs.Seen.{value_of};
 use crate::keyword::initial;
 use js_doc::{Doc, Members};
 
-/// The value under the name. A name that is below the first one isn't there: mostly one that begins with `$`.
+/// The value under the name. Names that begin with `$` are among the first, and most schemas have none or one.
 pub(crate) fn found<'d>(siblings: &'d Members, name: &str) -> Option<&'d Doc>
     ensures { option_map (λ d. value_of d.now) result ≡ get name.now siblings.now }
 {
-    match siblings.pairs().next() {
-        Some((first, _)) => {
-            if initial(name) < initial(first.as_str()) {
-                None
-            } else {
-                siblings.get(name)
-            }
-        }
-        None => None,
+    if initial(name) == b'$' {
+        found_early(siblings, name)
+    } else {
+        siblings.get(name)
     }
+}
+
+// One after the other, until a name begins with a greater byte.
+fn found_early<'d>(siblings: &'d Members, name: &str) -> Option<&'d Doc>
+    ensures { option_map (λ d. value_of d.now) result ≡ get name.now siblings.now }
+{
+    for (key, value) in siblings.pairs() {
+        let key = key.as_str();
+        if initial(name) < initial(key) {
+            return None;
+        }
+        if key == name {
+            return Some(value);
+        }
+    }
+    None
 }

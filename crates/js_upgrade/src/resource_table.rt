@@ -6,7 +6,7 @@ ghost use Rattle.js_upgrade.specs.Seen.{resource_seen};
 ghost use Rattle.js_upgrade.specs.code.First.{FindsFirstResource, has_uri};
 
 use crate::recursion::recurses;
-use crate::resources::Resource;
+use crate::resource::Resource;
 use js_doc::Memory;
 use std::alloc::Global;
 use std::collections::BTreeMap;

@@ -11,23 +11,16 @@ ghost use Rattle.js_upgrade.specs.Seen.{copies_seen, resource_seen};
 ghost use Rattle.js_upgrade.specs.Upgrade.{holding_in};
 ghost use Rattle.js_upgrade.specs.declared.holding.SchemaHolding.TheVariants.{One};
 
+use crate::definitions::is_usual_root;
 use crate::dialect::Dialect;
 use crate::holding::{SchemaHolding, holding_by_change};
 use crate::lookup::found;
+use crate::resource::Resource;
 use crate::schema::{change_beside, hides, identifier, identifies, own_dialect};
 use crate::uri::{uri_joined, uri_printed, uri_without_fragment};
 use js_doc::{Doc, Items, Members, Memory};
 use std::alloc::Global;
 use url::Url;
-
-/// A resource: its URI, the dialect of what stands around it, its root, and the copies among the root's definitions.
-#[derive(Drop)]
-pub struct Resource<'d> {
-    pub uri: String,
-    pub dialect: Dialect,
-    pub root: &'d Doc,
-    pub copies: Option<&'d Members>,
-}
 
 /// Adds the resources of a document, whose root may have copies among its definitions.
 ///
@@ -236,6 +229,7 @@ fn push_resource_with<'d>(
         dialect,
         root,
         copies,
+        usual: is_usual_root(dialect, root),
     })?;
     Ok(())
 }

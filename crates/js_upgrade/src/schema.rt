@@ -77,12 +77,12 @@ fn declared_dialect(dialect: Dialect, siblings: &Members, uri: &Doc) -> Dialect
     }
 }
 
-// Whether it is the URI that most schemas of the dialect have. Then it names the dialect.
+// Whether it is a URI that most schemas of the dialect have. Then it names the dialect.
 fn has_usual_uri(dialect: Dialect, uri: &Doc) -> bool
     ensures { result ≡ has_usual_uri dialect (value_of uri.now) }
 {
     match uri {
-        Doc::Text(text) => text.as_str() == dialect.usual_uri(),
+        Doc::Text(text) => dialect.is_usual_uri(text.as_str()),
         _ => false,
     }
 }

@@ -9,11 +9,12 @@ ghost use Rattle.js_upgrade.specs.code.Table.{all_of};
 ghost use Rattle.js_upgrade.specs.declared.holding.SchemaHolding.TheVariants.{One};
 
 use crate::copy_name::redirected;
+use crate::definitions::{usual_target, usual_text};
 use crate::holding::SchemaHolding;
 use crate::identifier::before_mark;
 use crate::moving::moved_tokens;
+use crate::resource::Resource;
 use crate::resource_table::{ResourceTable, resource_named, resource_numbered};
-use crate::resources::Resource;
 use crate::scope::Scope;
 use crate::uri::{
     fragment_pointer, local_fragment, pointer_in, uri_joined, uri_printed, uri_without_fragment,
@@ -37,6 +38,16 @@ pub(crate) fn rewritten(alloc: Global, scope: Scope<'_>, value: &Doc) -> Result<
 }
 
 fn text_rewritten(alloc: Global, scope: Scope<'_>, reference: &str) -> Result<String, Memory>
+    ensures { IfOk result (λ s. string_bytes s
+        ≡ followed (all_of scope.entry.resources.now) reference.now (uri_joined scope.entry.base.now reference.now)) }
+{
+    match usual_target(scope, reference) {
+        Some(target) => usual_text(alloc, target, reference),
+        None => unusual_rewritten(alloc, scope, reference),
+    }
+}
+
+fn unusual_rewritten(alloc: Global, scope: Scope<'_>, reference: &str) -> Result<String, Memory>
     ensures { IfOk result (λ s. string_bytes s
         ≡ followed (all_of scope.entry.resources.now) reference.now (uri_joined scope.entry.base.now reference.now)) }
 {

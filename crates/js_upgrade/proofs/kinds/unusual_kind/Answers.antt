@@ -3,7 +3,7 @@ use Rattle.js_upgrade.specs.Seen.{resource_seen}
 use Rattle.js_upgrade.specs.code.Table.{all_of}
 use Rattle.js_upgrade.specs.declared.fault.UpgradeFaultKind.TheVariants.{Unresolved}
 use Rattle.js_upgrade.proofs.LocalFragments.{local_kind}
-use Rattle.js_upgrade.proofs.kinds.text_kind.Goals as goal
+use Rattle.js_upgrade.proofs.kinds.unusual_kind.Goals as goal
 
 pub returns-in_ok-has_no_part-in-Some : goal.returns-in_ok-has_no_part-in-Some
 returns-in_ok-has_no_part-in-Some c =

@@ -5,7 +5,7 @@ use Rattle.js_upgrade.specs.Seen.{resource_seen}
 use Rattle.js_upgrade.specs.Url.{uri_joined}
 use Rattle.js_upgrade.specs.code.Table.{all_of}
 use Rattle.js_upgrade.proofs.LocalFragments.{local_followed}
-use Rattle.js_upgrade.proofs.target.text_rewritten.Goals as goal
+use Rattle.js_upgrade.proofs.target.unusual_rewritten.Goals as goal
 
 pub returns-in_ok-pointer-in-Some : goal.returns-in_ok-pointer-in-Some
 returns-in_ok-pointer-in-Some c =

@@ -1,0 +1,165 @@
+//! References to definitions of their own resource, as most are written: `#/definitions/` or `#/$defs/`, and a name.
+ghost use Rattle.std.specs.Prelude.{◌≡◌, [], IfOk, IfSome, None, false, is_some, length, nat_lt, option_map};
+ghost use Rattle.std.specs.Prelude.{string_bytes, true};
+ghost use Rattle.js_doc.specs.Members.{get};
+ghost use Rattle.js_doc.specs.Seen.{value_of};
+ghost use Rattle.js_upgrade.specs.Apart.{definitions_of};
+ghost use Rattle.js_upgrade.specs.Copies.{Copies, copied_for_text};
+ghost use Rattle.js_upgrade.specs.Fault.{target_kind};
+ghost use Rattle.js_upgrade.specs.Reference.{followed};
+ghost use Rattle.js_upgrade.specs.Seen.{copies_seen, resource_seen};
+ghost use Rattle.js_upgrade.specs.Url.{uri_joined, uri_limit};
+ghost use Rattle.js_upgrade.specs.code.Table.{all_of};
+ghost use Rattle.js_upgrade.specs.code.Usual.{IsUsualTarget, plain_name, usual_name, usual_prefix, usual_text};
+ghost use Rattle.js_upgrade.specs.code.UsualRoot.{is_object, is_usual_root};
+
+use crate::copy_name::definitions_name;
+use crate::copying::definitions;
+use crate::dialect::{Dialect, after_prefix};
+use crate::resource::Resource;
+use crate::resource_table::resource_numbered;
+use crate::schema::own_dialect;
+use crate::scope::Scope;
+use js_doc::{Doc, Members, Memory, is_plain_token};
+use std::alloc::Global;
+
+/// A longer name isn't looked at here.
+const NAME_LIMIT: usize = 60_000;
+
+/// Whether references to the definitions of a root are usual: it is of the dialect around it, and has some.
+#[tactic(auto, using(crate::proofs::Gathered::gathering_rules))]
+pub(crate) fn is_usual_root(dialect: Dialect, root: &Doc) -> bool
+    ensures { result ≡ is_usual_root dialect (value_of root.now) }
+{
+    match root {
+        Doc::Members(siblings) => {
+            own_dialect(dialect, siblings).is_same(dialect)
+                && is_object(siblings.get(definitions_name(dialect)))
+        }
+        _ => false,
+    }
+}
+
+fn is_object(found: Option<&Doc>) -> bool
+    ensures { result ≡ is_object (option_map (λ d. value_of d.now) found.entry) }
+{
+    matches!(found, Some(Doc::Members(_)))
+}
+
+fn has_copies(copies: Option<&Members>) -> bool
+    ensures { result ≡ false → copies_seen copies.entry ≡ [] }
+{
+    match copies {
+        Some(copies) => !copies.is_empty(),
+        None => false,
+    }
+}
+
+/// The name of a definition, in a reference as most are written.
+fn usual_name(dialect: Dialect, reference: &str) -> Option<&str>
+    ensures { option_map (λ n. n.now) result ≡ usual_name dialect reference.now }
+{
+    match after_prefix(usual_prefix(dialect), reference) {
+        Some(name) => plain_name(name),
+        None => None,
+    }
+}
+
+fn usual_prefix(dialect: Dialect) -> &'static str
+    ensures { result.now ≡ usual_prefix dialect }
+{
+    if dialect.is_before(Dialect::Draft2019) {
+        "#/definitions/"
+    } else {
+        "#/$defs/"
+    }
+}
+
+// A name that is written as it is in a fragment.
+fn plain_name(name: &str) -> Option<&str>
+    ensures { option_map (λ n. n.now) result ≡ plain_name name.now }
+{
+    if name.len() <= NAME_LIMIT && is_plain_token(name) {
+        Some(name)
+    } else {
+        None
+    }
+}
+
+/// Whether the reference is a usual one: then it leads to nothing that is copied.
+pub(crate) fn is_usual(scope: Scope<'_>, reference: &str) -> bool
+    ensures { result ≡ true → (copies : Copies) → copied_for_text (all_of scope.entry.resources.now)
+        scope.entry.base.now reference.now copies ≡ copies }
+{
+    match resource_numbered(scope.resources, scope.here) {
+        Some(root) => root.usual && usual_name(root.dialect, reference).is_some(),
+        None => false,
+    }
+}
+
+/// The target of a usual reference: a definition that is there.
+#[derive(Clone, Copy)]
+pub(crate) struct UsualTarget<'t> {
+    /// Whether it moves to `$defs`.
+    pub moves: bool,
+    pub name: &'t str,
+}
+
+/// Where the reference leads, if it is a usual one. None where its target has to be looked for.
+pub(crate) fn usual_target<'t>(scope: Scope<'_>, reference: &'t str) -> Option<UsualTarget<'t>>
+    ensures short { IfSome result (λ t. nat_lt uri_limit (length reference.now) ≡ false) }
+    ensures follows { IfSome result (λ t. followed (all_of scope.entry.resources.now) reference.now
+        (uri_joined scope.entry.base.now reference.now) ≡ usual_text t.moves reference.now t.name.now) }
+    ensures leads { IfSome result (λ t. target_kind (all_of scope.entry.resources.now)
+        (uri_joined scope.entry.base.now reference.now) ≡ None) }
+{
+    match resource_numbered(scope.resources, scope.here) {
+        Some(resource) => target_in(resource, reference),
+        None => None,
+    }
+}
+
+fn target_in<'t>(resource: &Resource<'_>, reference: &'t str) -> Option<UsualTarget<'t>>
+    ensures { IfSome result (IsUsualTarget (resource_seen resource.now) reference.now) }
+{
+    if !resource.usual || has_copies(resource.copies) {
+        return None;
+    }
+    let name = usual_name(resource.dialect, reference)?;
+    if !has_definition(resource.dialect, resource.root, name) {
+        return None;
+    }
+    Some(UsualTarget {
+        moves: resource.dialect.is_before(Dialect::Draft2019),
+        name,
+    })
+}
+
+fn has_definition(dialect: Dialect, root: &Doc, name: &str) -> bool
+    ensures { result ≡ is_some (get name.now (definitions_of dialect (value_of root.now))) }
+{
+    match definitions(dialect, root) {
+        Some(members) => members.get(name).is_some(),
+        None => false,
+    }
+}
+
+/// The text of a usual reference in 2020-12.
+///
+/// # Errors
+/// `Memory`.
+pub(crate) fn usual_text(
+    alloc: Global,
+    target: UsualTarget<'_>,
+    reference: &str,
+) -> Result<String, Memory>
+    ensures { IfOk result (λ s. string_bytes s ≡ usual_text target.entry.moves reference.now target.entry.name.now) }
+{
+    if !target.moves {
+        return Ok(String::from_str(alloc, reference)?);
+    }
+    let mut text = String::with_capacity(alloc, target.name.len().saturating_add(8))?;
+    text.push_str("#/$defs/")?;
+    text.push_str(target.name)?;
+    Ok(text)
+}
