@@ -3,6 +3,7 @@ pub mod Comparing
 pub mod Divisors
 pub mod Equals
 pub mod Examples
+pub mod InDigits
 pub mod InRange
 pub mod Multiples
 pub mod SchemaExamples

@@ -1,10 +1,12 @@
 -- Laws of numbers. An integer z is compared with a number d, which is digits * 10 ^ up / 10 ^ down, without division:
 -- z * 10 ^ down with digits * 10 ^ up.
 use Rattle.std.specs.Prelude.{◌≡◌, ℕ, ℤ, pos, negsuc, ◌*◌, ◌*ℤ◌, ◌^◌, ◌<◌, ◌≤ℤ◌, ◌<ℤ◌, ◌↔◌, Some}
+use Rattle.std.specs.Fmt.{signed_decimal}
 use Rattle.core.specs.Int.{◌∣◌}
 use Rattle.fast_float.specs.Text.{with_sign}
 use Rattle.js_numbers.specs.Change.{outside}
 use Rattle.js_numbers.specs.Decimal.{IsInRange, bound, numerator, whole}
+use Rattle.js_numbers.specs.Instance.{whole_number}
 use Rattle.js_numbers.specs.Limit.{Meets, exclusive_maximum, exclusive_minimum, maximum, minimum}
 use Rattle.js_numbers.specs.declared.bound.Bound.{Bound}
 use Rattle.js_numbers.specs.declared.bound.Bound.TheVariants.{Below, Whole, Above}
@@ -46,6 +48,10 @@ WholeIsEqual = (d : Decimal) (z : ℤ) → (IsInRange z × (scaled_number d ≡ 
 abbrev pub OutsideIsNoInteger : Type 0
 OutsideIsNoInteger = (d found : Decimal) (z : ℤ) → outside d ≡ Some found → IsInRange z
     → scaled_number d ≡ scaled d z → ⊥
+
+-- an integer in the range that is written in digits alone is read as that integer, so it stays
+abbrev pub DigitsAreTheInteger : Type 0
+DigitsAreTheInteger = (z : ℤ) → IsInRange z → whole_number (signed_decimal z) ≡ Some z
 
 -- ---- multiples, of sizes
 

@@ -71,7 +71,7 @@ fn put_all<A: Allocator>(writer: &mut Writer<A>, reader: &mut Reader<'_>) -> Res
 /// # Errors
 ///
 /// `NotJson`: the text isn't JSON. `Memory` may come at any point, also for such a text.
-pub fn exact_instance<A: Allocator + Copy>(text: &str, alloc: A) -> Result<Vec<u8, A>, TextError>
+pub fn exact_instance<A: Allocator + Copy>(alloc: A, text: &str) -> Result<Vec<u8, A>, TextError>
     ensures ok { IfOk result (λ exact. exact_instance text.now ≡ Some exact.items) }
     ensures utf8 { IfOk result (λ exact. IsUtf8 exact.items) }
     ensures err { IfErr result

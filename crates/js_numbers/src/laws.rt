@@ -1,7 +1,7 @@
 //! Laws of numbers. Calling one does nothing.
 ghost use Rattle.js_numbers.specs.Laws.{ExclusiveMaximumSaysTheSame, ExclusiveMinimumSaysTheSame};
 ghost use Rattle.js_numbers.specs.Laws.{MaximumSaysTheSame, MinimumSaysTheSame, MultiplesAreOfNumerator};
-ghost use Rattle.js_numbers.specs.Laws.{OutsideIsNoInteger, WholeIsEqual};
+ghost use Rattle.js_numbers.specs.Laws.{DigitsAreTheInteger, OutsideIsNoInteger, WholeIsEqual};
 
 /// Each integer in the range is at least the number exactly if it meets the limit that `minimum` returns.
 pub fn a_minimum_says_the_same()
@@ -31,6 +31,11 @@ pub fn whole_is_equal()
 /// A number that makes an item of an `enum` or a `const` impossible is no integer in the range.
 pub fn a_number_outside_is_no_integer()
     ensures { OutsideIsNoInteger }
+{}
+
+/// An integer in the range that is written in digits alone is read as that integer.
+pub fn digits_are_the_integer()
+    ensures { DigitsAreTheInteger }
 {}
 
 /// An integer in the range is a multiple of the number exactly if it is one of its numerator.

@@ -1,5 +1,6 @@
 //! Schema documents with numbers as people write them.
 ghost use Rattle.std.specs.Prelude.{◌≡◌, ◌⊎◌, Some, None, IfOk, IfErr, IsSomeAnd, option_and_then, option_map};
+ghost use Rattle.std.specs.Str.{IsUtf8};
 ghost use Rattle.json.specs.Json.{document};
 ghost use Rattle.json.specs.Tree.{HasNumbers};
 ghost use Rattle.json.specs.Value.{value_view};
@@ -25,13 +26,14 @@ use std::alloc::{AllocError, Global};
 /// also for such a text.
 pub fn exact_schema(alloc: Global, assumed: Dialect, text: &str) -> Result<Vec<u8>, TextError>
     ensures ok { IfOk result (λ exact. exact_schema assumed text.now ≡ Some exact.items) }
+    ensures utf8 { IfOk result (λ exact. IsUtf8 exact.items) }
     ensures unique { IfOk result
         (λ _. IsSomeAnd (option_and_then document (exact_instance text.now)) HasUniqueKeys) }
     ensures err { IfErr result (λ e. (e ≡ Memory) ⊎ ((e ≡ NotJson) × (exact_schema assumed text.now ≡ None))
         ⊎ ((e ≡ RepeatedName)
         × IsSomeAnd (option_and_then document (exact_instance text.now)) (λ j. ¬ HasUniqueKeys j))) }
 {
-    let bytes = exact_instance(text, alloc)?;
+    let bytes = exact_instance(alloc, text)?;
     match std::str::from_utf8(&bytes) {
         Ok(integers) => rewritten(alloc, assumed, integers),
         Err(_) => Err(TextError::NotJson),
@@ -41,6 +43,7 @@ pub fn exact_schema(alloc: Global, assumed: Dialect, text: &str) -> Result<Vec<u
 // The rewritten text of one whose integers are in digits.
 fn rewritten(alloc: Global, assumed: Dialect, text: &str) -> Result<Vec<u8>, TextError>
     ensures ok { IfOk result (λ exact. option_map (exact_root assumed) (document text.now) ≡ Some exact.items) }
+    ensures utf8 { IfOk result (λ exact. IsUtf8 exact.items) }
     ensures unique { IfOk result (λ _. IsSomeAnd (document text.now) HasUniqueKeys) }
     ensures err { IfErr result (λ e. (e ≡ Memory) ⊎ ((e ≡ NotJson) × (document text.now ≡ None))
         ⊎ ((e ≡ RepeatedName) × IsSomeAnd (document text.now) (λ j. ¬ HasUniqueKeys j))) }
@@ -52,7 +55,8 @@ fn rewritten(alloc: Global, assumed: Dialect, text: &str) -> Result<Vec<u8>, Tex
 
 fn root_text(alloc: Global, assumed: Dialect, root: &Value<'_>) -> Result<Vec<u8>, AllocError>
     requires { HasNumbers (value_view root.now) }
-    ensures { IfOk result (λ exact. exact_root assumed (value_view root.now) ≡ exact.items) }
+    ensures same { IfOk result (λ exact. exact_root assumed (value_view root.now) ≡ exact.items) }
+    ensures utf8 { IfOk result (λ exact. IsUtf8 exact.items) }
 {
     let mut writer = Writer::new(Vec::new(alloc));
     put(
