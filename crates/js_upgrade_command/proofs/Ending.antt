@@ -119,6 +119,7 @@ misused_ends (Err f) misuse.Memory status e = inr e
 misused_ends (Err f) misuse.OtherForm status e = inl e
 misused_ends (Err f) misuse.OddPairs status e = inl e
 misused_ends (Err f) misuse.NoDialect status e = inl e
+misused_ends (Err f) misuse.NoNumbers status e = inl e
 misused_ends (Err f) misuse.NoFolder status e = inl e
 misused_ends (Err f) misuse.OneName status e = inl e
 
@@ -128,6 +129,7 @@ misuse_named misuse.Memory status e = inr (inr (inr e))
 misuse_named misuse.OtherForm status e = inr (inl e)
 misuse_named misuse.OddPairs status e = inr (inl e)
 misuse_named misuse.NoDialect status e = inr (inl e)
+misuse_named misuse.NoNumbers status e = inr (inl e)
 misuse_named misuse.NoFolder status e = inr (inl e)
 misuse_named misuse.OneName status e = inr (inl e)
 
@@ -139,6 +141,7 @@ misuse_asked asked misuse.Memory status e h two = let wrong : 4 â‰¡ 2 = sym e âˆ
 misuse_asked asked misuse.OtherForm status e h two = h
 misuse_asked asked misuse.OddPairs status e h two = h
 misuse_asked asked misuse.NoDialect status e h two = h
+misuse_asked asked misuse.NoNumbers status e h two = h
 misuse_asked asked misuse.NoFolder status e h two = h
 misuse_asked asked misuse.OneName status e h two = h
 
@@ -147,6 +150,7 @@ misuse_above misuse.Memory status e h = e
 misuse_above misuse.OtherForm status e h = absurd (omega (arith, e, h))
 misuse_above misuse.OddPairs status e h = absurd (omega (arith, e, h))
 misuse_above misuse.NoDialect status e h = absurd (omega (arith, e, h))
+misuse_above misuse.NoNumbers status e h = absurd (omega (arith, e, h))
 misuse_above misuse.NoFolder status e h = absurd (omega (arith, e, h))
 misuse_above misuse.OneName status e h = absurd (omega (arith, e, h))
 
@@ -155,6 +159,7 @@ misuse_nonzero misuse.Memory status e z = absurd (omega (arith, e, z))
 misuse_nonzero misuse.OtherForm status e z = absurd (omega (arith, e, z))
 misuse_nonzero misuse.OddPairs status e z = absurd (omega (arith, e, z))
 misuse_nonzero misuse.NoDialect status e z = absurd (omega (arith, e, z))
+misuse_nonzero misuse.NoNumbers status e z = absurd (omega (arith, e, z))
 misuse_nonzero misuse.NoFolder status e z = absurd (omega (arith, e, z))
 misuse_nonzero misuse.OneName status e z = absurd (omega (arith, e, z))
 
