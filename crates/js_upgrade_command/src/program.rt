@@ -38,9 +38,9 @@ pub const DONE: u8 = 0;
 ///
 /// The words are `[--default-dialect DIALECT] [--numbers RANGE] [--into FOLDER] URI FILE [URI FILE]...`. Options may
 /// stand anywhere before `--`. RANGE is `exact`, where integers take the place of numbers that say the same, or
-/// `whole`. The files are taken in the order given, and all documents are upgraded before one is written: as its compact text
-/// and a line feed, to `out`, which is flushed then; or with `--into` to the path that `folder` has under FOLDER for
-/// the file's name. `faults` gets a usage text, or the line of a fault and a line feed (nothing if
+/// `whole`. The files are taken in the order given, and all documents are upgraded before one is written: as its
+/// compact text and a line feed, to `out`, which is flushed then; or with `--into` to the path that `folder` has
+/// under FOLDER for the file's name. `faults` gets a usage text, or the line of a fault and a line feed (nothing if
 /// memory for the line runs out); its own failure changes no status.
 pub fn upgrade_command<'a, F: Files, P: Folder, W: Write, V: Write>(
     alloc: Global,
