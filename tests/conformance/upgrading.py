@@ -12,11 +12,11 @@ SCHEMA = "https://suite.example/0"
 
 
 class Upgrade(Program):
-    """A built jschema-upgrade, for documents that are of one dialect where they name none."""
+    """A built jschema-upgrade, for documents that are of one dialect where they name none, as the options say."""
 
-    def __init__(self, path, folder, dialect, seconds):
-        super().__init__(path, folder, seconds)
-        self.dialect = dialect
+    def __init__(self, given, folder, dialect):
+        super().__init__(given.upgrade, folder, given.seconds)
+        self.options = ["--default-dialect", dialect, "--numbers", given.numbers]
         os.makedirs(folder)
 
     def upgraded(self, schema, documents):
@@ -29,7 +29,7 @@ class Upgrade(Program):
             shutil.copy(path, copy)
         pairs = dict(zip([*documents, SCHEMA], files))
         into = os.path.join(folder, "new")
-        done = self.run("--default-dialect", self.dialect, "--into", into, *words_of(pairs))
+        done = self.run(*self.options, "--into", into, *words_of(pairs))
         if done.returncode:
             return refusal(done.stderr.partition(": ")[2], documents)
         made = [os.path.join(into, os.path.basename(it)) for it in files]

@@ -14,9 +14,9 @@ pub then_more : (old mid new : List Token) (first second : List Token) → mid �
 then_more old mid new first second e f = f ∙ ap (λ l. l ++ second) e ∙ append_assoc old first second
 
 -- what is written and what the rest writes make the whole
-pub walk_more : (now next rest mine later whole : List Token) → next ≡ now ++ mine → rest ≡ mine ++ later
-    → now ++ rest ≡ whole → next ++ later ≡ whole
-walk_more now next rest mine later whole e f h =
+pub walk_more : (now next rest mine later integer_value : List Token) → next ≡ now ++ mine → rest ≡ mine ++ later
+    → now ++ rest ≡ integer_value → next ++ later ≡ integer_value
+walk_more now next rest mine later integer_value e f h =
     ap (λ l. l ++ later) e ∙ append_assoc now mine later ∙ ap (λ l. now ++ l) (sym f) ∙ h
 
 pub members_then : (front : List (Text × Json)) (ms : Members)

@@ -2,17 +2,17 @@
 use Rattle.std.proofs.Common.{◌≡◌, ℤ, Bool, true, false, Option, Some, None, arith}
 use Rattle.std.specs.Prelude.{◌&&◌, is_none, if◌then◌else◌}
 use Rattle.std.proofs.lemmas.Int.{ints}
-use Rattle.js_numbers.specs.Decimal.{is_short, is_whole, size_down, whole}
+use Rattle.js_numbers.specs.Decimal.{is_short, is_whole, size_down, integer_value}
 use Rattle.js_numbers.specs.Laws.{OutsideIsNoInteger, WholeIsEqual}
 use Rattle.js_numbers.specs.declared.decimal.Decimal.{Decimal}
-use Rattle.js_numbers.proofs.Comparing.{maximum, minimum}
+use Rattle.js_numbers.proofs.Comparing.{maximum_limit, minimum_limit}
 use Rattle.js_numbers.proofs.Sizes.{is_between}
 use Rattle.js_numbers.proofs.Wholes.{whole_from, whole_gives}
 
 pub whole_is_equal : WholeIsEqual
 whole_is_equal d z =
-    let least = minimum _ _ _ _ (is_between d) d.is_negative z in
-    let greatest = maximum _ _ _ _ (is_between d) d.is_negative z in
+    let least = minimum_limit _ _ _ _ (is_between d) d.is_negative z in
+    let greatest = maximum_limit _ _ _ _ (is_between d) d.is_negative z in
     let exact = is_whole d in
     let size = size_down d in (
       λ h.
@@ -34,4 +34,4 @@ none_outside false o d e z h found = cc
 
 pub outside_is_no_integer : OutsideIsNoInteger
 outside_is_no_integer d e z found r same =
-    none_outside (is_short d) (whole d) d e z ((whole_is_equal d z).0 (r, same)) found
+    none_outside (is_short d) (integer_value d) d e z ((whole_is_equal d z).0 (r, same)) found

@@ -4,7 +4,7 @@ use Rattle.std.specs.Prelude.{codes}
 use Rattle.core.specs.Fmt.{digits}
 use Rattle.fast_float.proofs.OnLiterals.{fast_float_on_literals}
 use Rattle.js_numbers.specs.Decimal.{bound, ceiling, decimal, floor, short_numerator}
-use Rattle.js_numbers.specs.Instance.{exact_instance, exact_number, whole_number}
+use Rattle.js_numbers.specs.Instance.{exact_instance, exact_number, integer_written}
 use Rattle.js_numbers.specs.declared.bound.Bound.TheVariants.{Below, Whole, Above}
 use Rattle.json.proofs.OnLiterals.{json_on_literals}
 
@@ -30,15 +30,15 @@ a_half_stays : exact_number (codes "0.5") ≡ codes "0.5"
 unfolding fast_float_on_literals digits
 a_half_stays = refl
 
-greatest : whole_number (codes "18446744073709551615.0") ≡ Some (pos (2 ^ 64 - 1))
+greatest : integer_written (codes "18446744073709551615.0") ≡ Some (pos (2 ^ 64 - 1))
 unfolding fast_float_on_literals
 greatest = refl
 
-too_large : whole_number (codes "18446744073709551616") ≡ None
+too_large : integer_written (codes "18446744073709551616") ≡ None
 unfolding fast_float_on_literals
 too_large = refl
 
-least : whole_number (codes "-9223372036854775808e0") ≡ Some (negsuc (2 ^ 63 - 1))
+least : integer_written (codes "-9223372036854775808e0") ≡ Some (negsuc (2 ^ 63 - 1))
 unfolding fast_float_on_literals
 least = refl
 

@@ -10,7 +10,7 @@ use Rattle.std.proofs.lemmas.Fmt.{decimal_is_IsNumeral}
 use Rattle.std.proofs.lemmas.Str.Parse.{digit_from_value}
 use Rattle.fast_float.specs.Text.{IsWellFormed, Parts, digits_of, scan, tens_down, tens_up}
 use Rattle.fast_float.proofs.Writing.{scan-text_of}
-use Rattle.js_numbers.specs.Decimal.{decimal, is_negative, is_short, parts, whole}
+use Rattle.js_numbers.specs.Decimal.{decimal, is_negative, is_short, parts, integer_value}
 use Rattle.js_numbers.specs.Laws.{DigitsAreTheInteger}
 use Rattle.js_numbers.specs.declared.decimal.Decimal.{Decimal}
 use Rattle.js_numbers.proofs.Equals.{whole_is_equal}
@@ -63,8 +63,8 @@ decimal_plain ds n h e =
 decimal_below : (ds : List ℕ) (n : ℕ) → IsNumeral 10 ds → digits_value 10 ds ≡ n → decimal (45 ∷ ds) ≡ integer true n
 decimal_below ds n h e = ap (made true) (scan_plain ds h.1) ∙ made_plain true ds n e
 
-whole_if_short : (d : Decimal) (z : ℤ) → is_short d ≡ true → whole d ≡ Some z
-    → (if is_short d then whole d else None) ≡ Some z
+whole_if_short : (d : Decimal) (z : ℤ) → is_short d ≡ true → integer_value d ≡ Some z
+    → (if is_short d then integer_value d else None) ≡ Some z
 whole_if_short d z short found = rw short found
 
 pub digits_are_the_integer : DigitsAreTheInteger
@@ -72,13 +72,13 @@ digits_are_the_integer (pos n) r =
     let numeral = decimal_is_IsNumeral n r in
     let d = integer false n in
     let short : is_short d ≡ true = grind (arith, nat_tests) in
-    subst (λ (k : Decimal). (if is_short k then whole k else None) ≡ Some (pos n))
+    subst (λ (k : Decimal). (if is_short k then integer_value k else None) ≡ Some (pos n))
     (sym (decimal_plain (in_digits n) n numeral.0 numeral.1))
     (whole_if_short d (pos n) short ((whole_is_equal d (pos n)).0 (r, refl)))
 digits_are_the_integer (negsuc n) r =
     let numeral = decimal_is_IsNumeral (suc n) (omega arith) in
     let d = integer true (suc n) in
     let short : is_short d ≡ true = grind (arith, nat_tests) in
-    subst (λ (k : Decimal). (if is_short k then whole k else None) ≡ Some (negsuc n))
+    subst (λ (k : Decimal). (if is_short k then integer_value k else None) ≡ Some (negsuc n))
     (sym (decimal_below (in_digits (suc n)) (suc n) numeral.0 numeral.1))
     (whole_if_short d (negsuc n) short ((whole_is_equal d (negsuc n)).0 (r, refl)))

@@ -37,9 +37,9 @@ small_minimum : (n : ℕ) (z : ℤ) (t : Bool) → nat_lt n (2 ^ 63) ≡ t → I
 small_minimum n z true e r = (λ p. p, λ p. p)
 small_minimum n z false e r = let l = small n z e r in (λ p. at_least z r, λ p. omega (arith, ints))
 
-pub minimum : (c z : ℤ) → IsInRange z → (c ≤ℤ z) ↔ Meets (from_below (bound c)) z
-minimum (pos n) z r = large_minimum n z (nat_lt n (2 ^ 64)) refl r
-minimum (negsuc n) z r = small_minimum n z (nat_lt n (2 ^ 63)) refl r
+pub minimum_limit : (c z : ℤ) → IsInRange z → (c ≤ℤ z) ↔ Meets (from_below (bound c)) z
+minimum_limit (pos n) z r = large_minimum n z (nat_lt n (2 ^ 64)) refl r
+minimum_limit (negsuc n) z r = small_minimum n z (nat_lt n (2 ^ 63)) refl r
 
 large_maximum : (n : ℕ) (z : ℤ) (t : Bool) → nat_lt n (2 ^ 64) ≡ t → IsInRange z
     → (z ≤ℤ pos n) ↔ Meets (from_above (if t then Whole (pos n) else Above)) z
@@ -54,9 +54,9 @@ small_maximum n z false e r =
     let most = at_least z r in
     (λ p. omega (arith, ints), λ p. omega (arith, ints))
 
-pub maximum : (c z : ℤ) → IsInRange z → (z ≤ℤ c) ↔ Meets (from_above (bound c)) z
-maximum (pos n) z r = large_maximum n z (nat_lt n (2 ^ 64)) refl r
-maximum (negsuc n) z r = small_maximum n z (nat_lt n (2 ^ 63)) refl r
+pub maximum_limit : (c z : ℤ) → IsInRange z → (z ≤ℤ c) ↔ Meets (from_above (bound c)) z
+maximum_limit (pos n) z r = large_maximum n z (nat_lt n (2 ^ 64)) refl r
+maximum_limit (negsuc n) z r = small_maximum n z (nat_lt n (2 ^ 63)) refl r
 
 large_exclusive_minimum : (n : ℕ) (z : ℤ) (t : Bool) → nat_lt n (2 ^ 64) ≡ t → IsInRange z
     → (pos n <ℤ z) ↔ Meets (beyond_below (if t then Whole (pos n) else Above)) z
@@ -71,9 +71,9 @@ small_exclusive_minimum : (n : ℕ) (z : ℤ) (t : Bool) → nat_lt n (2 ^ 63) �
 small_exclusive_minimum n z true e r = (λ p. p, λ p. p)
 small_exclusive_minimum n z false e r = (λ p. tt, λ p. small n z e r)
 
-pub exclusive_minimum : (c z : ℤ) → IsInRange z → (c <ℤ z) ↔ Meets (beyond_below (bound c)) z
-exclusive_minimum (pos n) z r = large_exclusive_minimum n z (nat_lt n (2 ^ 64)) refl r
-exclusive_minimum (negsuc n) z r = small_exclusive_minimum n z (nat_lt n (2 ^ 63)) refl r
+pub exclusive_minimum_limit : (c z : ℤ) → IsInRange z → (c <ℤ z) ↔ Meets (beyond_below (bound c)) z
+exclusive_minimum_limit (pos n) z r = large_exclusive_minimum n z (nat_lt n (2 ^ 64)) refl r
+exclusive_minimum_limit (negsuc n) z r = small_exclusive_minimum n z (nat_lt n (2 ^ 63)) refl r
 
 large_exclusive_maximum : (n : ℕ) (z : ℤ) (t : Bool) → nat_lt n (2 ^ 64) ≡ t → IsInRange z
     → (z <ℤ pos n) ↔ Meets (beyond_above (if t then Whole (pos n) else Above)) z
@@ -88,6 +88,6 @@ small_exclusive_maximum n z false e r =
     let most = at_least z r in
     (λ p. omega (arith, ints), λ p. omega (arith, ints))
 
-pub exclusive_maximum : (c z : ℤ) → IsInRange z → (z <ℤ c) ↔ Meets (beyond_above (bound c)) z
-exclusive_maximum (pos n) z r = large_exclusive_maximum n z (nat_lt n (2 ^ 64)) refl r
-exclusive_maximum (negsuc n) z r = small_exclusive_maximum n z (nat_lt n (2 ^ 63)) refl r
+pub exclusive_maximum_limit : (c z : ℤ) → IsInRange z → (z <ℤ c) ↔ Meets (beyond_above (bound c)) z
+exclusive_maximum_limit (pos n) z r = large_exclusive_maximum n z (nat_lt n (2 ^ 64)) refl r
+exclusive_maximum_limit (negsuc n) z r = small_exclusive_maximum n z (nat_lt n (2 ^ 63)) refl r

@@ -5,7 +5,7 @@ use Rattle.std.specs.Prelude.{if◌then◌else◌, nat_lt}
 use Rattle.std.proofs.lemmas.Bool.Decides.{nat_tests}
 use Rattle.core.specs.Int.{◌∣◌}
 use native.Mathlib.Nat.{dvd-zero, eq_of_mul-eq-mul_right, le_of_dvd, mul_assoc}
-use Rattle.js_numbers.specs.Decimal.{above, below, bound, gcd, numerator}
+use Rattle.js_numbers.specs.Decimal.{above, denominator, bound, gcd, numerator}
 use Rattle.js_numbers.specs.Laws.{IsMultiple, IsMultipleOf}
 use Rattle.js_numbers.specs.declared.bound.Bound.TheVariants.{Whole, Above}
 use Rattle.js_numbers.specs.declared.decimal.Decimal.{Decimal}
@@ -20,12 +20,12 @@ times_is d times = ap (λ k. times * k) (number_is d) ∙ sym (mul_assoc times (
 pub of_numerator : (d : Decimal) (n : ℕ) → IsMultiple d n ↔ (numerator d ∣ n)
 of_numerator d n = (
   λ h.
-      let e : n * below d * common d ≡ h.0 * above d * common d = sym (scaled_is d n) ∙ h.1 ∙ times_is d h.0 in
-      multiple_gives (above d) (below d) n h.0 (below_pos d)
-      (eq_of_mul-eq-mul_right (common d) (tens_pos (min d.up d.down)) (n * below d) (h.0 * above d) e),
+      let e : n * denominator d * common d ≡ h.0 * above d * common d = sym (scaled_is d n) ∙ h.1 ∙ times_is d h.0 in
+      multiple_gives (above d) (denominator d) n h.0 (below_pos d)
+      (eq_of_mul-eq-mul_right (common d) (tens_pos (min d.up d.down)) (n * denominator d) (h.0 * above d) e),
   λ h.
-      let times = n / numerator d * (below d / gcd (above d) (below d)) in
-      (times, scaled_is d n ∙ ap (λ k. k * common d) (multiple_from (above d) (below d) n h) ∙ sym (times_is d times)),
+      let times = n / numerator d * (denominator d / gcd (above d) (denominator d)) in
+      (times, scaled_is d n ∙ ap (λ k. k * common d) (multiple_from (above d) (denominator d) n h) ∙ sym (times_is d times)),
 )
 
 large : (m n : ℕ) → nat_lt m (2 ^ 64) ≡ false → n < 2 ^ 64 → m ∣ n → n ≡ 0

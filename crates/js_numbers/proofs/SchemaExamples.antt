@@ -61,10 +61,10 @@ unfolding on_literals
 old_far_bounds = refl
 
 -- the root may name its dialect
-declared : now (codes "{\"$schema\":\"http://json-schema.org/draft-04/schema#\",\"maximum\":0.5}")
+declared_dialect : now (codes "{\"$schema\":\"http://json-schema.org/draft-04/schema#\",\"maximum\":0.5}")
     ≡ Some (codes "{\"$schema\":\"http://json-schema.org/draft-04/schema#\",\"maximum\":0}")
 unfolding on_literals
-declared = refl
+declared_dialect = refl
 
 -- 2.5 is 5 / 2
 divisor : now (codes "{\"items\":{\"multipleOf\":2.5}}") ≡ Some (codes "{\"items\":{\"multipleOf\":5}}")

@@ -5,7 +5,7 @@ use Rattle.std.proofs.lemmas.Bool.Decides.{nat_tests}
 use Rattle.std.proofs.lemmas.Nat.{pow-add}
 use native.Mathlib.Nat.{mul_assoc, mul-le-mul_right, le_of_mul-le-mul_right, le-div_iff_mul-le, div-lt_iff_lt-mul}
 use native.Mathlib.Nat.{div-add-mod', mul-mod_left}
-use Rattle.js_numbers.specs.Decimal.{above, below, is_whole, size_down, size_up}
+use Rattle.js_numbers.specs.Decimal.{above, denominator, is_whole, size_down, size_up}
 use Rattle.js_numbers.specs.declared.decimal.Decimal.{Decimal}
 use Rattle.js_numbers.proofs.Comparing.{IsBetween}
 use Rattle.js_numbers.proofs.Tens.{tens_pos}
@@ -21,13 +21,13 @@ number_is d =
     ap (λ n. d.digits * 10 ^ n) e ∙ ap (λ n. d.digits * n) (pow-add 10 (d.up - d.down) (min d.up d.down))
     ∙ sym (mul_assoc d.digits (10 ^ (d.up - d.down)) (common d))
 
-pub scale_is : (d : Decimal) → 10 ^ d.down ≡ below d * common d
+pub scale_is : (d : Decimal) → 10 ^ d.down ≡ denominator d * common d
 scale_is d =
     let e : d.down ≡ (d.down - d.up) + min d.up d.down = omega arith in
     ap (λ n. 10 ^ n) e ∙ pow-add 10 (d.down - d.up) (min d.up d.down)
 
-pub scaled_is : (d : Decimal) (n : ℕ) → n * 10 ^ d.down ≡ n * below d * common d
-scaled_is d n = ap (λ k. n * k) (scale_is d) ∙ sym (mul_assoc n (below d) (common d))
+pub scaled_is : (d : Decimal) (n : ℕ) → n * 10 ^ d.down ≡ n * denominator d * common d
+scaled_is d n = ap (λ k. n * k) (scale_is d) ∙ sym (mul_assoc n (denominator d) (common d))
 
 -- ---- rounding of a fraction
 
@@ -40,9 +40,9 @@ rounded_up exact n = cond exact n (suc n)
 above_fraction : (a b n : ℕ) (exact : Bool) → (a % b == 0) ≡ exact → 0 < b
     → (a ≤ n * b) ↔ (rounded_up exact (a / b) ≤ n)
 above_fraction a b n true e some =
-    let whole : a / b * b ≡ a = omega (arith, div-add-mod' a b, eqb-true _ _ e) in (
-      λ h. le_of_mul-le-mul_right {m = a / b} {n = n} {k = b} (omega (arith, whole)) some,
-      λ h. omega (arith, whole, mul-le-mul_right {m = a / b} {n = n} b h),
+    let integer_value : a / b * b ≡ a = omega (arith, div-add-mod' a b, eqb-true _ _ e) in (
+      λ h. le_of_mul-le-mul_right {m = a / b} {n = n} {k = b} (omega (arith, integer_value)) some,
+      λ h. omega (arith, integer_value, mul-le-mul_right {m = a / b} {n = n} b h),
     )
 above_fraction a b n false e some =
     let rest : 0 < a % b = grind (arith, nat_tests) in
@@ -50,7 +50,7 @@ above_fraction a b n false e some =
     let step = div-lt_iff_lt-mul {k = b} {x = a} {y = n} some in
     (λ h. step.1 (omega (arith, other)), λ h. omega (arith, step.0 h))
 
-pub below_pos : (d : Decimal) → 0 < below d
+pub below_pos : (d : Decimal) → 0 < denominator d
 below_pos d = tens_pos (d.down - d.up)
 
 -- ---- rounding of a number
@@ -58,22 +58,22 @@ below_pos d = tens_pos (d.down - d.up)
 pub number_above : (d : Decimal) (n : ℕ) → (n * 10 ^ d.down ≤ d.digits * 10 ^ d.up) ↔ (n ≤ size_down d)
 number_above d n =
     let some = tens_pos (min d.up d.down) in
-    let e = below_fraction (above d) (below d) n (below_pos d) in
+    let e = below_fraction (above d) (denominator d) n (below_pos d) in
     let same = scaled_is d n in
     let number = number_is d in
     let less = λ (h : n * 10 ^ d.down ≤ d.digits * 10 ^ d.up).
-    le_of_mul-le-mul_right {m = n * below d} {n = above d} {k = common d} (omega arith) some in
-    (λ h. e.0 (less h), λ h. omega (arith, mul-le-mul_right {m = n * below d} {n = above d} (common d) (e.1 h)))
+    le_of_mul-le-mul_right {m = n * denominator d} {n = above d} {k = common d} (omega arith) some in
+    (λ h. e.0 (less h), λ h. omega (arith, mul-le-mul_right {m = n * denominator d} {n = above d} (common d) (e.1 h)))
 
 pub number_below : (d : Decimal) (n : ℕ) → (d.digits * 10 ^ d.up ≤ n * 10 ^ d.down) ↔ (size_up d ≤ n)
 number_below d n =
     let some = tens_pos (min d.up d.down) in
-    let e = above_fraction (above d) (below d) n (is_whole d) refl (below_pos d) in
+    let e = above_fraction (above d) (denominator d) n (is_whole d) refl (below_pos d) in
     let same = scaled_is d n in
     let number = number_is d in
     let less = λ (h : d.digits * 10 ^ d.up ≤ n * 10 ^ d.down).
-    le_of_mul-le-mul_right {m = above d} {n = n * below d} {k = common d} (omega arith) some in
-    (λ h. e.0 (less h), λ h. omega (arith, mul-le-mul_right {m = above d} {n = n * below d} (common d) (e.1 h)))
+    le_of_mul-le-mul_right {m = above d} {n = n * denominator d} {k = common d} (omega arith) some in
+    (λ h. e.0 (less h), λ h. omega (arith, mul-le-mul_right {m = above d} {n = n * denominator d} (common d) (e.1 h)))
 
 pub is_between : (d : Decimal) → IsBetween (d.digits * 10 ^ d.up) (10 ^ d.down) (size_down d) (size_up d)
 is_between d = record { some = tens_pos d.down; lower = number_above d; upper = number_below d }

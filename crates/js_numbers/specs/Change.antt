@@ -7,8 +7,8 @@ use Rattle.json.specs.Json.{Json, boolean, number, array, object, Items, no_item
 use Rattle.json.specs.Json.{member}
 use Rattle.js_doc.specs.Value.{Text}
 use Rattle.js_upgrade.specs.declared.dialect.Dialect.{Dialect}
-use Rattle.js_numbers.specs.Decimal.{IsInRange, decimal, is_short, is_whole, short_numerator, whole}
-use Rattle.js_numbers.specs.Limit.{IsLimitInRange, exclusive_maximum, exclusive_minimum, greatest, maximum, minimum}
+use Rattle.js_numbers.specs.Decimal.{IsInRange, decimal, is_short, is_whole, short_numerator, integer_value}
+use Rattle.js_numbers.specs.Limit.{IsLimitInRange, exclusive_maximum_limit, exclusive_minimum_limit, greatest, maximum_limit, minimum_limit}
 use Rattle.js_numbers.specs.NumberKeyword.{number_keyword}
 use Rattle.js_numbers.specs.declared.bound.Bound.{Bound}
 use Rattle.js_numbers.specs.declared.bound.Bound.TheVariants.{Whole}
@@ -36,7 +36,7 @@ IsChangeInRange _ = ⊤
 
 -- a number that is no integer in the range, unless it is long
 abbrev pub outside : Decimal → Option Decimal
-outside d = if is_short d && is_none (whole d) then Some d else None
+outside d = if is_short d && is_none (integer_value d) then Some d else None
 
 abbrev pub fraction : Json → Option Decimal
 fraction (number s) = outside (decimal s)
@@ -73,10 +73,10 @@ possible j = j
 -- ---- by the keyword
 
 abbrev pub limit_by : (is_least is_exclusive : Bool) → Decimal → Limit
-limit_by true false = minimum
-limit_by true true = exclusive_minimum
-limit_by false false = maximum
-limit_by false true = exclusive_maximum
+limit_by true false = minimum_limit
+limit_by true true = exclusive_minimum_limit
+limit_by false false = maximum_limit
+limit_by false true = exclusive_maximum_limit
 
 abbrev pub limit_at : (is_least is_exclusive : Bool) → Json → Option Limit
 limit_at is_least is_exclusive v = option_map (limit_by is_least is_exclusive) (fraction v)
@@ -99,17 +99,17 @@ is_excluding _ = false
 abbrev pub is_replaced : (is_least : Bool) → Option Json → Bool
 is_replaced is_least found = is_excluding (option_and_then (limit_at is_least false) found)
 
-abbrev pub is_true : Option Json → Bool
-is_true (Some (boolean b)) = b
-is_true _ = false
+abbrev pub is_boolean_true : Option Json → Bool
+is_boolean_true (Some (boolean b)) = b
+is_boolean_true _ = false
 
 abbrev pub goes_or : Bool → NumberChange → NumberChange
 goes_or is_gone change = if is_gone then Goes else change
 
 -- a count beyond the range: nothing is as long
-abbrev pub counted : Option Decimal → NumberChange
-counted None = Stays
-counted (Some d) = if is_whole d && not d.is_negative then Integer greatest else Stays
+abbrev pub limited_count : Option Decimal → NumberChange
+limited_count None = Stays
+limited_count (Some d) = if is_whole d && not d.is_negative then Integer greatest else Stays
 
 abbrev pub divided : Option Bound → NumberChange
 divided (Some (Whole z)) = Integer z
@@ -134,13 +134,13 @@ change_by ExclusiveMinimum d schema v =
     goes_or (is_replaced true (get (codes "minimum") schema)) (limited (limit_at true true v))
 change_by ExclusiveMaximum d schema v =
     goes_or (is_replaced false (get (codes "maximum") schema)) (limited (limit_at false true v))
-change_by OldMinimum d schema v = old_limited (limit_at true (is_true (get (codes "exclusiveMinimum") schema)) v)
-change_by OldMaximum d schema v = old_limited (limit_at false (is_true (get (codes "exclusiveMaximum") schema)) v)
+change_by OldMinimum d schema v = old_limited (limit_at true (is_boolean_true (get (codes "exclusiveMinimum") schema)) v)
+change_by OldMaximum d schema v = old_limited (limit_at false (is_boolean_true (get (codes "exclusiveMaximum") schema)) v)
 change_by OldExclusiveMinimum d schema v =
     goes_or (is_some (option_and_then fraction (get (codes "minimum") schema))) Stays
 change_by OldExclusiveMaximum d schema v =
     goes_or (is_some (option_and_then fraction (get (codes "maximum") schema))) Stays
-change_by Count d schema v = counted (fraction v)
+change_by Count d schema v = limited_count (fraction v)
 change_by Divisor d schema v = divided (option_and_then positive_numerator (fraction v))
 change_by Enumeration d schema v = goes_or (has_no_constant d schema) Possible
 change_by Constant d schema v = if is_impossible v then Impossible else Stays
@@ -171,11 +171,11 @@ old_limit_members (limit.ExclusiveMinimum z) =
 old_limit_members (limit.ExclusiveMaximum z) =
     (codes "maximum", integer z) ∷ (codes "exclusiveMaximum", boolean true) ∷ []
 
-abbrev pub becomes : NumberChange → Text → Json → Json → List (Text × Json)
-becomes Stays name v new = (name, new) ∷ []
-becomes Goes name v new = []
-becomes (Limited l) name v new = limit_members l
-becomes (OldLimited l) name v new = old_limit_members l
-becomes (Integer z) name v new = (name, integer z) ∷ []
-becomes Possible name v new = (name, possible v) ∷ []
-becomes Impossible name v new = (codes "enum", array no_items) ∷ []
+abbrev pub members_made : NumberChange → Text → Json → Json → List (Text × Json)
+members_made Stays name v new = (name, new) ∷ []
+members_made Goes name v new = []
+members_made (Limited l) name v new = limit_members l
+members_made (OldLimited l) name v new = old_limit_members l
+members_made (Integer z) name v new = (name, integer z) ∷ []
+members_made Possible name v new = (name, possible v) ∷ []
+members_made Impossible name v new = (codes "enum", array no_items) ∷ []

@@ -34,14 +34,14 @@ is_short d = nat_lt d.digits (10 ^ 37) && (nat_lt d.up (2 ^ 64) && nat_lt d.down
 abbrev pub above : Decimal → ℕ
 above d = d.digits * 10 ^ (d.up - d.down)
 
-abbrev pub below : Decimal → ℕ
-below d = 10 ^ (d.down - d.up)
+abbrev pub denominator : Decimal → ℕ
+denominator d = 10 ^ (d.down - d.up)
 
 abbrev pub is_whole : Decimal → Bool
-is_whole d = above d % below d == 0
+is_whole d = above d % denominator d == 0
 
 abbrev pub size_down : Decimal → ℕ
-size_down d = above d / below d
+size_down d = above d / denominator d
 
 abbrev pub size_up : Decimal → ℕ
 size_up d = if is_whole d then size_down d else suc (size_down d)
@@ -76,8 +76,8 @@ in_range (Whole z) = Some z
 in_range Above = None
 
 -- the integer from -2^63 to 2^64 - 1 that it is
-abbrev pub whole : Decimal → Option ℤ
-whole d = if is_whole d then in_range (bound (floor d)) else None
+abbrev pub integer_value : Decimal → Option ℤ
+integer_value d = if is_whole d then in_range (bound (floor d)) else None
 
 -- ---- its multiples
 
@@ -92,7 +92,7 @@ gcd a b = gcd_within b a b
 
 -- of the fraction in lowest terms
 abbrev pub numerator : Decimal → ℕ
-numerator d = above d / gcd (above d) (below d)
+numerator d = above d / gcd (above d) (denominator d)
 
 -- A number of more than 38 places behind the point is left alone.
 abbrev pub short_numerator : Decimal → Option Bound

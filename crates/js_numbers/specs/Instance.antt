@@ -6,11 +6,11 @@ use Rattle.json.specs.Lex.{tokens}
 use Rattle.json.specs.Print.{print}
 use Rattle.json.specs.Token.{Token, begin_object, end_object, begin_array, end_array, key, string, number, boolean}
 use Rattle.json.specs.Token.{null, bad}
-use Rattle.js_numbers.specs.Decimal.{decimal, is_short, whole}
+use Rattle.js_numbers.specs.Decimal.{decimal, is_short, integer_value}
 
 -- the integer in the range that a number's text is
-abbrev pub whole_number : List ℕ → Option ℤ
-whole_number text = if is_short (decimal text) then whole (decimal text) else None
+abbrev pub integer_written : List ℕ → Option ℤ
+integer_written text = if is_short (decimal text) then integer_value (decimal text) else None
 
 abbrev pub text_or : List ℕ → Option ℤ → List ℕ
 text_or text None = text
@@ -18,7 +18,7 @@ text_or text (Some z) = signed_decimal z
 
 -- `1.0`, `1e2` and `-0` become `1`, `100` and `0`, and `0.5` stays
 abbrev pub exact_number : List ℕ → List ℕ
-exact_number text = text_or text (whole_number text)
+exact_number text = text_or text (integer_written text)
 
 abbrev pub exact_token : Token → Token
 exact_token begin_object = begin_object

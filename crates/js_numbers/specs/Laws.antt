@@ -5,9 +5,9 @@ use Rattle.std.specs.Fmt.{signed_decimal}
 use Rattle.core.specs.Int.{◌∣◌}
 use Rattle.fast_float.specs.Text.{with_sign}
 use Rattle.js_numbers.specs.Change.{outside}
-use Rattle.js_numbers.specs.Decimal.{IsInRange, bound, numerator, whole}
-use Rattle.js_numbers.specs.Instance.{whole_number}
-use Rattle.js_numbers.specs.Limit.{Meets, exclusive_maximum, exclusive_minimum, maximum, minimum}
+use Rattle.js_numbers.specs.Decimal.{IsInRange, bound, numerator, integer_value}
+use Rattle.js_numbers.specs.Instance.{integer_written}
+use Rattle.js_numbers.specs.Limit.{Meets, exclusive_maximum_limit, exclusive_minimum_limit, maximum_limit, minimum_limit}
 use Rattle.js_numbers.specs.declared.bound.Bound.{Bound}
 use Rattle.js_numbers.specs.declared.bound.Bound.TheVariants.{Below, Whole, Above}
 use Rattle.js_numbers.specs.declared.decimal.Decimal.{Decimal}
@@ -24,25 +24,25 @@ scaled d z = z *ℤ pos (10 ^ d.down)
 
 -- d ≤ z
 abbrev pub MinimumSaysTheSame : Type 0
-MinimumSaysTheSame = (d : Decimal) (z : ℤ) → IsInRange z → (scaled_number d ≤ℤ scaled d z) ↔ Meets (minimum d) z
+MinimumSaysTheSame = (d : Decimal) (z : ℤ) → IsInRange z → (scaled_number d ≤ℤ scaled d z) ↔ Meets (minimum_limit d) z
 
 -- z ≤ d
 abbrev pub MaximumSaysTheSame : Type 0
-MaximumSaysTheSame = (d : Decimal) (z : ℤ) → IsInRange z → (scaled d z ≤ℤ scaled_number d) ↔ Meets (maximum d) z
+MaximumSaysTheSame = (d : Decimal) (z : ℤ) → IsInRange z → (scaled d z ≤ℤ scaled_number d) ↔ Meets (maximum_limit d) z
 
 -- d < z
 abbrev pub ExclusiveMinimumSaysTheSame : Type 0
 ExclusiveMinimumSaysTheSame = (d : Decimal) (z : ℤ) → IsInRange z
-    → (scaled_number d <ℤ scaled d z) ↔ Meets (exclusive_minimum d) z
+    → (scaled_number d <ℤ scaled d z) ↔ Meets (exclusive_minimum_limit d) z
 
 -- z < d
 abbrev pub ExclusiveMaximumSaysTheSame : Type 0
 ExclusiveMaximumSaysTheSame = (d : Decimal) (z : ℤ) → IsInRange z
-    → (scaled d z <ℤ scaled_number d) ↔ Meets (exclusive_maximum d) z
+    → (scaled d z <ℤ scaled_number d) ↔ Meets (exclusive_maximum_limit d) z
 
--- d is the integer that `whole` gives, if it is one in the range
+-- d is the integer that `integer_value` gives, if it is one in the range
 abbrev pub WholeIsEqual : Type 0
-WholeIsEqual = (d : Decimal) (z : ℤ) → (IsInRange z × (scaled_number d ≡ scaled d z)) ↔ (whole d ≡ Some z)
+WholeIsEqual = (d : Decimal) (z : ℤ) → (IsInRange z × (scaled_number d ≡ scaled d z)) ↔ (integer_value d ≡ Some z)
 
 -- what `outside` finds is no integer in the range, so no number of an instance is equal to it
 abbrev pub OutsideIsNoInteger : Type 0
@@ -51,7 +51,7 @@ OutsideIsNoInteger = (d found : Decimal) (z : ℤ) → outside d ≡ Some found 
 
 -- an integer in the range that is written in digits alone is read as that integer, so it stays
 abbrev pub DigitsAreTheInteger : Type 0
-DigitsAreTheInteger = (z : ℤ) → IsInRange z → whole_number (signed_decimal z) ≡ Some z
+DigitsAreTheInteger = (z : ℤ) → IsInRange z → integer_written (signed_decimal z) ≡ Some z
 
 -- ---- multiples, of sizes
 

@@ -53,14 +53,14 @@ beyond_above Above = Unlimited
 
 -- ---- by the number
 
-abbrev pub minimum : Decimal → Limit
-minimum d = from_below (bound (ceiling d))
+abbrev pub minimum_limit : Decimal → Limit
+minimum_limit d = from_below (bound (ceiling d))
 
-abbrev pub maximum : Decimal → Limit
-maximum d = from_above (bound (floor d))
+abbrev pub maximum_limit : Decimal → Limit
+maximum_limit d = from_above (bound (floor d))
 
-abbrev pub exclusive_minimum : Decimal → Limit
-exclusive_minimum d = beyond_below (bound (floor d))
+abbrev pub exclusive_minimum_limit : Decimal → Limit
+exclusive_minimum_limit d = beyond_below (bound (floor d))
 
-abbrev pub exclusive_maximum : Decimal → Limit
-exclusive_maximum d = beyond_above (bound (ceiling d))
+abbrev pub exclusive_maximum_limit : Decimal → Limit
+exclusive_maximum_limit d = beyond_above (bound (ceiling d))

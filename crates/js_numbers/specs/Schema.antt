@@ -16,37 +16,37 @@ use Rattle.js_upgrade.specs.declared.dialect.Dialect.{Dialect}
 use Rattle.js_upgrade.specs.declared.dialect.Dialect.TheVariants.{Draft2019}
 use Rattle.js_upgrade.specs.declared.holding.SchemaHolding.{SchemaHolding}
 use Rattle.js_upgrade.specs.declared.holding.SchemaHolding.TheVariants.{One, Listed, Named, OneOrListed}
-use Rattle.js_numbers.specs.Change.{becomes, change}
+use Rattle.js_numbers.specs.Change.{members_made, change}
 use Rattle.js_numbers.specs.Instance.{exact_instance}
 
 -- ---- the dialect of a schema, as the upgrade has it
 
-abbrev pub dialect_in : Json → Option Dialect
-dialect_in (string uri) = dialect_named uri
-dialect_in _ = None
+abbrev pub dialect_of_uri : Json → Option Dialect
+dialect_of_uri (string uri) = dialect_named uri
+dialect_of_uri _ = None
 
-abbrev pub is_identifier : Option Json → Bool
-is_identifier (Some (string uri)) = is_uri uri
-is_identifier _ = false
+abbrev pub is_uri_text : Option Json → Bool
+is_uri_text (Some (string uri)) = is_uri uri
+is_uri_text _ = false
 
 -- whether a reference hides its siblings
-abbrev pub hides : Dialect → Json → Bool
-hides d schema = is_before d Draft2019 && is_some (get (codes "$ref") schema)
+abbrev pub reference_hides : Dialect → Json → Bool
+reference_hides d schema = is_before d Draft2019 && is_some (get (codes "$ref") schema)
 
-abbrev pub identifies : Dialect → Json → Bool
-identifies d schema = is_identifier (get (identifier d) schema) && not (hides d schema)
+abbrev pub has_identifier : Dialect → Json → Bool
+has_identifier d schema = is_uri_text (get (identifier d) schema) && not (reference_hides d schema)
 
-abbrev pub dialect_or : Dialect → Json → Option Dialect → Dialect
-dialect_or d schema None = d
-dialect_or d schema (Some e) = if identifies e schema then e else d
+abbrev pub dialect_beside : Dialect → Json → Option Dialect → Dialect
+dialect_beside d schema None = d
+dialect_beside d schema (Some e) = if has_identifier e schema then e else d
 
 -- what the schema's `$schema` names
-abbrev pub declared : Json → Option Dialect
-declared schema = option_and_then dialect_in (get (codes "$schema") schema)
+abbrev pub declared_dialect : Json → Option Dialect
+declared_dialect schema = option_and_then dialect_of_uri (get (codes "$schema") schema)
 
 -- below the root `$schema` counts beside an identifier of the dialect that it names
-abbrev pub own_dialect : Dialect → Json → Dialect
-own_dialect d schema = dialect_or d schema (declared schema)
+abbrev pub dialect_within : Dialect → Json → Dialect
+dialect_within d schema = dialect_beside d schema (declared_dialect schema)
 
 -- ---- the schemas in a value that holds some
 
@@ -57,8 +57,8 @@ with_members (m ∷ front) ms = member m.0 m.1 (with_members front ms)
 
 abbrev mutual
   pub rewritten : SchemaHolding → Dialect → Json → Json
-  rewritten One d (object ms) = object (keywords (own_dialect d (object ms)) (object ms) ms)
-  rewritten OneOrListed d (object ms) = object (keywords (own_dialect d (object ms)) (object ms) ms)
+  rewritten One d (object ms) = object (keywords (dialect_within d (object ms)) (object ms) ms)
+  rewritten OneOrListed d (object ms) = object (keywords (dialect_within d (object ms)) (object ms) ms)
   rewritten Named d (object ms) = object (each_named d ms)
   rewritten Listed d (array js) = array (each_listed d js)
   rewritten OneOrListed d (array js) = array (each_listed d js)
@@ -76,7 +76,7 @@ abbrev mutual
   pub keywords : Dialect → Json → Members → Members
   keywords d schema no_members = no_members
   keywords d schema (member name j ms) =
-      with_members (becomes (change d schema name j) name j (rewritten (holding_by_change (change_in d name)) d j))
+      with_members (members_made (change d schema name j) name j (rewritten (holding_by_change (change_in d name)) d j))
       (keywords d schema ms)
 
 -- ---- a document
@@ -87,7 +87,7 @@ known_or assumed None = assumed
 known_or assumed (Some d) = d
 
 abbrev pub root_dialect : Dialect → Json → Dialect
-root_dialect assumed root = known_or assumed (declared root)
+root_dialect assumed root = known_or assumed (declared_dialect root)
 
 abbrev pub exact_root : Dialect → Json → List ℕ
 exact_root assumed root = print (json_tokens (rewritten One (root_dialect assumed root) root))

@@ -2,9 +2,9 @@
 ghost use Rattle.std.specs.Prelude.{◌≡◌, is_some, option_and_then, option_map, IfSome, if◌then◌else◌};
 ghost use Rattle.json.specs.Value.{items_view, members_view, value_view};
 ghost use Rattle.js_numbers.specs.Decimal.{IsBoundInRange, decimal};
-ghost use Rattle.js_numbers.specs.Change.{IsChangeInRange, change, counted, divided, fraction, goes_or};
+ghost use Rattle.js_numbers.specs.Change.{IsChangeInRange, change, limited_count, divided, fraction, goes_or};
 ghost use Rattle.js_numbers.specs.Change.{has_impossible, has_impossible_member, has_no_constant, is_excluding};
-ghost use Rattle.js_numbers.specs.Change.{is_impossible, is_replaced, is_true, limit_at};
+ghost use Rattle.js_numbers.specs.Change.{is_impossible, is_replaced, is_boolean_true, limit_at};
 ghost use Rattle.js_numbers.specs.Change.{limit_by, limited, old_limited, outside, positive_numerator};
 ghost use Rattle.js_numbers.specs.Limit.{IsLimitInRange};
 ghost use Rattle.js_numbers.specs.declared.change.NumberChange.TheVariants.{Impossible, Stays};
@@ -40,7 +40,7 @@ fn outside(text: &str) -> Option<Decimal>
     ensures { result ≡ outside (decimal text.now) }
 {
     let number = Decimal::of_text(text)?;
-    match number.whole() {
+    match number.integer_value() {
         Some(_) => None,
         None => Some(number),
     }
@@ -98,14 +98,14 @@ fn limit_by(is_least: bool, is_exclusive: bool, number: Decimal) -> Limit
 {
     if is_least {
         if is_exclusive {
-            number.exclusive_minimum()
+            number.exclusive_minimum_limit()
         } else {
-            number.minimum()
+            number.minimum_limit()
         }
     } else if is_exclusive {
-        number.exclusive_maximum()
+        number.exclusive_maximum_limit()
     } else {
-        number.maximum()
+        number.maximum_limit()
     }
 }
 
@@ -159,8 +159,8 @@ fn is_replaced(is_least: bool, found: Option<&Value<'_>>) -> bool
     }
 }
 
-fn is_true(found: Option<&Value<'_>>) -> bool
-    ensures { result ≡ is_true (option_map (λ v. value_view v.now) found.entry) }
+fn is_boolean_true(found: Option<&Value<'_>>) -> bool
+    ensures { result ≡ is_boolean_true (option_map (λ v. value_view v.now) found.entry) }
 {
     match found {
         Some(Value::Bool(value)) => *value,
@@ -185,8 +185,8 @@ fn goes_or(is_gone: bool, change: NumberChange) -> NumberChange
     if is_gone { NumberChange::Goes } else { change }
 }
 
-fn counted(value: &Value<'_>) -> NumberChange
-    ensures same { result ≡ counted (fraction (value_view value.now)) }
+fn limited_count(value: &Value<'_>) -> NumberChange
+    ensures same { result ≡ limited_count (fraction (value_view value.now)) }
     ensures range { IsChangeInRange result }
 {
     match fraction(value) {
@@ -270,10 +270,14 @@ pub(crate) fn change(
             limited(limit_at(false, true, value)),
         ),
         NumberKeyword::OldMinimum => {
-            old_limited(limit_at(true, is_true(schema.get("exclusiveMinimum")), value))
+            old_limited(limit_at(true, is_boolean_true(schema.get("exclusiveMinimum")), value))
         }
         NumberKeyword::OldMaximum => {
-            old_limited(limit_at(false, is_true(schema.get("exclusiveMaximum")), value))
+            old_limited(limit_at(
+                false,
+                is_boolean_true(schema.get("exclusiveMaximum")),
+                value,
+            ))
         }
         NumberKeyword::OldExclusiveMinimum => {
             goes_or(has_fraction(schema.get("minimum")), NumberChange::Stays)
@@ -281,7 +285,7 @@ pub(crate) fn change(
         NumberKeyword::OldExclusiveMaximum => {
             goes_or(has_fraction(schema.get("maximum")), NumberChange::Stays)
         }
-        NumberKeyword::Count => counted(value),
+        NumberKeyword::Count => limited_count(value),
         NumberKeyword::Divisor => divided(value),
         NumberKeyword::Enumeration => {
             goes_or(has_no_constant(dialect, schema), NumberChange::Possible)

@@ -6,7 +6,7 @@ ghost use Rattle.js_numbers.specs.Decimal.{decimal, is_short};
 use core::dec2flt::{byte_at, digit_at};
 use fast_float::Numeral;
 
-const LIMIT: u128 = 10_000_000_000_000_000_000_000_000_000_000_000_000;
+const DIGITS_LIMIT: u128 = 10_000_000_000_000_000_000_000_000_000_000_000_000;
 
 /// The number `digits * 10^up / 10^down`, or that less than 0.
 #[derive(Clone, Copy, Debug)]
@@ -28,7 +28,7 @@ fn value_of_digits(whole: &[u8], fraction: &[u8]) -> u128
 {
     let mut value = 0u128;
     for at in 0..whole.len() + fraction.len() {
-        value = (value * 10 + digit_at(whole, fraction, at) as u128).min(LIMIT);
+        value = (value * 10 + digit_at(whole, fraction, at) as u128).min(DIGITS_LIMIT);
     }
     value
 }
@@ -50,7 +50,7 @@ impl Decimal {
             (exponent, 0)
         };
         let down = parts.fraction().len() as u128 + down;
-        if digits < LIMIT && up < 1 << 64 && down < 1 << 64 {
+        if digits < DIGITS_LIMIT && up < 1 << 64 && down < 1 << 64 {
             Some(Decimal {
                 is_negative,
                 digits,

@@ -8,7 +8,7 @@ ghost use Rattle.json.specs.Reads.{token_of};
 ghost use Rattle.json.specs.Token.{number};
 ghost use Rattle.json.specs.Written.{Writes};
 ghost use Rattle.js_numbers.specs.declared.error.TextError.TheVariants.{Memory, NotJson};
-ghost use Rattle.js_numbers.specs.Instance.{exact_instance, exact_number, exact_token, whole_number};
+ghost use Rattle.js_numbers.specs.Instance.{exact_instance, exact_number, exact_token, integer_written};
 
 use crate::decimal::Decimal;
 use crate::error::TextError;
@@ -16,11 +16,11 @@ use json::{Reader, Scratch, Token, Writer, is_valid};
 use std::alloc::{AllocError, Allocator};
 
 // The integer that a number's text is.
-fn whole_number(text: &str) -> Option<i128>
-    ensures same { result ≡ whole_number text.now }
+fn integer_written(text: &str) -> Option<i128>
+    ensures same { result ≡ integer_written text.now }
     ensures range { IfSome result IsInRange }
 {
-    Decimal::of_text(text)?.whole()
+    Decimal::of_text(text)?.integer_value()
 }
 
 pub(crate) fn put_whole<A: Allocator>(writer: &mut Writer<A>, value: i128) -> Result<(), AllocError>
@@ -38,7 +38,7 @@ fn put_number<A: Allocator>(writer: &mut Writer<A>, text: &str) -> Result<(), Al
     requires { IsNumber text.now }
     ensures { Writes result writer.old writer.new (number (exact_number text.now)) }
 {
-    match whole_number(text) {
+    match integer_written(text) {
         None => writer.number(text),
         Some(value) => put_whole(writer, value),
     }

@@ -3,27 +3,27 @@ ghost use Rattle.js_numbers.specs.Laws.{ExclusiveMaximumSaysTheSame, ExclusiveMi
 ghost use Rattle.js_numbers.specs.Laws.{MaximumSaysTheSame, MinimumSaysTheSame, MultiplesAreOfNumerator};
 ghost use Rattle.js_numbers.specs.Laws.{DigitsAreTheInteger, OutsideIsNoInteger, WholeIsEqual};
 
-/// Each integer in the range is at least the number exactly if it meets the limit that `minimum` returns.
+/// Each integer in the range is at least the number exactly if it meets the limit that `minimum_limit` returns.
 pub fn a_minimum_says_the_same()
     ensures { MinimumSaysTheSame }
 {}
 
-/// Each integer in the range is at most the number exactly if it meets the limit that `maximum` returns.
+/// Each integer in the range is at most the number exactly if it meets the limit that `maximum_limit` returns.
 pub fn a_maximum_says_the_same()
     ensures { MaximumSaysTheSame }
 {}
 
-/// Each integer in the range is above the number exactly if it meets the limit that `exclusive_minimum` returns.
+/// Each integer in the range is above the number exactly if it meets the limit that `exclusive_minimum_limit` returns.
 pub fn an_exclusive_minimum_says_the_same()
     ensures { ExclusiveMinimumSaysTheSame }
 {}
 
-/// Each integer in the range is below the number exactly if it meets the limit that `exclusive_maximum` returns.
+/// Each integer in the range is below the number exactly if it meets the limit that `exclusive_maximum_limit` returns.
 pub fn an_exclusive_maximum_says_the_same()
     ensures { ExclusiveMaximumSaysTheSame }
 {}
 
-/// The number is the integer that `whole` returns, if it is one in the range.
+/// The number is the integer that `integer_value` returns, if it is one in the range.
 pub fn whole_is_equal()
     ensures { WholeIsEqual }
 {}

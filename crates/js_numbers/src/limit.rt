@@ -2,7 +2,7 @@
 ghost use Rattle.std.specs.Prelude.{◌≡◌};
 ghost use Rattle.js_numbers.specs.Decimal.{IsBoundInRange};
 ghost use Rattle.js_numbers.specs.Limit.{IsLimitInRange, beyond_above, beyond_below, from_above, from_below};
-ghost use Rattle.js_numbers.specs.Limit.{exclusive_maximum, exclusive_minimum, maximum, minimum};
+ghost use Rattle.js_numbers.specs.Limit.{exclusive_maximum_limit, exclusive_minimum_limit, maximum_limit, minimum_limit};
 
 use crate::bound::Bound;
 use crate::decimal::Decimal;
@@ -76,32 +76,32 @@ fn beyond_above(bound: Bound) -> Limit
 
 impl Decimal {
     /// What a `minimum` of this number says of each integer from -2^63 to 2^64 - 1.
-    pub fn minimum(self) -> Limit
-        ensures same { result ≡ minimum self }
+    pub fn minimum_limit(self) -> Limit
+        ensures same { result ≡ minimum_limit self }
         ensures range { IsLimitInRange result }
     {
         from_below(self.ceiling())
     }
 
     /// What a `maximum` of this number says.
-    pub fn maximum(self) -> Limit
-        ensures same { result ≡ maximum self }
+    pub fn maximum_limit(self) -> Limit
+        ensures same { result ≡ maximum_limit self }
         ensures range { IsLimitInRange result }
     {
         from_above(self.floor())
     }
 
     /// What an `exclusiveMinimum` of this number says.
-    pub fn exclusive_minimum(self) -> Limit
-        ensures same { result ≡ exclusive_minimum self }
+    pub fn exclusive_minimum_limit(self) -> Limit
+        ensures same { result ≡ exclusive_minimum_limit self }
         ensures range { IsLimitInRange result }
     {
         beyond_below(self.floor())
     }
 
     /// What an `exclusiveMaximum` of this number says.
-    pub fn exclusive_maximum(self) -> Limit
-        ensures same { result ≡ exclusive_maximum self }
+    pub fn exclusive_maximum_limit(self) -> Limit
+        ensures same { result ≡ exclusive_maximum_limit self }
         ensures range { IsLimitInRange result }
     {
         beyond_above(self.ceiling())

@@ -4,7 +4,7 @@ ghost use Rattle.json.specs.Json.{Json, array, boolean, no_items};
 ghost use Rattle.json.specs.Tree.{HasNumbers, ItemsHaveNumbers, items_tokens, json_tokens};
 ghost use Rattle.json.specs.Value.{items_view, value_view};
 ghost use Rattle.js_numbers.specs.Decimal.{IsInRange};
-ghost use Rattle.js_numbers.specs.Change.{IsChangeInRange, becomes, integer, limit_members, old_limit_members};
+ghost use Rattle.js_numbers.specs.Change.{IsChangeInRange, members_made, integer, limit_members, old_limit_members};
 ghost use Rattle.js_numbers.specs.Change.{possible, possible_items};
 ghost use Rattle.js_numbers.specs.Limit.{IsLimitInRange};
 ghost use Rattle.js_numbers.specs.declared.change.NumberChange.TheVariants.{Stays};
@@ -131,7 +131,7 @@ pub(crate) fn put_change(
     requires other { change ≢ Stays }
     requires numbers { HasNumbers (value_view value.now) }
     ensures { (new : Json) → Appends result writer.old writer.new
-        (named_tokens (becomes change name.now (value_view value.now) new)) }
+        (named_tokens (members_made change name.now (value_view value.now) new)) }
 {
     match change {
         NumberChange::Stays | NumberChange::Goes => Ok(()),

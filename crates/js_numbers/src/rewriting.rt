@@ -4,13 +4,13 @@ ghost use Rattle.json.specs.Tree.{HasNumbers, ItemsHaveNumbers, MembersHaveNumbe
 ghost use Rattle.json.specs.Value.{items_view, members_view, value_view};
 ghost use Rattle.js_upgrade.specs.Keyword.{change_in};
 ghost use Rattle.js_upgrade.specs.Upgrade.{holding_by_change};
-ghost use Rattle.js_numbers.specs.Change.{becomes, change};
+ghost use Rattle.js_numbers.specs.Change.{members_made, change};
 ghost use Rattle.js_numbers.specs.Schema.{each_listed, each_named, keywords, rewritten};
 ghost use Rattle.js_numbers.specs.code.Appended.{Appends, named_tokens};
 
 use crate::change::{NumberChange, change};
 use crate::members::put_change;
-use crate::schema_dialect::{holding_by_change, own_dialect};
+use crate::schema_dialect::{argument_holding, dialect_within};
 use js_upgrade::{Dialect, SchemaHolding, change_in};
 use json::{Value, Writer};
 use std::alloc::AllocError;
@@ -28,9 +28,14 @@ pub(crate) fn put(
 {
     match value {
         Value::Object(members) => match holding {
-            SchemaHolding::One => put_schema(writer, own_dialect(dialect, value), value, members),
+            SchemaHolding::One => put_schema(
+                writer,
+                dialect_within(dialect, value),
+                value,
+                members,
+            ),
             SchemaHolding::OneOrListed => {
-                put_schema(writer, own_dialect(dialect, value), value, members)
+                put_schema(writer, dialect_within(dialect, value), value, members)
             }
             SchemaHolding::Named => put_named(writer, dialect, members),
             SchemaHolding::Listed => writer.value(value),
@@ -76,7 +81,7 @@ fn put_keyword(
 ) -> Result<(), AllocError>
     requires { HasNumbers (value_view value.now) }
     ensures { Appends result writer.old writer.new
-        (named_tokens (becomes (change dialect (value_view schema.now) name.now (value_view value.now))
+        (named_tokens (members_made (change dialect (value_view schema.now) name.now (value_view value.now))
         name.now (value_view value.now)
         (rewritten (holding_by_change (change_in dialect name.now)) dialect (value_view value.now)))) }
 {
@@ -86,7 +91,7 @@ fn put_keyword(
             writer.key(name)?;
             put(
                 writer,
-                holding_by_change(change_in(dialect, name)),
+                argument_holding(change_in(dialect, name)),
                 dialect,
                 value,
             )

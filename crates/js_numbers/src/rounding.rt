@@ -1,7 +1,7 @@
 //! The integers next to a number.
 ghost use Rattle.std.specs.Prelude.{◌≡◌, ◌≤◌, ◌*◌, ◌/◌, ◌%◌, ◌^◌, ◌==◌, min, IfSome};
 ghost use Rattle.js_numbers.specs.Decimal.{IsBoundInRange, IsInRange, bound, ceiling, floor, is_whole, size_down};
-ghost use Rattle.js_numbers.specs.Decimal.{size_up, whole};
+ghost use Rattle.js_numbers.specs.Decimal.{size_up, integer_value};
 
 use crate::bound::{Bound, negative, positive};
 use crate::decimal::Decimal;
@@ -104,8 +104,8 @@ impl Decimal {
     }
 
     /// The integer that the number is, or None where it is none in the range.
-    pub fn whole(self) -> Option<i128>
-        ensures same { result ≡ whole self }
+    pub fn integer_value(self) -> Option<i128>
+        ensures same { result ≡ integer_value self }
         ensures range { IfSome result IsInRange }
     {
         if !self.is_whole() {

@@ -3,14 +3,14 @@ ghost use Rattle.std.specs.Prelude.{◌≡◌, option_map};
 ghost use Rattle.json.specs.Value.{value_view};
 ghost use Rattle.js_upgrade.specs.Schema.{is_uri};
 ghost use Rattle.js_upgrade.specs.Upgrade.{holding_by_change, identifier};
-ghost use Rattle.js_numbers.specs.Schema.{declared, dialect_in, hides, identifies, is_identifier};
-ghost use Rattle.js_numbers.specs.Schema.{own_dialect, root_dialect};
+ghost use Rattle.js_numbers.specs.Schema.{declared_dialect, dialect_of_uri, reference_hides, has_identifier, is_uri_text};
+ghost use Rattle.js_numbers.specs.Schema.{dialect_within, root_dialect};
 
 use js_upgrade::{Change, Dialect, SchemaHolding};
 use json::Value;
 
-fn dialect_in(uri: &Value<'_>) -> Option<Dialect>
-    ensures { result ≡ dialect_in (value_view uri.now) }
+fn dialect_of_uri(uri: &Value<'_>) -> Option<Dialect>
+    ensures { result ≡ dialect_of_uri (value_view uri.now) }
 {
     match uri {
         Value::String(uri) => Dialect::of_uri(uri),
@@ -20,11 +20,11 @@ fn dialect_in(uri: &Value<'_>) -> Option<Dialect>
 }
 
 // What the schema's `$schema` names.
-fn declared(schema: &Value<'_>) -> Option<Dialect>
-    ensures { result ≡ declared (value_view schema.now) }
+fn declared_dialect(schema: &Value<'_>) -> Option<Dialect>
+    ensures { result ≡ declared_dialect (value_view schema.now) }
 {
     match schema.get("$schema") {
-        Some(uri) => dialect_in(uri),
+        Some(uri) => dialect_of_uri(uri),
         None => None,
     }
 }
@@ -36,8 +36,8 @@ fn is_uri(uri: &str) -> bool
     !bytes.is_empty() && bytes[0] != b'#'
 }
 
-fn is_identifier(found: Option<&Value<'_>>) -> bool
-    ensures { result ≡ is_identifier (option_map (λ v. value_view v.now) found.entry) }
+fn is_uri_text(found: Option<&Value<'_>>) -> bool
+    ensures { result ≡ is_uri_text (option_map (λ v. value_view v.now) found.entry) }
 {
     match found {
         Some(Value::String(uri)) => is_uri(uri),
@@ -56,25 +56,25 @@ fn identifier(dialect: Dialect) -> &'static str
 }
 
 // Whether a reference hides its siblings.
-fn hides(dialect: Dialect, schema: &Value<'_>) -> bool
-    ensures { result ≡ hides dialect (value_view schema.now) }
+fn reference_hides(dialect: Dialect, schema: &Value<'_>) -> bool
+    ensures { result ≡ reference_hides dialect (value_view schema.now) }
 {
     dialect.is_before(Dialect::Draft2019) && schema.get("$ref").is_some()
 }
 
-fn identifies(dialect: Dialect, schema: &Value<'_>) -> bool
-    ensures { result ≡ identifies dialect (value_view schema.now) }
+fn has_identifier(dialect: Dialect, schema: &Value<'_>) -> bool
+    ensures { result ≡ has_identifier dialect (value_view schema.now) }
 {
-    is_identifier(schema.get(identifier(dialect))) && !hides(dialect, schema)
+    is_uri_text(schema.get(identifier(dialect))) && !reference_hides(dialect, schema)
 }
 
 /// The dialect of a schema that stands in one of the dialect given.
-pub(crate) fn own_dialect(dialect: Dialect, schema: &Value<'_>) -> Dialect
-    ensures { result ≡ own_dialect dialect (value_view schema.now) }
+pub(crate) fn dialect_within(dialect: Dialect, schema: &Value<'_>) -> Dialect
+    ensures { result ≡ dialect_within dialect (value_view schema.now) }
 {
-    match declared(schema) {
+    match declared_dialect(schema) {
         Some(own) => {
-            if identifies(own, schema) {
+            if has_identifier(own, schema) {
                 own
             } else {
                 dialect
@@ -88,14 +88,14 @@ pub(crate) fn own_dialect(dialect: Dialect, schema: &Value<'_>) -> Dialect
 pub(crate) fn root_dialect(assumed: Dialect, root: &Value<'_>) -> Dialect
     ensures { result ≡ root_dialect assumed (value_view root.now) }
 {
-    match declared(root) {
+    match declared_dialect(root) {
         Some(dialect) => dialect,
         None => assumed,
     }
 }
 
 /// How the argument of a keyword with this change holds schemas.
-pub(crate) fn holding_by_change(change: Change) -> SchemaHolding
+pub(crate) fn argument_holding(change: Change) -> SchemaHolding
     ensures { result ≡ holding_by_change change }
 {
     match change {

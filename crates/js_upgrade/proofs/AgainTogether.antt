@@ -55,9 +55,9 @@ current_source s c = (
 
 -- ---- a root that is no object
 
-abbrev is_object : Value → Bool
-is_object (object ms) = true
-is_object _ = false
+abbrev holds_members : Value → Bool
+holds_members (object ms) = true
+holds_members _ = false
 
 none_recursive : (d : Dialect) → is_recursive d [] ≡ false
 none_recursive Draft03 = refl
@@ -94,7 +94,7 @@ nothing_moves (token ∷ rest) d v new e =
     one_moves token rest d new (λ w inner is. nothing_moves rest d w inner is) (part_named token v)
     (sym (nothing_by token rest d v) ∙ e)
 
-simple_moves : (d : Dialect) (v : Value) → is_object v ≡ false → (tokens new : Tokens)
+simple_moves : (d : Dialect) (v : Value) → holds_members v ≡ false → (tokens new : Tokens)
     → moved_tokens One d v tokens ≡ Some new → tokens ≡ new
 simple_moves d v simple [] new e = ap tokens_of e
 simple_moves d null simple (token ∷ rest) new e = absurd (cc)
@@ -105,7 +105,7 @@ simple_moves d (list vs) simple (token ∷ rest) new e =
     one_moves token rest d new (λ w inner is. nothing_moves rest d w inner is) (item_named token 0 vs) e
 simple_moves d (object ms) simple (token ∷ rest) new e = absurd (cc)
 
-still_moves : (d : Dialect) (v : Value) → is_object v ≡ false → (tokens new : Tokens)
+still_moves : (d : Dialect) (v : Value) → holds_members v ≡ false → (tokens new : Tokens)
     → moved_tokens One d v (redirected d [] tokens) ≡ Some new → tokens ≡ new
 still_moves d v simple tokens new is =
     simple_moves d v simple tokens new (sym (ap (moved_tokens One d v) (redirected_none d tokens)) ∙ is)
@@ -119,7 +119,7 @@ simple_made false false v e = refl
 abbrev of_root : Parts → Dialect → Value → SourceDocument
 of_root uri assumed root = record { uri = uri; assumed = assumed; root = root }
 
-simple_stays : (uri : Parts) (d : Dialect) (v : Value) → is_object v ≡ false → Stays (of_root uri d v)
+simple_stays : (uri : Parts) (d : Dialect) (v : Value) → holds_members v ≡ false → Stays (of_root uri d v)
 simple_stays uri d null simple = (
   refl,
   ((still_moves d null simple, none_recursive d), tt),
@@ -222,7 +222,7 @@ module _ (all : List Resource) (uri : Parts) (assumed : Dialect) where
       subst (λ v. IsMade assumed (anchored (has_recursion d (object ms)) v)) (sym r.1)
       (anchored_made (has_recursion d (object ms)) assumed r.0 r.2)
 
-  simple_again : (d : Dialect) (v u : Value) → u ≡ v → is_object v ≡ false → Stays (of_root uri assumed u)
+  simple_again : (d : Dialect) (v u : Value) → u ≡ v → holds_members v ≡ false → Stays (of_root uri assumed u)
   simple_again d v u same simple =
       subst (λ w. Stays (of_root uri assumed w)) (sym same) (simple_stays uri assumed v simple)
 

@@ -17,7 +17,7 @@ use Rattle.js_upgrade.specs.Resource.{Resource, begun, document_resources, ident
 use Rattle.js_upgrade.specs.Resource.{own_resources, resource_under}
 use Rattle.js_upgrade.specs.Upgrade.{holding_in, own_dialect}
 use Rattle.js_upgrade.specs.code.Clear.{AreClear, IsClearDocument, IsClearRoot}
-use Rattle.js_upgrade.specs.code.Clear.{own_root, roots_by, source_roots}
+use Rattle.js_upgrade.specs.code.Clear.{own_root, roots_found, source_roots}
 use Rattle.js_upgrade.specs.code.Copied.{has_some}
 use Rattle.js_upgrade.specs.declared.dialect.Dialect.{Dialect}
 use Rattle.js_upgrade.specs.declared.fault.Pass.TheVariants.{AnyOfThese}
@@ -103,7 +103,7 @@ module _ (all : List Resource) where
   document_is s d siblings known root clear =
       let both = root_is d s.uri siblings clear in (
         ap (resources_by [] s) known ∙ ap (λ v. document_resources [] d s.uri v) root ∙ both.0
-            ∙ sym (ap (roots_by s) known
+            ∙ sym (ap (roots_found s) known
             ∙ ap (λ v. resource_under d v s.uri ∷ own_root d s.uri v) root),
         ap (fault_by_dialect AnyOfThese all s) known ∙ ap (λ v. fault_in AnyOfThese all One d s.uri v) root
             ∙ both.1,

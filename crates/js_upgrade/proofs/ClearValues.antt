@@ -16,7 +16,7 @@ use Rattle.js_upgrade.specs.Fault.{unevaluated_fault}
 use Rattle.js_upgrade.specs.Resource.{Resource, begun, identity, item_resources, joined_text, member_resources}
 use Rattle.js_upgrade.specs.Schema.{hides, is_identifier}
 use Rattle.js_upgrade.specs.Upgrade.{dialect_in, dialect_or, holding_in, identifier, own_dialect}
-use Rattle.js_upgrade.specs.code.Clear.{AreClearItems, AreClearMembers, IsAnonymous, IsClear, IsClearSchema}
+use Rattle.js_upgrade.specs.code.Clear.{AreClearItems, AreClearMembers, IsAnonymous, IsClearValue, IsClearSchema}
 use Rattle.js_upgrade.specs.declared.dialect.Dialect.{Dialect}
 use Rattle.js_upgrade.specs.declared.dialect.Dialect.TheVariants.{Draft03, Draft04, Draft06}
 use Rattle.js_upgrade.specs.declared.dialect.Dialect.TheVariants.{Draft07, Draft2019, Draft2020}
@@ -79,7 +79,7 @@ module _ (all : List Resource) where
 
   pub whole : (d : Dialect) (base : Parts) (siblings : Named) → IsClearSchema all d base siblings
       → AreClearMembers all (holding_in d siblings) d base (members siblings)
-      → IsClear all One d base (object (members siblings))
+      → IsClearValue all One d base (object (members siblings))
   whole d base siblings (own, unnamed, faultless) (nothing, below) =
       let ms = members siblings in
       let found = λ (ns : Named) (e : Dialect) (i : Option Parts).
@@ -97,7 +97,7 @@ module _ (all : List Resource) where
   -- ---- one after the other
 
   pub next_member : (held : Text → SchemaHolding) (d : Dialect) (base : Parts) (old left : Pairs)
-      (m : List ℕ × Doc) → old ≡ m ∷ left → IsClear all (held m.0) d base (value_of m.1)
+      (m : List ℕ × Doc) → old ≡ m ∷ left → IsClearValue all (held m.0) d base (value_of m.1)
       → AreClearMembers all held d base (members (map pair_of left))
       → AreClearMembers all held d base (members (map pair_of old))
   next_member held d base old left m step (nothing, faultless) (rest, below) = (
@@ -109,7 +109,7 @@ module _ (all : List Resource) where
   )
 
   pub next_item : (d : Dialect) (base : Parts) (ds : List Doc) (i : ℕ) (x : Doc) → i < length ds → x ≡ get_or ds i x
-      → IsClear all One d base (value_of x)
+      → IsClearValue all One d base (value_of x)
       → AreClearItems all d base (i + 1) (items (map value_of (drop (i + 1) ds)))
       → AreClearItems all d base i (items (map value_of (drop i ds)))
   next_item d base ds i x low is (nothing, faultless) (rest, below) =

@@ -34,7 +34,7 @@ use Rattle.js_upgrade.specs.Url.{uri_joined, uri_limit}
 use Rattle.js_upgrade.specs.code.First.{has_uri}
 use Rattle.js_upgrade.specs.code.Local.{local_uri}
 use Rattle.js_upgrade.specs.code.Usual.{IsUsualTarget, usual_name, usual_text}
-use Rattle.js_upgrade.specs.code.UsualRoot.{is_object, is_same_dialect, is_usual_root}
+use Rattle.js_upgrade.specs.code.UsualRoot.{holds_members, is_same_dialect, is_usual_root}
 use Rattle.js_upgrade.specs.declared.definitions.UsualTarget.{UsualTarget}
 use Rattle.js_upgrade.specs.declared.dialect.Dialect.{Dialect}
 use Rattle.js_upgrade.specs.declared.dialect.Dialect.TheVariants.{Draft03, Draft04, Draft06}
@@ -170,7 +170,7 @@ same_dialect Draft2019 Draft2019 is = refl
 same_dialect Draft2020 Draft2020 is = refl
 same_dialect _ _ is = absurd (cc)
 
-defined_by : (v : Option Value) → is_object v ≡ true → v ≡ Some (object (members (members_found v)))
+defined_by : (v : Option Value) → holds_members v ≡ true → v ≡ Some (object (members (members_found v)))
 defined_by None is = absurd (cc)
 defined_by (Some null) is = absurd (cc)
 defined_by (Some (truth b)) is = absurd (cc)
@@ -181,10 +181,10 @@ defined_by (Some (object ms)) is = ap (λ m. Some (object m)) (sym (members-memb
 
 module _ (r : Resource) (usual : is_usual_root r.dialect r.root ≡ true) where
   usual_parts : (is_same_dialect (own_dialect r.dialect (members_of r.root)) r.dialect ≡ true)
-      × (is_object (get (definitions_name r.dialect) (members_of r.root)) ≡ true)
+      × (holds_members (get (definitions_name r.dialect) (members_of r.root)) ≡ true)
   usual_parts =
       and_parts (is_same_dialect (own_dialect r.dialect (members_of r.root)) r.dialect)
-      (is_object (get (definitions_name r.dialect) (members_of r.root))) usual
+      (holds_members (get (definitions_name r.dialect) (members_of r.root))) usual
 
   its_dialect : own_dialect r.dialect (members_of r.root) ≡ r.dialect
   its_dialect = same_dialect (own_dialect r.dialect (members_of r.root)) r.dialect usual_parts.0

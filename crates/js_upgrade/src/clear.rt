@@ -6,7 +6,7 @@ ghost use Rattle.js_doc.specs.Value.{items, members, object};
 ghost use Rattle.js_upgrade.specs.Fault.{reference_kind, schema_fault};
 ghost use Rattle.js_upgrade.specs.Resource.{identity};
 ghost use Rattle.js_upgrade.specs.Upgrade.{holding_in, own_dialect};
-ghost use Rattle.js_upgrade.specs.code.Clear.{AreClearItems, AreClearMembers, IsAnonymous, IsClear, IsClearSchema};
+ghost use Rattle.js_upgrade.specs.code.Clear.{AreClearItems, AreClearMembers, IsAnonymous, IsClearValue, IsClearSchema};
 ghost use Rattle.js_upgrade.specs.code.Table.{all_of};
 ghost use Rattle.js_upgrade.specs.declared.holding.SchemaHolding.TheVariants.{One};
 
@@ -26,7 +26,7 @@ pub(crate) fn is_clear(
     dialect: Dialect,
     value: &Doc,
 ) -> bool
-    ensures { result ≡ true → IsClear (all_of scope.entry.resources.now) holding dialect scope.entry.base.now
+    ensures { result ≡ true → IsClearValue (all_of scope.entry.resources.now) holding dialect scope.entry.base.now
         (value_of value.now) }
 {
     match value {
@@ -50,7 +50,7 @@ pub(crate) fn is_clear(
 
 #[cycle(clear)]
 fn is_clear_schema(scope: Scope<'_>, dialect: Dialect, siblings: &Members) -> bool
-    ensures { result ≡ true → IsClear (all_of scope.entry.resources.now) One dialect scope.entry.base.now
+    ensures { result ≡ true → IsClearValue (all_of scope.entry.resources.now) One dialect scope.entry.base.now
         (object (members siblings.now)) }
 {
     is_clear_alone(scope, dialect, siblings) && are_clear_keywords(scope, dialect, siblings)

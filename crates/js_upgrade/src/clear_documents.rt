@@ -125,7 +125,7 @@ fn is_clear_root(
 ) -> Result<bool, Memory>
     ensures { IfOk result (λ b. b ≡ true → IsClearRoot (all_of resources.now) dialect uri.now siblings.now) }
 {
-    if !own_dialect(dialect, siblings).is_same(dialect) {
+    if !own_dialect(dialect, siblings).is_draft(dialect) {
         return Ok(false);
     }
     match identity(dialect, uri, siblings)? {

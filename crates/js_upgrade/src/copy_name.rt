@@ -71,12 +71,12 @@ pub(crate) fn free_name(
         ≡ free_name (copies_seen definitions.entry) pointer.now) }
 {
     if let Some(name) = kept_name(pointer.tokens()) {
-        if !has_name(definitions, name) {
+        if !is_among(definitions, name) {
             return Ok(Some(String::from_str(alloc, name)?));
         }
     }
     let text = pointer.text(alloc)?;
-    if has_name(definitions, text.as_str()) {
+    if is_among(definitions, text.as_str()) {
         Ok(None)
     } else {
         Ok(Some(text))
@@ -103,7 +103,7 @@ fn copied_name(alloc: Global, copies: &Members, pointer: &Pointer) -> Result<Opt
     }
 }
 
-pub(crate) fn has_name(members: Option<&Members>, name: &str) -> bool
+pub(crate) fn is_among(members: Option<&Members>, name: &str) -> bool
     ensures { result ≡ has_name name.now (copies_seen members.entry) }
 {
     match members {

@@ -11,7 +11,7 @@ ghost use Rattle.js_upgrade.specs.Seen.{copies_seen, resource_seen};
 ghost use Rattle.js_upgrade.specs.Url.{uri_joined, uri_limit};
 ghost use Rattle.js_upgrade.specs.code.Table.{all_of};
 ghost use Rattle.js_upgrade.specs.code.Usual.{IsUsualTarget, plain_name, usual_name, usual_prefix, usual_text};
-ghost use Rattle.js_upgrade.specs.code.UsualRoot.{is_object, is_usual_root};
+ghost use Rattle.js_upgrade.specs.code.UsualRoot.{holds_members, is_usual_root};
 
 use crate::copy_name::definitions_name;
 use crate::copying::definitions;
@@ -33,15 +33,15 @@ pub(crate) fn is_usual_root(dialect: Dialect, root: &Doc) -> bool
 {
     match root {
         Doc::Members(siblings) => {
-            own_dialect(dialect, siblings).is_same(dialect)
-                && is_object(siblings.get(definitions_name(dialect)))
+            own_dialect(dialect, siblings).is_draft(dialect)
+                && holds_members(siblings.get(definitions_name(dialect)))
         }
         _ => false,
     }
 }
 
-fn is_object(found: Option<&Doc>) -> bool
-    ensures { result ≡ is_object (option_map (λ d. value_of d.now) found.entry) }
+fn holds_members(found: Option<&Doc>) -> bool
+    ensures { result ≡ holds_members (option_map (λ d. value_of d.now) found.entry) }
 {
     matches!(found, Some(Doc::Members(_)))
 }

@@ -64,7 +64,7 @@ impl Dialect {
     }
 
     /// Whether it is the same draft.
-    pub(crate) fn is_same(self, other: Dialect) -> bool
+    pub(crate) fn is_draft(self, other: Dialect) -> bool
         ensures { result ≡ is_same_dialect self other }
     {
         self.draft_number() == other.draft_number()

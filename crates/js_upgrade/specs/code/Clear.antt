@@ -22,8 +22,8 @@ IsAnonymous d siblings =
     (is_before d Draft2019 ≡ true) × (get (codes "$schema") siblings ≡ None) × (get (identifier d) siblings ≡ None)
 
 module _ (all : List Resource) where
-  abbrev pub IsClear : SchemaHolding → Dialect → Parts → Value → Type 0
-  IsClear h d base v = (resources h d base v ≡ []) × (fault_in AnyOfThese all h d base v ≡ None)
+  abbrev pub IsClearValue : SchemaHolding → Dialect → Parts → Value → Type 0
+  IsClearValue h d base v = (resources h d base v ≡ []) × (fault_in AnyOfThese all h d base v ≡ None)
 
   abbrev pub AreClearMembers : (Text → SchemaHolding) → Dialect → Parts → Members → Type 0
   AreClearMembers held d base ms =
@@ -57,12 +57,12 @@ own_root d uri (object ms) =
     begun d (object ms) (identity (own_dialect d (member_list ms)) uri (member_list ms))
 own_root d uri v = []
 
-abbrev pub roots_by : SourceDocument → Option Dialect → List Resource
-roots_by s None = []
-roots_by s (Some d) = resource_under d s.root s.uri ∷ own_root d s.uri s.root
+abbrev pub roots_found : SourceDocument → Option Dialect → List Resource
+roots_found s None = []
+roots_found s (Some d) = resource_under d s.root s.uri ∷ own_root d s.uri s.root
 
 abbrev pub source_roots : SourceDocument → List Resource
-source_roots s = roots_by s (source_dialect s)
+source_roots s = roots_found s (source_dialect s)
 
 abbrev pub all_roots : Sources → List Resource
 all_roots [] = []

@@ -11,11 +11,11 @@ use Rattle.js_upgrade.specs.declared.dialect.Dialect.{Dialect}
 abbrev pub is_same_dialect : Dialect → Dialect → Bool
 is_same_dialect d e = draft_number d == draft_number e
 
-abbrev pub is_object : Option Value → Bool
-is_object (Some (object ms)) = true
-is_object _ = false
+abbrev pub holds_members : Option Value → Bool
+holds_members (Some (object ms)) = true
+holds_members _ = false
 
 -- of the dialect around it, and with definitions
 abbrev pub is_usual_root : Dialect → Value → Bool
 is_usual_root d root =
-    is_same_dialect (own_dialect d (members_of root)) d && is_object (get (definitions_name d) (members_of root))
+    is_same_dialect (own_dialect d (members_of root)) d && holds_members (get (definitions_name d) (members_of root))

@@ -1,11 +1,11 @@
 use Rattle.js_numbers.specs.Decimal.{ceiling}
-use Rattle.js_numbers.proofs.Comparing.{minimum}
+use Rattle.js_numbers.proofs.Comparing.{minimum_limit}
 use Rattle.js_numbers.proofs.InRange as in_range
 use Rattle.js_numbers.proofs.Sizes.{is_between}
 use Rattle.js_numbers.proofs.laws.a_minimum_says_the_same.Goals as goal
 
 pub returns : goal.returns
 returns c d z r =
-    let same = minimum _ _ _ _ (is_between d) d.is_negative z in
-    let bounds = in_range.minimum (ceiling d) z r in
+    let same = minimum_limit _ _ _ _ (is_between d) d.is_negative z in
+    let bounds = in_range.minimum_limit (ceiling d) z r in
     (λ h. bounds.0 (same.0 h), λ h. same.1 (bounds.1 h))

@@ -1,13 +1,13 @@
 use Rattle.js_numbers.specs.Decimal.{floor}
 use Rattle.js_numbers.specs.Laws.{scaled, scaled_number}
-use Rattle.js_numbers.proofs.Comparing.{maximum, order_turned}
+use Rattle.js_numbers.proofs.Comparing.{maximum_limit, order_turned}
 use Rattle.js_numbers.proofs.InRange as in_range
 use Rattle.js_numbers.proofs.Sizes.{is_between}
 use Rattle.js_numbers.proofs.laws.an_exclusive_minimum_says_the_same.Goals as goal
 
 pub returns : goal.returns
 returns c d z r =
-    let same = maximum _ _ _ _ (is_between d) d.is_negative z in
+    let same = maximum_limit _ _ _ _ (is_between d) d.is_negative z in
     let turned = order_turned (scaled d z) (scaled_number d) z (floor d) same in
-    let bounds = in_range.exclusive_minimum (floor d) z r in
+    let bounds = in_range.exclusive_minimum_limit (floor d) z r in
     (λ h. bounds.0 (turned.0 h), λ h. turned.1 (bounds.1 h))

@@ -5,7 +5,7 @@ use Rattle.json.specs.Tree.{HasNumbers, ItemsHaveNumbers, MembersHaveNumbers, it
 use Rattle.json.specs.Value.{items_view, members_view, value_view}
 use Rattle.js_upgrade.specs.Keyword.{change_in}
 use Rattle.js_upgrade.specs.Upgrade.{holding_by_change}
-use Rattle.js_numbers.specs.Change.{becomes, change}
+use Rattle.js_numbers.specs.Change.{members_made, change}
 use Rattle.js_numbers.specs.Schema.{keywords, rewritten}
 use Rattle.js_numbers.specs.code.Appended.{Appends, named_tokens}
 use Rattle.js_numbers.specs.declared.change.NumberChange.{NumberChange}
@@ -19,7 +19,7 @@ put_keyword-returns-in_default t c =
     let v = value_view c.args.value.now in
     let new = rewritten (holding_by_change (change_in d name)) d v in
     subst (λ (h : NumberChange). Appends c.put_change.result c.args.writer.now c.put_change.new.writer
-    (named_tokens (becomes h name v new))) c.change-change.ensures.same (c.put_change.ensures new)
+    (named_tokens (members_made h name v new))) c.change-change.ensures.same (c.put_change.ensures new)
 
 pub put_listed-put-requires : goal.put_listed-put-requires
 put_listed-put-requires t c =
@@ -83,7 +83,7 @@ put_schema-loop-member-preserved t c =
     let later = members_view (drop (l.member-index + 1) xs) in
     let here : drop l.member-index xs ≡ x ∷ drop (l.member-index + 1) xs =
     drop_more xs l.member-index x (omega arith) ∙ ap (λ y. y ∷ drop (l.member-index + 1) xs) (sym c.member-item.is) in
-    let front = becomes (change d schema name v) name v (rewritten (holding_by_change (change_in d name)) d v) in
+    let front = members_made (change d schema name v) name v (rewritten (holding_by_change (change_in d name)) d v) in
     let step = ap (λ ys. members_tokens (keywords d schema (members_view ys))) here
     ∙ members_then front (keywords d schema later) in
     record {

@@ -2,7 +2,7 @@ use Rattle.std.proofs.Common.{ℕ, List, ap, ◌∙◌, arith, subst}
 use Rattle.js_doc.specs.Seen.{value_of}
 use Rattle.js_doc.specs.declared.doc.Doc.{Doc}
 use Rattle.js_upgrade.specs.Upgrade.{holding_by_change, holding_in}
-use Rattle.js_upgrade.specs.code.Clear.{IsClear}
+use Rattle.js_upgrade.specs.code.Clear.{IsClearValue}
 use Rattle.js_upgrade.specs.code.Table.{all_of}
 use Rattle.js_upgrade.specs.declared.holding.SchemaHolding.TheVariants.{One}
 use Rattle.js_upgrade.proofs.ClearValues.{next_member, whole}
@@ -32,7 +32,7 @@ are_clear_keywords-loop-name-preserved t c =
     let base = c.args.scope.base.now in
     let siblings = c.args.siblings.now in
     let m : List ℕ × Doc = (c.in-Some.name.now, c.in-Some.argument.now) in
-    let clear = subst (λ h. IsClear all h d base (value_of m.1)) (c.holding_by_change-holding.ensures
+    let clear = subst (λ h. IsClearValue all h d base (value_of m.1)) (c.holding_by_change-holding.ensures
     ∙ ap holding_by_change (change_known d siblings c.hides-hidden.result m.0 c.as_str.result.now _
     c.hides-hidden.ensures c.as_str.ensures c.change_beside.ensures)) (c.is_clear.ensures c.if-not-is_clear.false) in (
       split_next _ l.name-iterator c.next.new.self m l.invariant.0 c.in-Some.ensures.steps,
