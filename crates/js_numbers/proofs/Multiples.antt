@@ -24,8 +24,11 @@ of_numerator d n = (
       multiple_gives (above d) (denominator d) n h.0 (below_pos d)
       (eq_of_mul-eq-mul_right (common d) (tens_pos (min d.up d.down)) (n * denominator d) (h.0 * above d) e),
   λ h.
-      let times = n / numerator d * (denominator d / gcd (above d) (denominator d)) in
-      (times, scaled_is d n ∙ ap (λ k. k * common d) (multiple_from (above d) (denominator d) n h) ∙ sym (times_is d times)),
+      let times = n / numerator d * (denominator d / gcd (above d) (denominator d)) in (
+        times,
+        scaled_is d n ∙ ap (λ k. k * common d) (multiple_from (above d) (denominator d) n h)
+            ∙ sym (times_is d times),
+      ),
 )
 
 large : (m n : ℕ) → nat_lt m (2 ^ 64) ≡ false → n < 2 ^ 64 → m ∣ n → n ≡ 0

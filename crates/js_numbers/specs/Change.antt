@@ -8,7 +8,8 @@ use Rattle.json.specs.Json.{member}
 use Rattle.js_doc.specs.Value.{Text}
 use Rattle.js_upgrade.specs.declared.dialect.Dialect.{Dialect}
 use Rattle.js_numbers.specs.Decimal.{IsInRange, decimal, is_short, is_whole, short_numerator, integer_value}
-use Rattle.js_numbers.specs.Limit.{IsLimitInRange, exclusive_maximum_limit, exclusive_minimum_limit, greatest, maximum_limit, minimum_limit}
+use Rattle.js_numbers.specs.Limit.{IsLimitInRange, exclusive_maximum_limit, exclusive_minimum_limit, greatest}
+use Rattle.js_numbers.specs.Limit.{maximum_limit, minimum_limit}
 use Rattle.js_numbers.specs.NumberKeyword.{number_keyword}
 use Rattle.js_numbers.specs.declared.bound.Bound.{Bound}
 use Rattle.js_numbers.specs.declared.bound.Bound.TheVariants.{Whole}
@@ -134,8 +135,10 @@ change_by ExclusiveMinimum d schema v =
     goes_or (is_replaced true (get (codes "minimum") schema)) (limited (limit_at true true v))
 change_by ExclusiveMaximum d schema v =
     goes_or (is_replaced false (get (codes "maximum") schema)) (limited (limit_at false true v))
-change_by OldMinimum d schema v = old_limited (limit_at true (is_boolean_true (get (codes "exclusiveMinimum") schema)) v)
-change_by OldMaximum d schema v = old_limited (limit_at false (is_boolean_true (get (codes "exclusiveMaximum") schema)) v)
+change_by OldMinimum d schema v =
+    old_limited (limit_at true (is_boolean_true (get (codes "exclusiveMinimum") schema)) v)
+change_by OldMaximum d schema v =
+    old_limited (limit_at false (is_boolean_true (get (codes "exclusiveMaximum") schema)) v)
 change_by OldExclusiveMinimum d schema v =
     goes_or (is_some (option_and_then fraction (get (codes "minimum") schema))) Stays
 change_by OldExclusiveMaximum d schema v =

@@ -7,7 +7,8 @@ use Rattle.fast_float.specs.Text.{with_sign}
 use Rattle.js_numbers.specs.Change.{outside}
 use Rattle.js_numbers.specs.Decimal.{IsInRange, bound, numerator, integer_value}
 use Rattle.js_numbers.specs.Instance.{integer_written}
-use Rattle.js_numbers.specs.Limit.{Meets, exclusive_maximum_limit, exclusive_minimum_limit, maximum_limit, minimum_limit}
+use Rattle.js_numbers.specs.Limit.{Meets, exclusive_maximum_limit, exclusive_minimum_limit, maximum_limit}
+use Rattle.js_numbers.specs.Limit.{minimum_limit}
 use Rattle.js_numbers.specs.declared.bound.Bound.{Bound}
 use Rattle.js_numbers.specs.declared.bound.Bound.TheVariants.{Below, Whole, Above}
 use Rattle.js_numbers.specs.declared.decimal.Decimal.{Decimal}

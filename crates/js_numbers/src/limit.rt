@@ -2,7 +2,8 @@
 ghost use Rattle.std.specs.Prelude.{◌≡◌};
 ghost use Rattle.js_numbers.specs.Decimal.{IsBoundInRange};
 ghost use Rattle.js_numbers.specs.Limit.{IsLimitInRange, beyond_above, beyond_below, from_above, from_below};
-ghost use Rattle.js_numbers.specs.Limit.{exclusive_maximum_limit, exclusive_minimum_limit, maximum_limit, minimum_limit};
+ghost use Rattle.js_numbers.specs.Limit.{exclusive_maximum_limit, exclusive_minimum_limit, maximum_limit};
+ghost use Rattle.js_numbers.specs.Limit.{minimum_limit};
 
 use crate::bound::Bound;
 use crate::decimal::Decimal;

@@ -3,8 +3,8 @@ ghost use Rattle.std.specs.Prelude.{◌≡◌, option_map};
 ghost use Rattle.json.specs.Value.{value_view};
 ghost use Rattle.js_upgrade.specs.Schema.{is_uri};
 ghost use Rattle.js_upgrade.specs.Upgrade.{holding_by_change, identifier};
-ghost use Rattle.js_numbers.specs.Schema.{declared_dialect, dialect_of_uri, reference_hides, has_identifier, is_uri_text};
-ghost use Rattle.js_numbers.specs.Schema.{dialect_within, root_dialect};
+ghost use Rattle.js_numbers.specs.Schema.{declared_dialect, dialect_of_uri, dialect_within, has_identifier};
+ghost use Rattle.js_numbers.specs.Schema.{is_uri_text, reference_hides, root_dialect};
 
 use js_upgrade::{Change, Dialect, SchemaHolding};
 use json::Value;
