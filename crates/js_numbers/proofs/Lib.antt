@@ -6,6 +6,7 @@ pub mod Examples
 pub mod InDigits
 pub mod InRange
 pub mod Multiples
+pub mod NamesOnce
 pub mod SchemaExamples
 pub mod Sizes
 pub mod Tens

@@ -1,7 +1,7 @@
 -- A schema document in which numbers are integers where that says the same. Its integers are written in digits first,
 -- as in an instance.
 use Rattle.std.specs.Prelude.{ℕ, Bool, false, not, ◌&&◌, List, [], ◌∷◌, Option, Some, None}
-use Rattle.std.specs.Prelude.{option_map, option_and_then, is_some, codes, if◌then◌else◌}
+use Rattle.std.specs.Prelude.{option_and_then, is_some, codes, if◌then◌else◌}
 use Rattle.json.specs.Find.{get}
 use Rattle.json.specs.Json.{Json, string, array, object, Items, no_items, item, Members, no_members}
 use Rattle.json.specs.Json.{member, document}
@@ -18,6 +18,7 @@ use Rattle.js_upgrade.specs.declared.holding.SchemaHolding.{SchemaHolding}
 use Rattle.js_upgrade.specs.declared.holding.SchemaHolding.TheVariants.{One, Listed, Named, OneOrListed}
 use Rattle.js_numbers.specs.Change.{members_made, change}
 use Rattle.js_numbers.specs.Instance.{exact_instance}
+use Rattle.js_numbers.specs.Names.{has_names_once}
 
 -- ---- the dialect of a schema, as the upgrade has it
 
@@ -92,6 +93,10 @@ root_dialect assumed root = known_or assumed (declared_dialect root)
 abbrev pub exact_root : Dialect → Json → List ℕ
 exact_root assumed root = print (json_tokens (rewritten One (root_dialect assumed root) root))
 
--- none if it isn't JSON
+-- each member would be rewritten by itself, though the last one of a name counts
+abbrev pub exact_or : Dialect → Json → Option (List ℕ)
+exact_or assumed root = if has_names_once root then Some (exact_root assumed root) else None
+
+-- none if it isn't JSON, or an object has a name twice
 abbrev pub exact_schema : Dialect → List ℕ → Option (List ℕ)
-exact_schema assumed text = option_map (exact_root assumed) (option_and_then document (exact_instance text))
+exact_schema assumed text = option_and_then (exact_or assumed) (option_and_then document (exact_instance text))

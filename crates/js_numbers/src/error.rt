@@ -10,6 +10,8 @@ pub enum TextError {
     Memory,
     /// It isn't JSON.
     NotJson,
+    /// An object in it has a name twice.
+    RepeatedName,
 }
 
 impl From<AllocError> for TextError {
@@ -30,10 +32,8 @@ impl From<json::Error> for TextError {
     fn from(error: json::Error) -> TextError {
         match error {
             json::Error::Invalid => TextError::NotJson,
-            // (The last two never come: names may repeat, and texts be long.)
-            json::Error::OutOfMemory | json::Error::TooLong | json::Error::DuplicateKey => {
-                TextError::Memory
-            }
+            json::Error::DuplicateKey => TextError::RepeatedName,
+            json::Error::OutOfMemory | json::Error::TooLong => TextError::Memory,
         }
     }
 }

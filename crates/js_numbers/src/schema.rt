@@ -1,12 +1,14 @@
 //! Schema documents with numbers as people write them.
-ghost use Rattle.std.specs.Prelude.{◌≡◌, ◌⊎◌, Some, None, IfOk, IfErr, option_map};
+ghost use Rattle.std.specs.Prelude.{◌≡◌, ◌⊎◌, Some, None, IfOk, IfErr, IsSomeAnd, false, option_and_then, option_map};
 ghost use Rattle.std.specs.Str.{IsUtf8};
 ghost use Rattle.json.specs.Json.{document};
 ghost use Rattle.json.specs.Tree.{HasNumbers};
+ghost use Rattle.json.specs.Strict.{HasUniqueKeys};
 ghost use Rattle.json.specs.Value.{value_view};
 ghost use Rattle.js_numbers.specs.Instance.{exact_instance};
+ghost use Rattle.js_numbers.specs.Names.{has_names_once};
 ghost use Rattle.js_numbers.specs.Schema.{exact_root, exact_schema};
-ghost use Rattle.js_numbers.specs.declared.error.TextError.TheVariants.{Memory, NotJson};
+ghost use Rattle.js_numbers.specs.declared.error.TextError.TheVariants.{Memory, NotJson, RepeatedName};
 
 use crate::error::TextError;
 use crate::instance::exact_instance;
@@ -21,11 +23,15 @@ use std::alloc::{AllocError, Global};
 ///
 /// # Errors
 ///
-/// `NotJson`: the text isn't JSON. `Memory` may come at any point, also for such a text.
+/// `NotJson`: the text isn't JSON. `RepeatedName`: an object in it has a name twice. `Memory` may come at any point,
+/// also for such a text.
 pub fn exact_schema(alloc: Global, assumed: Dialect, text: &str) -> Result<Vec<u8>, TextError>
     ensures ok { IfOk result (λ exact. exact_schema assumed text.now ≡ Some exact.items) }
     ensures utf8 { IfOk result (λ exact. IsUtf8 exact.items) }
-    ensures err { IfErr result (λ e. (e ≡ Memory) ⊎ ((e ≡ NotJson) × (exact_schema assumed text.now ≡ None))) }
+    ensures err { IfErr result (λ e. (e ≡ Memory)
+        ⊎ ((e ≡ NotJson) × (option_and_then document (exact_instance text.now) ≡ None))
+        ⊎ ((e ≡ RepeatedName)
+        × IsSomeAnd (option_and_then document (exact_instance text.now)) (λ j. has_names_once j ≡ false))) }
 {
     let bytes = exact_instance(alloc, text)?;
     match std::str::from_utf8(&bytes) {
@@ -38,10 +44,12 @@ pub fn exact_schema(alloc: Global, assumed: Dialect, text: &str) -> Result<Vec<u
 fn rewritten(alloc: Global, assumed: Dialect, text: &str) -> Result<Vec<u8>, TextError>
     ensures ok { IfOk result (λ exact. option_map (exact_root assumed) (document text.now) ≡ Some exact.items) }
     ensures utf8 { IfOk result (λ exact. IsUtf8 exact.items) }
-    ensures err { IfErr result (λ e. (e ≡ Memory) ⊎ ((e ≡ NotJson) × (document text.now ≡ None))) }
+    ensures unique { IfOk result (λ _. IsSomeAnd (document text.now) HasUniqueKeys) }
+    ensures err { IfErr result (λ e. (e ≡ Memory) ⊎ ((e ≡ NotJson) × (document text.now ≡ None))
+        ⊎ ((e ≡ RepeatedName) × IsSomeAnd (document text.now) (λ j. ¬ HasUniqueKeys j))) }
 {
     let mut scratch = Scratch::new(alloc);
-    let root = Value::parse(alloc, text, &mut scratch)?;
+    let root = Value::parse_strict(alloc, text, &mut scratch)?;
     Ok(root_text(alloc, assumed, &root)?)
 }
 

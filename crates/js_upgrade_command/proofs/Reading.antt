@@ -9,7 +9,7 @@ use Rattle.js_doc.specs.declared.reading.ReadFault.{ReadFault}
 use Rattle.js_doc.specs.declared.reading.ReadFault.TheVariants as read
 use Rattle.js_numbers.specs.Schema.{exact_schema}
 use Rattle.js_output.specs.Documents.{unread_document}
-use Rattle.js_output.specs.Reading.{reading, reading-ok, reading-err}
+use Rattle.js_output.specs.Reading.{reading-ok, reading-err}
 use Rattle.js_upgrade.specs.declared.dialect.Dialect.{Dialect}
 use Rattle.js_upgrade_command.specs.Numbers.{exact_text}
 use Rattle.js_upgrade_command.specs.Outcome.{root_or, root_read}

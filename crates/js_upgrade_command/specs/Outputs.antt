@@ -2,7 +2,7 @@
 use Rattle.std.specs.Prelude.{◌≡◌, ℕ, List, [], ◌∷◌, ◌++◌, Option, Some, None, option_map, Bool, true, false, length}
 use Rattle.std.specs.Prelude.{flat_map}
 use Rattle.std.specs.Io.KnownBytes.{Appends, Keeps}
-use Rattle.js_doc.specs.Value.{Value, Values, Text}
+use Rattle.js_doc.specs.Value.{Values, Text}
 use Rattle.js_command.specs.Words.{DocumentPairs}
 use Rattle.js_output.specs.Device.{AppendsBeginning, FlushedOnce, Tracked}
 use Rattle.js_output.specs.Values.{value_line}

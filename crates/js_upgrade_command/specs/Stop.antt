@@ -1,5 +1,5 @@
 -- Why documents aren't upgraded, and the line that says so.
-use Rattle.std.specs.Prelude.{ℕ, List, [], ◌∷◌, ◌++◌, Option, Some, None, codes, slice_get}
+use Rattle.std.specs.Prelude.{ℕ, List, [], ◌++◌, Option, Some, None, codes, slice_get}
 use Rattle.js_doc.specs.Compact.{quoted}
 use Rattle.js_command.specs.Words.{DocumentPairs}
 use Rattle.js_output.specs.Line.{fault_line}

@@ -32,6 +32,7 @@ pub(crate) fn exact_text(
             Ok(exact) => Ok(Some(exact)),
             Err(TextError::Memory) => Err(Memory),
             Err(TextError::NotJson) => Ok(None),
+            Err(TextError::RepeatedName) => Ok(None),
         },
         Err(_) => Ok(None),
     }

@@ -1,6 +1,5 @@
 use Rattle.std.proofs.Common.{◌≡◌}
 use Rattle.js_upgrade_command.specs.code.Seen.{texts_seen}
-use Rattle.js_command.specs.Words.{pairs_seen}
 use Rattle.js_command.proofs.Holding.{HoldsSoFar}
 use Rattle.js_upgrade_command.proofs.Taking.{RestUntaken}
 use Rattle.js_upgrade_command.proofs.documents.take_all.Given as goal

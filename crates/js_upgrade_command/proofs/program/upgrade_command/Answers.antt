@@ -1,11 +1,8 @@
-use Rattle.std.proofs.Common.{inl, inr, refl, arith}
+use Rattle.std.proofs.Common.{inl, refl}
 use Rattle.js_command.specs.Words.{words_of}
 use Rattle.js_output.specs.Line.{failed_memory}
-use Rattle.js_upgrade_command.specs.Stop.{stop_line}
 use Rattle.js_upgrade_command.specs.Words.{upgrade_request_of}
-use Rattle.js_upgrade_command.specs.code.Seen.{upgrade_request_seen}
 use Rattle.js_upgrade_command.proofs.Ending.{misuse_above, misuse_asked, misuse_named, misuse_nonzero, misused_ends}
-use Rattle.js_upgrade_command.proofs.Ending.{stop_above, stop_named}
 use Rattle.js_upgrade_command.proofs.program.upgrade_command.Goals as goal
 
 -- ---- the words ask for nothing
