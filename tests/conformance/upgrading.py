@@ -1,5 +1,5 @@
-"""Tests of older drafts: jschema-upgrade upgrades the schema of each group, and what it refers to, and the program
-judges by the result."""
+"""Tests of older drafts, or with numbers rewritten: jschema-upgrade upgrades the schema of each group, and what it
+refers to, and the program judges by the result."""
 import os
 import shutil
 
@@ -12,11 +12,11 @@ SCHEMA = "https://suite.example/0"
 
 
 class Upgrade(Program):
-    """A built jschema-upgrade, for documents that are of one dialect where they name none, as the options say."""
+    """A built jschema-upgrade, for documents that are of one dialect where they name none: 2020-12 if it is None."""
 
     def __init__(self, given, folder, dialect):
         super().__init__(given.upgrade, folder, given.seconds)
-        self.options = ["--default-dialect", dialect, "--numbers", given.numbers]
+        self.options = ["--numbers", given.numbers, *(["--default-dialect", dialect] if dialect else [])]
         os.makedirs(folder)
 
     def upgraded(self, schema, documents):
@@ -41,10 +41,11 @@ class Upgrade(Program):
             raise ProgramFailed(f"jschema-upgrade writes what isn't JSON: {error}") from error
 
 
-def judge_older_file(program: Program, upgrade: Upgrade, suite: Suite, name):
-    """Each test of a file of an older draft: a process for each group, since what refers to its schema by its URI has
-    to find it."""
+def judge_upgraded_file(program: Program, upgrade: Upgrade, suite: Suite, name):
+    """Each test of a file whose schemas are upgraded: a process for each group, since what refers to its schema by its
+    URI has to find it."""
     judged = []
+    file = os.path.join(suite.draft.folder, name) if suite.draft.dialect else name
     for number, group in enumerate(read_json(os.path.join(suite.tests(), name))):
         documents = needed(group["schema"], suite.documents)
         made = upgrade.upgraded(group["schema"], documents)
@@ -54,6 +55,5 @@ def judge_older_file(program: Program, upgrade: Upgrade, suite: Suite, name):
             schema, documents = made
             group = {**group, "schema": schema}
             outcomes = program.outcomes([(schema, [it["data"] for it in group["tests"]])], documents)[0]
-        file = os.path.join(suite.draft.folder, name)
         judged += [judged_test(program, file, number, t, group, documents, it) for t, it in enumerate(outcomes)]
     return judged

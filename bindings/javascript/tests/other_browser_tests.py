@@ -1,6 +1,9 @@
 """The rows through the module, in Chromium and in Firefox; and that the playground works in Firefox too."""
+import contextlib
 import json
+import os
 import shutil
+import signal
 import subprocess
 import tempfile
 import time
@@ -68,6 +71,14 @@ def cases_of(line):
     return f"{json.dumps(case)}\n"
 
 
+def end_group(job):
+    """Ends a browser with the processes that it started, which would write into its folder while that is removed."""
+    job.terminate()
+    job.wait()
+    with contextlib.suppress(ProcessLookupError):
+        os.killpg(job.pid, signal.SIGKILL)
+
+
 class Rows(unittest.TestCase):
     """Every row that is a check, in every format, byte for byte."""
 
@@ -87,12 +98,11 @@ class Rows(unittest.TestCase):
             self.assertTrue(server.posted, "the page posted nothing")
             return server.posted[0]
         finally:
-            job.terminate()
-            job.wait()
+            end_group(job)
             ended(server)
 
     def judge(self, *words):
-        with tempfile.TemporaryDirectory() as folder:
+        with tempfile.TemporaryDirectory(ignore_cleanup_errors=True) as folder:
             result = self.result([it.format(folder=folder) for it in words], folder)
         self.assertEqual(result["failed"], [])
         self.assertGreater(result["passed"], 1000)
