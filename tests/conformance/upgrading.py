@@ -16,7 +16,8 @@ class Upgrade(Program):
 
     def __init__(self, given, folder, dialect):
         super().__init__(given.upgrade, folder, given.seconds)
-        self.options = ["--numbers", given.numbers, *(["--default-dialect", dialect] if dialect else [])]
+        numbers = ["--numbers", "exact"] if given.numbers == "exact" else []
+        self.options = [*numbers, *(["--default-dialect", dialect] if dialect else [])]
         os.makedirs(folder)
 
     def upgraded(self, schema, documents):
