@@ -17,7 +17,7 @@ use std::alloc::AllocError;
 
 /// The value, with the schemas that it holds rewritten.
 #[cycle(rewriting)]
-pub(crate) fn put(
+pub(crate) fn put_rewritten(
     writer: &mut Writer,
     holding: SchemaHolding,
     dialect: Dialect,
@@ -89,7 +89,7 @@ fn put_keyword(
     match change {
         NumberChange::Stays => {
             writer.key(name)?;
-            put(
+            put_rewritten(
                 writer,
                 argument_holding(change_in(dialect, name)),
                 dialect,
@@ -113,7 +113,7 @@ fn put_named(
     writer.begin_object()?;
     for member in members {
         writer.key(member.0)?;
-        put(writer, SchemaHolding::One, dialect, &member.1)?;
+        put_rewritten(writer, SchemaHolding::One, dialect, &member.1)?;
     }
     writer.end_object()
 }
@@ -130,7 +130,7 @@ fn put_listed(
 {
     writer.begin_array()?;
     for item in items {
-        put(writer, SchemaHolding::One, dialect, item)?;
+        put_rewritten(writer, SchemaHolding::One, dialect, item)?;
     }
     writer.end_array()
 }

@@ -12,7 +12,7 @@ ghost use Rattle.js_numbers.specs.declared.error.TextError.TheVariants.{Memory, 
 
 use crate::error::TextError;
 use crate::instance::exact_instance;
-use crate::rewriting::put;
+use crate::rewriting::put_rewritten;
 use crate::schema_dialect::root_dialect;
 use js_upgrade::{Dialect, SchemaHolding};
 use json::{Scratch, Value, Writer};
@@ -59,7 +59,7 @@ fn root_text(alloc: Global, assumed: Dialect, root: &Value<'_>) -> Result<Vec<u8
     ensures utf8 { IfOk result (λ exact. IsUtf8 exact.items) }
 {
     let mut writer = Writer::new(Vec::new(alloc));
-    put(
+    put_rewritten(
         &mut writer,
         SchemaHolding::One,
         root_dialect(assumed, root),

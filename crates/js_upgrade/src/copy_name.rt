@@ -71,12 +71,12 @@ pub(crate) fn free_name(
         ≡ free_name (copies_seen definitions.entry) pointer.now) }
 {
     if let Some(name) = kept_name(pointer.tokens()) {
-        if !is_among(definitions, name) {
+        if !has_member_named(definitions, name) {
             return Ok(Some(String::from_str(alloc, name)?));
         }
     }
     let text = pointer.text(alloc)?;
-    if is_among(definitions, text.as_str()) {
+    if has_member_named(definitions, text.as_str()) {
         Ok(None)
     } else {
         Ok(Some(text))
@@ -103,7 +103,7 @@ fn copied_name(alloc: Global, copies: &Members, pointer: &Pointer) -> Result<Opt
     }
 }
 
-pub(crate) fn is_among(members: Option<&Members>, name: &str) -> bool
+pub(crate) fn has_member_named(members: Option<&Members>, name: &str) -> bool
     ensures { result ≡ has_name name.now (copies_seen members.entry) }
 {
     match members {

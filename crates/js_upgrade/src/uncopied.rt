@@ -6,7 +6,7 @@ ghost use Rattle.js_upgrade.specs.Fault.{in_original, place_by, place_in};
 ghost use Rattle.js_upgrade.specs.Seen.{copies_seen, source_of};
 
 use crate::copies::copies_at;
-use crate::copy_name::{definitions_name, is_among, place_named};
+use crate::copy_name::{definitions_name, has_member_named, place_named};
 use crate::dialect::Dialect;
 use crate::documents::{SourceDocument, source_dialect};
 use crate::fault::UpgradeFault;
@@ -110,7 +110,7 @@ fn uncopied_below(
 {
     match below.split_first() {
         Some((name, rest)) => {
-            if keyword == definitions_name(dialect) && is_among(copies, name.as_str()) {
+            if keyword == definitions_name(dialect) && has_member_named(copies, name.as_str()) {
                 original_place(alloc, name.as_str(), rest)
             } else {
                 Ok(None)

@@ -21,8 +21,8 @@ put_keyword-returns-in_default t c =
     subst (λ (h : NumberChange). Appends c.put_change.result c.args.writer.now c.put_change.new.writer
     (named_tokens (members_made h name v new))) c.change-change.ensures.same (c.put_change.ensures new)
 
-pub put_listed-put-requires : goal.put_listed-put-requires
-put_listed-put-requires t c =
+pub put_listed-put_rewritten-requires : goal.put_listed-put_rewritten-requires
+put_listed-put_rewritten-requires t c =
     let l = c.loop-item in
     let xs = c.deref-item-items.result.now in
     let x = c.item-item.result in
@@ -37,8 +37,8 @@ put_listed-put-requires t c =
     (item_smaller xs l.item-index x (omega arith))) in
     (omega (arith, smaller, c.decreases), numbers)
 
-pub put_named-put-requires : goal.put_named-put-requires
-put_named-put-requires t c =
+pub put_named-put_rewritten-requires : goal.put_named-put_rewritten-requires
+put_named-put_rewritten-requires t c =
     let l = c.loop-member in
     let xs = c.deref-member-items.result.now in
     let x = c.member-item.result in

@@ -4,8 +4,8 @@ use Rattle.json.specs.Value.{items_view, members_view, value_view}
 use Rattle.js_numbers.specs.Schema.{each_listed, each_named, keywords}
 use Rattle.js_numbers.proofs.rewriting.+rewriting.Given as goal
 
-abbrev pub decreases-put : goal.decreases-put
-decreases-put l = 2 * length (json_tokens (value_view l.value.now))
+abbrev pub decreases-put_rewritten : goal.decreases-put_rewritten
+decreases-put_rewritten l = 2 * length (json_tokens (value_view l.value.now))
 
 abbrev pub decreases-put_keyword : goal.decreases-put_keyword
 decreases-put_keyword l = 2 * length (json_tokens (value_view l.value.now)) + 1
