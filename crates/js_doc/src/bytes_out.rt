@@ -39,6 +39,7 @@ impl Out for Vec<u8> {
 
     ghost progress = { λ v. record { gone = Some v.items; calls = 0; stopped = true } };
 
+    #[inline(always)]
     fn put(&mut self, bytes: &[u8]) -> Result<(), Stopped> {
         self.extend_from_slice(bytes)?;
         Ok(())

@@ -22,9 +22,9 @@ use std::alloc::Global;
 pub fn text(alloc: Global, doc: &Doc) -> Result<String, Memory>
     ensures { IfOk result (λ s. string_bytes s ≡ compact (value_of doc.now)) }
 {
-    let mut out = String::new(alloc);
+    let mut out = Vec::new(alloc);
     put_text(doc, &mut out)?;
-    Ok(out)
+    String::from_utf8(out).map_err(|_| Memory)
 }
 
 /// Puts the bytes of the value's compact text. It takes no memory.

@@ -1,5 +1,5 @@
 //! A value as a line of text.
-ghost use Rattle.std.specs.Prelude.{◌≡◌, ◌++◌, IfOk, OnOk, string_bytes};
+ghost use Rattle.std.specs.Prelude.{◌≡◌, ◌++◌, IfOk, OnOk};
 ghost use Rattle.js_doc.specs.Seen.{value_of};
 ghost use Rattle.js_output.specs.Values.{value_line};
 
@@ -10,10 +10,10 @@ use std::alloc::Global;
 ///
 /// # Errors
 /// `Memory`.
-pub fn value_line(alloc: Global, value: &Doc) -> Result<String, Memory>
-    ensures { IfOk result (λ line. string_bytes line ≡ value_line (value_of value.now)) }
+pub fn value_line(alloc: Global, value: &Doc) -> Result<Vec<u8>, Memory>
+    ensures { IfOk result (λ line. line.items ≡ value_line (value_of value.now)) }
 {
-    let mut line = String::new(alloc);
+    let mut line = Vec::new(alloc);
     push_value_line(&mut line, value)?;
     Ok(line)
 }
@@ -22,10 +22,10 @@ pub fn value_line(alloc: Global, value: &Doc) -> Result<String, Memory>
 ///
 /// # Errors
 /// `Memory`. A prefix of them may have been added.
-pub fn push_value_line(text: &mut String, value: &Doc) -> Result<(), Memory>
-    ensures { OnOk result (string_bytes text.new ≡ string_bytes text.old ++ value_line (value_of value.now)) }
+pub fn push_value_line(text: &mut Vec<u8>, value: &Doc) -> Result<(), Memory>
+    ensures { OnOk result (text.new.items ≡ text.old.items ++ value_line (value_of value.now)) }
 {
     put_text(value, text)?;
-    text.push('\n')?;
+    text.push(b'\n')?;
     Ok(())
 }

@@ -1,6 +1,5 @@
 //! Upgraded documents, written.
-ghost use Rattle.std.specs.Prelude.{◌≡◌, ◌≢◌, ◌++◌, ◌∷◌, [], IfOk, IfErr, OnOk, OnErr, None, true, false};
-ghost use Rattle.std.specs.Prelude.{map, string_bytes};
+ghost use Rattle.std.specs.Prelude.{◌≡◌, ◌≢◌, ◌++◌, ◌∷◌, [], IfOk, IfErr, OnOk, OnErr, None, true, false, map};
 ghost use Rattle.std.specs.Io.KnownBytes.{Appends};
 ghost use Rattle.js_doc.specs.Seen.{value_of};
 ghost use Rattle.js_upgrade_command.specs.Names.{path_in};
@@ -62,7 +61,7 @@ fn write_out<W: Write>(
         (value_lines (map value_of documents.now)) × (out.new.failed ≡ true)) }
 {
     let lines = value_lines(alloc, documents)?;
-    write_text(lines.as_bytes(), out)?;
+    write_text(lines.as_slice(), out)?;
     Ok(())
 }
 
@@ -77,10 +76,10 @@ fn write_text<W: Write>(text: &[u8], out: &mut Sink<W>) -> Result<(), Fault>
     out.flush()
 }
 
-fn value_lines(alloc: Global, documents: &[Doc]) -> Result<String, Memory>
-    ensures { IfOk result (λ text. string_bytes text ≡ value_lines (map value_of documents.now)) }
+fn value_lines(alloc: Global, documents: &[Doc]) -> Result<Vec<u8>, Memory>
+    ensures { IfOk result (λ text. text.items ≡ value_lines (map value_of documents.now)) }
 {
-    let mut lines = String::new(alloc);
+    let mut lines = Vec::new(alloc);
     for document in documents {
         push_value_line(&mut lines, document)?;
     }
@@ -133,5 +132,5 @@ fn put_one<P: Folder>(
 {
     let to = path_in(alloc, path, file)?;
     let line = value_line(alloc, document)?;
-    folder.put(to.as_str(), line.as_bytes())
+    folder.put(to.as_str(), line.as_slice())
 }

@@ -26,7 +26,6 @@ pub(crate) fn show_text(
     let Some(document) = bundle.documents().get(number) else {
         return Ok(Status::Misused);
     };
-    let line = value_line(alloc, &document.root)?;
-    said.text = line.into_bytes();
+    said.text = value_line(alloc, &document.root)?;
     Ok(Status::Done)
 }

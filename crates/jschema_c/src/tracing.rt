@@ -1,6 +1,5 @@
 //! Where parts of an upgraded document come from, as C sees it.
 ghost use Rattle.std.specs.Prelude.{◌≡◌, [], None, IfErr, IfOk, Ok, map, option_map};
-ghost use Rattle.std.specs.Prelude.{string_bytes};
 ghost use Rattle.js_doc.specs.Reading.{IsReadAs};
 ghost use Rattle.js_doc.specs.Seen.{value_of};
 ghost use Rattle.jschema_c.specs.LastCall.{text_in};
@@ -38,7 +37,7 @@ pub(crate) fn traced(
     };
     let root = root_of(alloc, document)?;
     let list = origins_text(alloc, assumed, &root, parsed.as_slice())?;
-    said.text = list.into_bytes();
+    said.text = list;
     Ok(Status::Done)
 }
 
@@ -61,8 +60,8 @@ fn origins_text(
     assumed: Dialect,
     root: &Doc,
     pointers: &[Pointer],
-) -> Result<String, Memory>
-    ensures { IfOk result (λ s. string_bytes s ≡ origins_text assumed (value_of root.now) pointers.now) }
+) -> Result<Vec<u8>, Memory>
+    ensures { IfOk result (λ v. v.items ≡ origins_text assumed (value_of root.now) pointers.now) }
 {
     let origins = origins(alloc, assumed, root, pointers)?;
     value_line(alloc, &Doc::List(Items::new(origins)))

@@ -1,4 +1,4 @@
-use Rattle.std.proofs.Common.{◌≡◌, ◌++◌, drop, map, string_bytes}
+use Rattle.std.proofs.Common.{◌≡◌, ◌++◌, drop, map}
 use Rattle.js_doc.specs.Seen.{value_of}
 use Rattle.js_upgrade_command.specs.Outputs.{value_lines}
 use Rattle.js_upgrade_command.proofs.outputs.value_lines.Given as goal
@@ -6,5 +6,5 @@ use Rattle.js_upgrade_command.proofs.outputs.value_lines.Given as goal
 -- those that were added and those left make the whole
 abbrev pub invariant-loop-document : goal.invariant-loop-document
 invariant-loop-document l =
-    string_bytes l.lines ++ value_lines (map value_of (drop l.document-index l.documents))
+    l.lines.items ++ value_lines (map value_of (drop l.document-index l.documents))
     ≡ value_lines (map value_of l.documents)
