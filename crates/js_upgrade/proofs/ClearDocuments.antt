@@ -1,13 +1,14 @@
 -- Documents that are clear, and have no copies: the resources are their roots.
-use Rattle.std.proofs.Common.{◌≡◌, ℕ, ◌+◌, List, [], ◌∷◌, ◌++◌, Bool, true, false, Some, None, refl, sym, ap, ◌∙◌}
+use Rattle.std.proofs.Common.{◌≡◌, ℕ, ◌+◌, List, [], ◌∷◌, ◌++◌, Bool, true, false, Some, None, refl, sym, ap, ◌∙◌, codes}
 use Rattle.std.specs.Prelude.{◌||◌, option_map}
 use Rattle.std.specs.List.{list_any}
 use Rattle.std.proofs.lemmas.List.{append-nil}
 use Rattle.url.specs.Parts.{Parts}
+use Rattle.js_doc.specs.Members.{get}
 use Rattle.js_doc.specs.Parts.{member_list}
 use Rattle.js_doc.specs.Value.{Value, object, Members, Named, members}
 use Rattle.js_doc.proofs.PartLists.{member_list-members, members-member_list}
-use Rattle.js_upgrade.specs.Copies.{Copies}
+use Rattle.js_upgrade.specs.Copies.{Copies, all_copied, copied_by, copied_for, members_copied, sources_copied}
 use Rattle.js_upgrade.specs.Dialect.{first_of}
 use Rattle.js_upgrade.specs.Documents.{SourceDocument, Sources, all_resources, resources_by, source_dialect}
 use Rattle.js_upgrade.specs.Documents.{source_resources}
@@ -16,7 +17,7 @@ use Rattle.js_upgrade.specs.Fault.{schema_fault}
 use Rattle.js_upgrade.specs.Resource.{Resource, begun, document_resources, identity, member_resources, own_base}
 use Rattle.js_upgrade.specs.Resource.{own_resources, resource_under}
 use Rattle.js_upgrade.specs.Upgrade.{holding_in, own_dialect}
-use Rattle.js_upgrade.specs.code.Clear.{AreClear, IsClearDocument, IsClearRoot}
+use Rattle.js_upgrade.specs.code.Clear.{AreClear, CopiesNothing, IsClearDocument, IsClearRoot}
 use Rattle.js_upgrade.specs.code.Clear.{own_root, roots_found, source_roots}
 use Rattle.js_upgrade.specs.code.Copied.{has_some}
 use Rattle.js_upgrade.specs.declared.dialect.Dialect.{Dialect}
@@ -60,15 +61,17 @@ no_own_root d own uri siblings root is known none =
     ∙ ap (λ e. begun d (object (members siblings)) (identity e uri siblings)) (sym known)
     ∙ ap (begun d (object (members siblings))) (sym none)
 
-module _ (all : List Resource) where
+module _ (roots all : List Resource) where
   -- a root of which the rest is clear
-  root_is : (d : Dialect) (uri : Parts) (siblings : Members) → IsClearRoot all d uri (member_list siblings)
+  root_is : (d : Dialect) (uri : Parts) (siblings : Members) → IsClearRoot roots all d uri (member_list siblings)
       → (document_resources [] d uri (object siblings)
       ≡ resource_under d (object siblings) uri ∷ own_root d uri (object siblings))
       × (fault_in AnyOfThese all One d uri (object siblings) ≡ None)
-  root_is d uri siblings (own, (faultless, (nothing, below))) = (
+      × ((copies : Copies) → all_copied roots d uri (object siblings) copies ≡ copies)
+  root_is d uri siblings (own, (faultless, (here, (nothing, below, kept)))) = (
     ap (λ rs. resource_under d (object siblings) uri ∷ rs) (nothing_more own nothing),
     faults_by own faultless below,
+    kept_by own here kept,
   )
     where
       nothing_more : own_dialect d (member_list siblings) ≡ d
@@ -98,8 +101,21 @@ module _ (all : List Resource) where
           (own_base d uri (member_list siblings)) ms) (sym (members-member_list siblings))
           ∙ below
 
+      kept_by : own_dialect d (member_list siblings) ≡ d
+          → CopiesNothing roots (own_base d uri (member_list siblings)) (get (codes "$ref") (member_list siblings))
+          → ((copies : Copies) → members_copied roots d (own_base d uri (member_list siblings))
+          (members (member_list siblings)) copies ≡ copies)
+          → (copies : Copies) → all_copied roots d uri (object siblings) copies ≡ copies
+      kept_by own here kept copies =
+          let ns = member_list siblings in
+          let base = own_base d uri ns in
+          ap (λ e. members_copied roots e (own_base e uri ns) siblings
+          (copied_for roots (own_base e uri ns) (get (codes "$ref") ns) copies)) own
+          ∙ ap (members_copied roots d base siblings) (here copies)
+          ∙ ap (λ ms. members_copied roots d base ms copies) (sym (members-member_list siblings)) ∙ kept copies
+
   pub document_is : (s : SourceDocument) (d : Dialect) (siblings : Members) → source_dialect s ≡ Some d
-      → s.root ≡ object siblings → IsClearRoot all d s.uri (member_list siblings) → IsClearDocument all s
+      → s.root ≡ object siblings → IsClearRoot roots all d s.uri (member_list siblings) → IsClearDocument roots all s
   document_is s d siblings known root clear =
       let both = root_is d s.uri siblings clear in (
         ap (resources_by [] s) known ∙ ap (λ v. document_resources [] d s.uri v) root ∙ both.0
@@ -107,14 +123,19 @@ module _ (all : List Resource) where
             ∙ ap (λ v. resource_under d v s.uri ∷ own_root d s.uri v) root),
         ap (fault_by_dialect AnyOfThese all s) known ∙ ap (λ v. fault_in AnyOfThese all One d s.uri v) root
             ∙ both.1,
+        λ copies. ap (λ o. copied_by roots s o copies) known ∙ ap (λ v. all_copied roots d s.uri v copies) root
+            ∙ both.2 copies,
       )
 
   -- ---- all of them
 
   -- one more
-  pub next_clear : (s : SourceDocument) (ss : Sources) (n : ℕ) → IsClearDocument all s → AreClear all (n + 1) ss
-      → AreClear all n (s ∷ ss)
-  next_clear s ss n one rest = (
-    ap (λ rs. rs ++ all_resources [] ss) one.0 ∙ ap (λ rs. source_roots s ++ rs) rest.0,
-    ap (λ o. first_of (option_map (in_document n) o) (documents_fault AnyOfThese all (n + 1) ss)) one.1 ∙ rest.1,
+  pub next_clear : (s : SourceDocument) (ss : Sources) (n : ℕ) → IsClearDocument roots all s
+      → AreClear roots all (n + 1) ss → AreClear roots all n (s ∷ ss)
+  next_clear s ss n (own, faultless, here) ((rest, below), kept) = (
+    (
+      ap (λ rs. rs ++ all_resources [] ss) own ∙ ap (λ rs. source_roots s ++ rs) rest,
+      ap (λ o. first_of (option_map (in_document n) o) (documents_fault AnyOfThese all (n + 1) ss)) faultless ∙ below,
+    ),
+    λ copies. ap (sources_copied roots ss) (here copies) ∙ kept copies,
   )

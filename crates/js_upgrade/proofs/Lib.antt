@@ -17,6 +17,7 @@ pub mod FaultExamples
 pub mod FirstFault
 pub mod FirstNames
 pub mod Fragments
+pub mod FreeValues
 pub mod Gathered
 pub mod Holders
 pub mod InOrder

@@ -10,6 +10,7 @@ pub mod Local
 pub mod Onward
 pub mod Placed
 pub mod Pushed
+pub mod ReferenceFree
 pub mod Table
 pub mod Usual
 pub mod UsualRoot

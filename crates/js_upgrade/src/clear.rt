@@ -1,99 +1,166 @@
-//! Values that are clear: no schema in them has an identifier, or a fault. In the drafts before 2019-09 that is seen at
-//! `$schema`, the identifier and `$ref` alone.
+//! Values that are clear: no schema in them has an identifier, or a fault, and no reference leads to what is copied. In
+//! most documents that is seen without following a reference.
 ghost use Rattle.std.specs.Prelude.{◌≡◌, [], None, option_map, true};
 ghost use Rattle.js_doc.specs.Seen.{value_of};
 ghost use Rattle.js_doc.specs.Value.{items, members, object};
-ghost use Rattle.js_upgrade.specs.Fault.{reference_kind, schema_fault};
-ghost use Rattle.js_upgrade.specs.Resource.{identity};
-ghost use Rattle.js_upgrade.specs.Upgrade.{holding_in, own_dialect};
-ghost use Rattle.js_upgrade.specs.code.Clear.{AreClearItems, AreClearMembers, IsAnonymous, IsClearValue, IsClearSchema};
+ghost use Rattle.js_upgrade.specs.Fault.{reference_kind};
+ghost use Rattle.js_upgrade.specs.Upgrade.{holding_in};
+ghost use Rattle.js_upgrade.specs.code.Clear.{AreClearItems, AreClearMembers, CopiesNothing, IsAnonymous, IsBare};
+ghost use Rattle.js_upgrade.specs.code.Clear.{IsClearSchema, IsClearValue, IsFaultlessElse, is_some_text};
 ghost use Rattle.js_upgrade.specs.code.Table.{all_of};
-ghost use Rattle.js_upgrade.specs.declared.holding.SchemaHolding.TheVariants.{One};
+ghost use Rattle.js_upgrade.specs.declared.holding.SchemaHolding.TheVariants.{Named, One};
 
-use crate::definitions::usual_target;
+use crate::definitions::{is_usual, usual_target};
 use crate::dialect::Dialect;
 use crate::holding::{SchemaHolding, holding_by_change};
+use crate::kinds::{anchor_kind, contains_kind, recursive_kind, unevaluated_kind};
 use crate::lookup::found;
+use crate::reference_free::is_reference_free;
+use crate::resource_table::ResourceTable;
 use crate::schema::{change_beside, hides, identifier};
 use crate::scope::Scope;
 use js_doc::{Doc, Items, Members};
 
-/// Whether a value that holds schemas is known to be clear.
+/// Whether a value that holds schemas is known to be clear. `roots` are those that copies are made of.
 #[cycle(clear)]
 pub(crate) fn is_clear(
+    roots: Scope<'_>,
     scope: Scope<'_>,
     holding: SchemaHolding,
     dialect: Dialect,
     value: &Doc,
 ) -> bool
-    ensures { result ≡ true → IsClearValue (all_of scope.entry.resources.now) holding dialect scope.entry.base.now
-        (value_of value.now) }
+    requires { roots.base.now ≡ scope.base.now }
+    ensures { result ≡ true → IsClearValue (all_of roots.entry.resources.now) (all_of scope.entry.resources.now)
+        holding dialect scope.entry.base.now (value_of value.now) }
 {
     match value {
         Doc::Members(members) => match holding {
-            SchemaHolding::One => is_clear_schema(scope, dialect, members),
-            SchemaHolding::OneOrListed => is_clear_schema(scope, dialect, members),
-            SchemaHolding::Named => are_clear_members(scope, dialect, members),
-            SchemaHolding::Listed => true,
-            SchemaHolding::Nothing => true,
+            SchemaHolding::One => is_clear_schema(roots, scope, dialect, members),
+            SchemaHolding::OneOrListed => is_clear_schema(roots, scope, dialect, members),
+            SchemaHolding::Named => is_clear_object(roots, scope, dialect, members),
+            SchemaHolding::Listed => is_reference_free(value),
+            SchemaHolding::Nothing => is_reference_free(value),
         },
         Doc::List(items) => match holding {
-            SchemaHolding::Listed => are_clear_items(scope, dialect, items),
-            SchemaHolding::OneOrListed => are_clear_items(scope, dialect, items),
-            SchemaHolding::One => true,
-            SchemaHolding::Named => true,
-            SchemaHolding::Nothing => true,
+            SchemaHolding::Listed => are_clear_items(roots, scope, dialect, items),
+            SchemaHolding::OneOrListed => are_clear_items(roots, scope, dialect, items),
+            SchemaHolding::One => is_reference_free(value),
+            SchemaHolding::Named => is_reference_free(value),
+            SchemaHolding::Nothing => is_reference_free(value),
         },
         _ => true,
     }
 }
 
 #[cycle(clear)]
-fn is_clear_schema(scope: Scope<'_>, dialect: Dialect, siblings: &Members) -> bool
-    ensures { result ≡ true → IsClearValue (all_of scope.entry.resources.now) One dialect scope.entry.base.now
-        (object (members siblings.now)) }
+fn is_clear_schema(roots: Scope<'_>, scope: Scope<'_>, dialect: Dialect, siblings: &Members) -> bool
+    requires { roots.base.now ≡ scope.base.now }
+    ensures { result ≡ true → IsClearValue (all_of roots.entry.resources.now) (all_of scope.entry.resources.now)
+        One dialect scope.entry.base.now (object (members siblings.now)) }
 {
-    is_clear_alone(scope, dialect, siblings) && are_clear_keywords(scope, dialect, siblings)
+    is_clear_alone(roots, scope, dialect, siblings)
+        && are_clear_keywords(roots, scope, dialect, siblings)
+}
+
+// An object that holds schemas under names.
+#[cycle(clear)]
+fn is_clear_object(roots: Scope<'_>, scope: Scope<'_>, dialect: Dialect, schemas: &Members) -> bool
+    requires { roots.base.now ≡ scope.base.now }
+    ensures { result ≡ true → IsClearValue (all_of roots.entry.resources.now) (all_of scope.entry.resources.now)
+        Named dialect scope.entry.base.now (object (members schemas.now)) }
+{
+    is_bare(roots, dialect, schemas) && are_clear_members(roots, scope, dialect, schemas)
 }
 
 // The schema without those that it holds.
-fn is_clear_alone(scope: Scope<'_>, dialect: Dialect, siblings: &Members) -> bool
-    ensures { result ≡ true → IsClearSchema (all_of scope.entry.resources.now) dialect scope.entry.base.now
-        siblings.now }
+fn is_clear_alone(roots: Scope<'_>, scope: Scope<'_>, dialect: Dialect, siblings: &Members) -> bool
+    requires { roots.base.now ≡ scope.base.now }
+    ensures { result ≡ true → IsClearSchema (all_of roots.entry.resources.now) (all_of scope.entry.resources.now)
+        dialect scope.entry.base.now siblings.now }
 {
-    is_anonymous(dialect, siblings) && refers_usually(scope, found(siblings, "$ref"))
+    is_anonymous(dialect, siblings)
+        && (is_faultless_else(scope.resources, dialect, siblings)
+            && refers_usually(roots, scope, found(siblings, "$ref")))
 }
 
 // Neither `$schema` nor an identifier.
 fn is_anonymous(dialect: Dialect, siblings: &Members) -> bool
     ensures { result ≡ true → IsAnonymous dialect siblings.now }
 {
-    dialect.is_before(Dialect::Draft2019)
-        && (found(siblings, "$schema").is_none() && found(siblings, identifier(dialect)).is_none())
+    found(siblings, "$schema").is_none() && found(siblings, identifier(dialect)).is_none()
+}
+
+// No fault but at these and at `$ref`.
+fn is_faultless_else(resources: &ResourceTable<'_>, dialect: Dialect, siblings: &Members) -> bool
+    ensures { result ≡ true → IsFaultlessElse (all_of resources.now) dialect siblings.now }
+{
+    recursive_kind(dialect, siblings).is_none()
+        && (contains_kind(dialect, siblings).is_none()
+            && (anchor_kind(resources, dialect, siblings).is_none()
+                && unevaluated_kind(dialect, siblings).is_none()))
 }
 
 // Whether there is no reference, or a usual one.
-fn refers_usually(scope: Scope<'_>, found: Option<&Doc>) -> bool
-    ensures { result ≡ true → reference_kind (all_of scope.entry.resources.now) scope.entry.base.now
+fn refers_usually(roots: Scope<'_>, scope: Scope<'_>, found: Option<&Doc>) -> bool
+    requires { roots.base.now ≡ scope.base.now }
+    ensures leads { result ≡ true → reference_kind (all_of scope.entry.resources.now) scope.entry.base.now
         (option_map (λ d. value_of d.now) found.entry) ≡ None }
+    ensures copies { result ≡ true → CopiesNothing (all_of roots.entry.resources.now) scope.entry.base.now
+        (option_map (λ d. value_of d.now) found.entry) }
 {
     match found {
         None => true,
-        Some(Doc::Text(text)) => usual_target(scope, text.as_str()).is_some(),
+        Some(Doc::Text(text)) => {
+            let reference = text.as_str();
+            usual_target(scope, reference).is_some() && is_usual(roots, reference)
+        }
         Some(_) => false,
     }
 }
 
+/// Whether a reference, if there is one, is known to lead to nothing that is copied.
+pub(crate) fn copies_nothing(roots: Scope<'_>, found: Option<&Doc>) -> bool
+    ensures { result ≡ true → CopiesNothing (all_of roots.entry.resources.now) roots.entry.base.now
+        (option_map (λ d. value_of d.now) found.entry) }
+{
+    match found {
+        None => true,
+        Some(Doc::Text(text)) => is_usual(roots, text.as_str()),
+        Some(_) => true,
+    }
+}
+
+// Whether it is taken for no schema with an identifier or a reference: its values aren't texts.
+fn is_bare(roots: Scope<'_>, dialect: Dialect, schemas: &Members) -> bool
+    ensures { result ≡ true → IsBare (all_of roots.entry.resources.now) dialect roots.entry.base.now schemas.now }
+{
+    !is_text(found(schemas, "$schema"))
+        && (!is_text(found(schemas, identifier(dialect))) && !is_text(found(schemas, "$ref")))
+}
+
+fn is_text(found: Option<&Doc>) -> bool
+    ensures { result ≡ is_some_text (option_map (λ d. value_of d.now) found.entry) }
+{
+    matches!(found, Some(Doc::Text(_)))
+}
+
 /// Whether the schemas in the keywords of one are known to be clear.
 #[cycle(clear)]
-pub(crate) fn are_clear_keywords(scope: Scope<'_>, dialect: Dialect, siblings: &Members) -> bool
-    ensures { result ≡ true → AreClearMembers (all_of scope.entry.resources.now) (holding_in dialect siblings.now)
-        dialect scope.entry.base.now (members siblings.now) }
+pub(crate) fn are_clear_keywords(
+    roots: Scope<'_>,
+    scope: Scope<'_>,
+    dialect: Dialect,
+    siblings: &Members,
+) -> bool
+    requires { roots.base.now ≡ scope.base.now }
+    ensures { result ≡ true → AreClearMembers (all_of roots.entry.resources.now) (all_of scope.entry.resources.now)
+        (holding_in dialect siblings.now) dialect scope.entry.base.now (members siblings.now) }
 {
     let hidden = hides(dialect, siblings);
     for (name, argument) in siblings.pairs() {
         let holding = holding_by_change(change_beside(hidden, dialect, name.as_str()));
-        if !is_clear(scope, holding, dialect, argument) {
+        if !is_clear(roots, scope, holding, dialect, argument) {
             return false;
         }
     }
@@ -101,12 +168,18 @@ pub(crate) fn are_clear_keywords(scope: Scope<'_>, dialect: Dialect, siblings: &
 }
 
 #[cycle(clear)]
-fn are_clear_members(scope: Scope<'_>, dialect: Dialect, schemas: &Members) -> bool
-    ensures { result ≡ true → AreClearMembers (all_of scope.entry.resources.now) (λ name. One) dialect
-        scope.entry.base.now (members schemas.now) }
+fn are_clear_members(
+    roots: Scope<'_>,
+    scope: Scope<'_>,
+    dialect: Dialect,
+    schemas: &Members,
+) -> bool
+    requires { roots.base.now ≡ scope.base.now }
+    ensures { result ≡ true → AreClearMembers (all_of roots.entry.resources.now) (all_of scope.entry.resources.now)
+        (λ name. One) dialect scope.entry.base.now (members schemas.now) }
 {
     for (_, schema) in schemas.pairs() {
-        if !is_clear(scope, SchemaHolding::One, dialect, schema) {
+        if !is_clear(roots, scope, SchemaHolding::One, dialect, schema) {
             return false;
         }
     }
@@ -114,13 +187,14 @@ fn are_clear_members(scope: Scope<'_>, dialect: Dialect, schemas: &Members) -> b
 }
 
 #[cycle(clear)]
-fn are_clear_items(scope: Scope<'_>, dialect: Dialect, schemas: &Items) -> bool
-    ensures { result ≡ true → AreClearItems (all_of scope.entry.resources.now) dialect scope.entry.base.now 0
-        (items schemas.now) }
+fn are_clear_items(roots: Scope<'_>, scope: Scope<'_>, dialect: Dialect, schemas: &Items) -> bool
+    requires { roots.base.now ≡ scope.base.now }
+    ensures { result ≡ true → AreClearItems (all_of roots.entry.resources.now) (all_of scope.entry.resources.now)
+        dialect scope.entry.base.now 0 (items schemas.now) }
 {
     let docs = schemas.as_slice();
     for i in 0..docs.len() {
-        if !is_clear(scope, SchemaHolding::One, dialect, &docs[i]) {
+        if !is_clear(roots, scope, SchemaHolding::One, dialect, &docs[i]) {
             return false;
         }
     }

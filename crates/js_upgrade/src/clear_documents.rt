@@ -1,15 +1,19 @@
-//! Documents that are clear: their roots alone are resources, and they have no fault.
-ghost use Rattle.std.specs.Prelude.{◌≡◌, ◌++◌, IfOk, OnOk, map, true};
+//! Documents that are clear: their roots alone are resources, and they have no fault and no copies.
+ghost use Rattle.std.specs.Prelude.{◌≡◌, ◌++◌, IfOk, None, OnOk, false, map, true};
 ghost use Rattle.js_doc.specs.Seen.{value_of};
+ghost use Rattle.js_upgrade.specs.Fault.{schema_fault};
 ghost use Rattle.js_upgrade.specs.Seen.{resource_seen, source_of};
-ghost use Rattle.js_upgrade.specs.code.Clear.{AreClear, IsClearBelow, IsClearDocument, IsClearRoot, all_roots};
-ghost use Rattle.js_upgrade.specs.code.Clear.{own_root, source_roots};
+ghost use Rattle.js_upgrade.specs.Upgrade.{own_dialect};
+ghost use Rattle.js_upgrade.specs.code.Clear.{AreClear, IsClearBelow, IsClearDocument, IsClearInside, IsClearRoot};
+ghost use Rattle.js_upgrade.specs.code.Clear.{all_roots, own_root, source_roots};
 ghost use Rattle.js_upgrade.specs.code.Table.{all_of};
+ghost use Rattle.js_upgrade.specs.declared.fault.Pass.TheVariants.{AnyOfThese};
 
-use crate::clear::are_clear_keywords;
+use crate::clear::{are_clear_keywords, copies_nothing};
 use crate::dialect::Dialect;
 use crate::documents::{SourceDocument, source_dialect};
 use crate::finding::any_fault;
+use crate::lookup::found;
 use crate::resource::Resource;
 use crate::resource_table::ResourceTable;
 use crate::resources::{identity, push_resource};
@@ -75,19 +79,21 @@ fn push_own_root<'d>(
     }
 }
 
-/// Whether the documents are known to be clear.
+/// Whether the documents are known to be clear. `roots` are those that copies are made of.
 ///
 /// # Errors
 /// `Memory`.
 pub(crate) fn are_clear(
     alloc: Global,
+    roots: &ResourceTable<'_>,
     resources: &ResourceTable<'_>,
     sources: &[SourceDocument],
 ) -> Result<bool, Memory>
-    ensures { IfOk result (λ b. b ≡ true → AreClear (all_of resources.now) 0 (map source_of sources.now)) }
+    ensures { IfOk result (λ b. b ≡ true
+        → AreClear (all_of roots.now) (all_of resources.now) 0 (map source_of sources.now)) }
 {
     for i in 0..sources.len() {
-        if !is_clear_document(alloc, resources, &sources[i])? {
+        if !is_clear_document(alloc, roots, resources, &sources[i])? {
             return Ok(false);
         }
     }
@@ -96,15 +102,18 @@ pub(crate) fn are_clear(
 
 fn is_clear_document(
     alloc: Global,
+    roots: &ResourceTable<'_>,
     resources: &ResourceTable<'_>,
     source: &SourceDocument,
 ) -> Result<bool, Memory>
-    ensures { IfOk result (λ b. b ≡ true → IsClearDocument (all_of resources.now) (source_of source.now)) }
+    ensures { IfOk result (λ b. b ≡ true
+        → IsClearDocument (all_of roots.now) (all_of resources.now) (source_of source.now)) }
 {
     match source_dialect(source) {
         Some(dialect) => match &source.root {
             Doc::Members(siblings) => is_clear_root(
                 alloc,
+                roots,
                 resources,
                 dialect,
                 &source.uri,
@@ -118,40 +127,79 @@ fn is_clear_document(
 
 fn is_clear_root(
     alloc: Global,
+    roots: &ResourceTable<'_>,
     resources: &ResourceTable<'_>,
     dialect: Dialect,
     uri: &Url,
     siblings: &Members,
 ) -> Result<bool, Memory>
-    ensures { IfOk result (λ b. b ≡ true → IsClearRoot (all_of resources.now) dialect uri.now siblings.now) }
+    ensures { IfOk result (λ b. b ≡ true
+        → IsClearRoot (all_of roots.now) (all_of resources.now) dialect uri.now siblings.now) }
 {
-    if !own_dialect(dialect, siblings).is_draft(dialect) {
+    if !keeps_dialect(dialect, siblings) {
         return Ok(false);
     }
     match identity(dialect, uri, siblings)? {
-        Some(base) => is_clear_below(alloc, resources, dialect, uri, &base, siblings),
-        None => is_clear_below(alloc, resources, dialect, uri, uri, siblings),
+        Some(base) => is_clear_below(alloc, roots, resources, dialect, uri, &base, siblings),
+        None => is_clear_below(alloc, roots, resources, dialect, uri, uri, siblings),
     }
+}
+
+fn keeps_dialect(dialect: Dialect, siblings: &Members) -> bool
+    ensures { result ≡ true → own_dialect dialect siblings.now ≡ dialect }
+{
+    own_dialect(dialect, siblings).is_draft(dialect)
 }
 
 // A root whose own base is known.
 fn is_clear_below(
     alloc: Global,
+    roots: &ResourceTable<'_>,
     resources: &ResourceTable<'_>,
     dialect: Dialect,
     uri: &Url,
     base: &Url,
     siblings: &Members,
 ) -> Result<bool, Memory>
-    ensures { IfOk result (λ b. b ≡ true → IsClearBelow (all_of resources.now) dialect uri.now base.now siblings.now) }
+    ensures { IfOk result (λ b. b ≡ true
+        → IsClearBelow (all_of roots.now) (all_of resources.now) dialect uri.now base.now siblings.now) }
 {
     let scope = Scope {
         resources,
         base,
         here: number_here(resources, base)?,
     };
-    if any_fault(alloc, scope, dialect, dialect, uri, siblings)?.is_some() {
+    let roots = Scope {
+        resources: roots,
+        base,
+        here: number_here(roots, base)?,
+    };
+    if has_fault(alloc, scope, dialect, uri, siblings)? {
         return Ok(false);
     }
-    Ok(are_clear_keywords(scope, dialect, siblings))
+    Ok(is_clear_inside(roots, scope, dialect, siblings))
+}
+
+// Whether the root has a fault itself.
+fn has_fault(
+    alloc: Global,
+    scope: Scope<'_>,
+    dialect: Dialect,
+    uri: &Url,
+    siblings: &Members,
+) -> Result<bool, Memory>
+    ensures { IfOk result (λ b. b ≡ false → schema_fault AnyOfThese (all_of scope.entry.resources.now)
+        dialect dialect uri.now scope.entry.base.now siblings.now ≡ None) }
+{
+    Ok(any_fault(alloc, scope, dialect, dialect, uri, siblings)?.is_some())
+}
+
+// The root's reference, and the schemas in its keywords.
+fn is_clear_inside(roots: Scope<'_>, scope: Scope<'_>, dialect: Dialect, siblings: &Members) -> bool
+    requires { roots.base.now ≡ scope.base.now }
+    ensures { result ≡ true → IsClearInside (all_of roots.entry.resources.now) (all_of scope.entry.resources.now)
+        dialect scope.entry.base.now siblings.now }
+{
+    copies_nothing(roots, found(siblings, "$ref"))
+        && are_clear_keywords(roots, scope, dialect, siblings)
 }

@@ -1,5 +1,5 @@
 //! Documents with copies of what their references lead to, where that stands apart.
-ghost use Rattle.std.specs.Prelude.{◌≡◌, ◌++◌, Some, IfOk, OnOk, codes, map, option_map, slice_get};
+ghost use Rattle.std.specs.Prelude.{◌≡◌, ◌++◌, Some, IfOk, OnOk, codes, map, option_map, slice_get, true};
 ghost use Rattle.std.specs.List.{list_any};
 ghost use Rattle.js_doc.specs.Members.{get};
 ghost use Rattle.js_doc.specs.Seen.{value_of};
@@ -11,6 +11,7 @@ ghost use Rattle.js_upgrade.specs.Copies.{sources_copied, sources_with, with_def
 ghost use Rattle.js_upgrade.specs.Schema.{members_found, put_all};
 ghost use Rattle.js_upgrade.specs.Seen.{copies_seen, resource_seen, source_of};
 ghost use Rattle.js_upgrade.specs.Source.{source_dialect};
+ghost use Rattle.js_upgrade.specs.code.Clear.{CopyNothing};
 ghost use Rattle.js_upgrade.specs.code.Copied.{has_some};
 ghost use Rattle.js_upgrade.specs.code.Table.{all_of};
 
@@ -21,23 +22,31 @@ use crate::documents::{SourceDocument, source_dialect};
 use crate::gathering::put_one;
 use crate::lookup::found;
 use crate::resource::Resource;
-use crate::resource_table::{ResourceTable, table_of};
+use crate::resource_table::ResourceTable;
 use crate::resources::{identity, push_roots};
 use crate::schema::own_dialect;
 use crate::scope::{Scope, number_here};
 use js_doc::{Doc, Items, Members, Memory};
 use std::alloc::Global;
 
-/// The copies of each document, in order.
+/// The copies of each document, in order. Of documents that are known to be clear nothing is copied.
 ///
 /// # Errors
 /// `Memory`.
-pub(crate) fn copies_of(alloc: Global, sources: &[SourceDocument]) -> Result<Vec<Members>, Memory>
+pub(crate) fn copies_of(
+    alloc: Global,
+    clear: bool,
+    roots: &ResourceTable<'_>,
+    sources: &[SourceDocument],
+) -> Result<Vec<Members>, Memory>
+    requires roots { all_of roots.now ≡ document_roots (map source_of sources.now) }
+    requires clear { clear ≡ true → CopyNothing (all_of roots.now) (map source_of sources.now) }
     ensures { IfOk result (λ cs. cs.items ≡ copies_of (map source_of sources.now)) }
 {
-    let roots = table_of(alloc, document_roots(alloc, sources)?)?;
     let mut copies = none_copied(alloc, sources)?;
-    copy_for_sources(alloc, &mut copies, &roots, sources)?;
+    if !clear {
+        copy_for_sources(alloc, &mut copies, roots, sources)?;
+    }
     Ok(copies)
 }
 
@@ -51,7 +60,14 @@ fn none_copied(alloc: Global, sources: &[SourceDocument]) -> Result<Vec<Members>
     Ok(copies)
 }
 
-fn document_roots(alloc: Global, sources: &[SourceDocument]) -> Result<Vec<Resource<'_>>, Memory>
+/// The roots that copies are made of.
+///
+/// # Errors
+/// `Memory`.
+pub(crate) fn document_roots(
+    alloc: Global,
+    sources: &[SourceDocument],
+) -> Result<Vec<Resource<'_>>, Memory>
     ensures { IfOk result (λ v. map resource_seen v.items ≡ document_roots (map source_of sources.now)) }
 {
     let mut found = Vec::new(alloc);

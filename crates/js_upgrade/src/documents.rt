@@ -1,5 +1,5 @@
 //! Documents that are upgraded together: a reference of one may lead into another.
-ghost use Rattle.std.specs.Prelude.{◌≡◌, IfErr, IfOk, OnOk, None, Some, ◌++◌, false, map};
+ghost use Rattle.std.specs.Prelude.{◌≡◌, IfErr, IfOk, OnOk, None, Some, ◌++◌, false, map, true};
 ghost use Rattle.std.specs.List.{list_any};
 ghost use Rattle.js_doc.specs.Seen.{value_of};
 ghost use Rattle.js_upgrade.specs.Copies.{sources_with};
@@ -7,13 +7,13 @@ ghost use Rattle.js_upgrade.specs.Documents.{all_resources, all_upgraded, source
 ghost use Rattle.js_upgrade.specs.Documents.{source_resources, upgraded_among, upgraded_with};
 ghost use Rattle.js_upgrade.specs.Fault.{fault_with, first_fault, IsUpgradeFault, IsStoppedBy};
 ghost use Rattle.js_upgrade.specs.Seen.{copies_seen, resource_seen, source_of};
-ghost use Rattle.js_upgrade.specs.code.Clear.{AreClear, all_roots};
+ghost use Rattle.js_upgrade.specs.code.Clear.{AreFaultless, all_roots};
 ghost use Rattle.js_upgrade.specs.code.Copied.{has_some};
 ghost use Rattle.js_upgrade.specs.code.Table.{all_of};
 
 use crate::checking::{clear_fault, fault_among};
 use crate::clear_documents::{all_roots, are_clear};
-use crate::copies::{copies_at, copies_of, has_some, sources_with};
+use crate::copies::{copies_at, copies_of, document_roots, has_some, sources_with};
 use crate::dialect::Dialect;
 use crate::document::{declaring, document_dialect};
 use crate::fault::{Stop, UpgradeFault, fault_of};
@@ -61,9 +61,12 @@ fn all_upgraded(alloc: Global, sources: &[SourceDocument]) -> Result<Vec<Doc>, S
     ensures clear { OnOk result (first_fault (map source_of sources.now) ≡ None) }
     ensures err { IfErr result (IsStoppedBy (first_fault (map source_of sources.now))) }
 {
-    let found = copies_of(alloc, sources)?;
+    let roots = table_of(alloc, document_roots(alloc, sources)?)?;
+    let own_roots = table_of(alloc, all_roots(alloc, sources)?)?;
+    let clear = are_clear(alloc, &roots, &own_roots, sources)?;
+    let found = copies_of(alloc, clear, &roots, sources)?;
     let copies = found.as_slice();
-    match upgraded_copied(alloc, copies, sources) {
+    match upgraded_copied(alloc, clear, copies, &own_roots, sources) {
         Ok(documents) => Ok(documents),
         Err(Stop::Fault(fault)) => Err(Stop::Fault(in_original(alloc, copies, sources, fault)?)),
         Err(Stop::Memory) => Err(Stop::Memory),
@@ -73,9 +76,13 @@ fn all_upgraded(alloc: Global, sources: &[SourceDocument]) -> Result<Vec<Doc>, S
 // With their copies.
 fn upgraded_copied(
     alloc: Global,
+    clear: bool,
     copies: &[Members],
+    own_roots: &ResourceTable<'_>,
     sources: &[SourceDocument],
 ) -> Result<Vec<Doc>, Stop>
+    requires roots { all_of own_roots.now ≡ all_roots (map source_of sources.now) }
+    requires clear { clear ≡ true → AreFaultless (all_of own_roots.now) 0 (map source_of sources.now) }
     ensures ok { IfOk result (λ v. upgraded_with copies.now (sources_with copies.now (map source_of sources.now))
         ≡ Some (map value_of v.items)) }
     ensures clear { OnOk result
@@ -85,29 +92,30 @@ fn upgraded_copied(
 {
     if has_some(copies) {
         let copied = sources_with(alloc, copies, sources)?;
-        upgraded_with(alloc, copies, copied.as_slice())
+        upgraded_among_all(alloc, copies, copied.as_slice())
     } else {
-        upgraded_with(alloc, copies, sources)
+        upgraded_uncopied(alloc, clear, copies, own_roots, sources)
     }
 }
 
-// Of documents that have these copies.
-fn upgraded_with(
+// Without copies.
+fn upgraded_uncopied(
     alloc: Global,
+    clear: bool,
     copies: &[Members],
+    own_roots: &ResourceTable<'_>,
     sources: &[SourceDocument],
 ) -> Result<Vec<Doc>, Stop>
+    requires roots { all_of own_roots.now ≡ all_roots (map source_of sources.now) }
+    requires clear { clear ≡ true → AreFaultless (all_of own_roots.now) 0 (map source_of sources.now) }
+    requires uncopied { list_any has_some copies.now ≡ false }
     ensures ok { IfOk result (λ v. upgraded_with copies.now (map source_of sources.now)
         ≡ Some (map value_of v.items)) }
     ensures clear { OnOk result (fault_with copies.now (map source_of sources.now) ≡ None) }
     ensures err { IfErr result (IsStoppedBy (fault_with copies.now (map source_of sources.now))) }
 {
-    if has_some(copies) {
-        return upgraded_among_all(alloc, copies, sources);
-    }
-    let roots = table_of(alloc, all_roots(alloc, sources)?)?;
-    if are_clear(alloc, &roots, sources)? {
-        clear_upgraded(alloc, copies, &roots, sources)
+    if clear {
+        clear_upgraded(alloc, copies, own_roots, sources)
     } else {
         upgraded_among_all(alloc, copies, sources)
     }
@@ -121,7 +129,7 @@ fn clear_upgraded(
     sources: &[SourceDocument],
 ) -> Result<Vec<Doc>, Stop>
     requires roots { all_of roots.now ≡ all_roots (map source_of sources.now) }
-    requires clear { AreClear (all_of roots.now) 0 (map source_of sources.now) }
+    requires clear { AreFaultless (all_of roots.now) 0 (map source_of sources.now) }
     requires uncopied { list_any has_some copies.now ≡ false }
     ensures ok { IfOk result (λ v. upgraded_with copies.now (map source_of sources.now)
         ≡ Some (map value_of v.items)) }

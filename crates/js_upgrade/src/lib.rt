@@ -30,6 +30,7 @@ mod origin;
 mod originals;
 mod pieces;
 mod recursion;
+mod reference_free;
 mod required;
 mod resource;
 mod resource_table;

@@ -11,7 +11,7 @@ returns-else-has_some-clause-ok c =
     let copies = c.args.copies.now in
     let sources = map source_of c.args.sources.now in
     let none = sym (none_copied copies sources (sym c.has_some.ensures ∙ c.if-has_some.false)) in
-    let call = c.upgraded_with-else-has_some in
+    let call = c.upgraded_uncopied in
     subst (λ ss. IfOk call.result (λ v. upgraded_with copies ss ≡ Some (map value_of v.items))) none call.ensures.ok
 
 pub returns-else-has_some-clause-clear : goal.returns-else-has_some-clause-clear
@@ -19,7 +19,7 @@ returns-else-has_some-clause-clear c =
     let copies = c.args.copies.now in
     let sources = map source_of c.args.sources.now in
     let none = sym (none_copied copies sources (sym c.has_some.ensures ∙ c.if-has_some.false)) in
-    let call = c.upgraded_with-else-has_some in
+    let call = c.upgraded_uncopied in
     subst (λ ss. OnOk call.result (fault_with copies ss ≡ None)) none call.ensures.clear
 
 pub returns-else-has_some-clause-err : goal.returns-else-has_some-clause-err
@@ -27,26 +27,26 @@ returns-else-has_some-clause-err c =
     let copies = c.args.copies.now in
     let sources = map source_of c.args.sources.now in
     let none = sym (none_copied copies sources (sym c.has_some.ensures ∙ c.if-has_some.false)) in
-    let call = c.upgraded_with-else-has_some in
+    let call = c.upgraded_uncopied in
     subst (λ ss. IfErr call.result (IsStoppedBy (fault_with copies ss))) none call.ensures.err
 
 pub returns-in_ok-copied-clause-ok : goal.returns-in_ok-copied-clause-ok
 returns-in_ok-copied-clause-ok c =
     let copies = c.args.copies.now in
     let is = ap (map source_of) c.as_slice.ensures.value ∙ c.in_ok-copied.ensures in
-    let call = c.upgraded_with in
+    let call = c.upgraded_among_all in
     subst (λ ss. IfOk call.result (λ v. upgraded_with copies ss ≡ Some (map value_of v.items))) is call.ensures.ok
 
 pub returns-in_ok-copied-clause-clear : goal.returns-in_ok-copied-clause-clear
 returns-in_ok-copied-clause-clear c =
     let copies = c.args.copies.now in
     let is = ap (map source_of) c.as_slice.ensures.value ∙ c.in_ok-copied.ensures in
-    let call = c.upgraded_with in
+    let call = c.upgraded_among_all in
     subst (λ ss. OnOk call.result (fault_with copies ss ≡ None)) is call.ensures.clear
 
 pub returns-in_ok-copied-clause-err : goal.returns-in_ok-copied-clause-err
 returns-in_ok-copied-clause-err c =
     let copies = c.args.copies.now in
     let is = ap (map source_of) c.as_slice.ensures.value ∙ c.in_ok-copied.ensures in
-    let call = c.upgraded_with in
+    let call = c.upgraded_among_all in
     subst (λ ss. IfErr call.result (IsStoppedBy (fault_with copies ss))) is call.ensures.err
