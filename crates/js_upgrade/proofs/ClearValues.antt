@@ -86,7 +86,8 @@ module _ (roots : List Resource) where
   object_kept d base siblings own unnamed here below copies =
       let ms = members siblings in
       let made = λ (ns : Named) (e : Dialect) (i : Option Parts).
-      members_copied roots e (unwrap_or i base) ms (copied_for roots (unwrap_or i base) (get (codes "$ref") ns) copies) in
+      members_copied roots e (unwrap_or i base) ms
+      (copied_for roots (unwrap_or i base) (get (codes "$ref") ns) copies) in
       ap (λ ns. made ns (own_dialect d ns) (identity (own_dialect d ns) base ns)) (member_list-members siblings)
       ∙ ap (λ e. made siblings e (identity e base siblings)) own ∙ ap (made siblings d) unnamed
       ∙ ap (members_copied roots d base ms) (here copies) ∙ below copies

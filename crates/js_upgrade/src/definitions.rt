@@ -1,9 +1,8 @@
 //! References to definitions of their own resource, as most are written: `#/definitions/` or `#/$defs/`, and a name.
-ghost use Rattle.std.specs.Prelude.{◌≡◌, [], IfOk, IfSome, None, false, is_some, length, nat_lt, option_map};
-ghost use Rattle.std.specs.Prelude.{string_bytes, true};
+ghost use Rattle.std.specs.Prelude.{◌≡◌, ◌++◌, [], IfOk, IfSome, None, codes, false, length, nat_lt, option_map};
+ghost use Rattle.std.specs.Prelude.{true};
 ghost use Rattle.js_doc.specs.Members.{get};
 ghost use Rattle.js_doc.specs.Seen.{value_of};
-ghost use Rattle.js_upgrade.specs.Apart.{definitions_of};
 ghost use Rattle.js_upgrade.specs.Copies.{Copies, copied_for_text};
 ghost use Rattle.js_upgrade.specs.Fault.{target_kind};
 ghost use Rattle.js_upgrade.specs.Reference.{followed};
@@ -11,16 +10,16 @@ ghost use Rattle.js_upgrade.specs.Seen.{copies_seen, resource_seen};
 ghost use Rattle.js_upgrade.specs.Url.{uri_joined, uri_limit};
 ghost use Rattle.js_upgrade.specs.code.Table.{all_of};
 ghost use Rattle.js_upgrade.specs.code.Usual.{IsUsualTarget, plain_name, usual_name, usual_prefix, usual_text};
-ghost use Rattle.js_upgrade.specs.code.UsualRoot.{holds_members, is_usual_root};
+ghost use Rattle.js_upgrade.specs.code.UsualRoot.{has_in, holds_members, is_usual_root};
 
 use crate::copy_name::definitions_name;
-use crate::copying::definitions;
 use crate::dialect::{Dialect, after_prefix};
 use crate::resource::Resource;
 use crate::resource_table::resource_numbered;
 use crate::schema::own_dialect;
 use crate::scope::Scope;
-use js_doc::{Doc, Members, Memory, is_plain_token};
+use arrayvec::ArrayString;
+use js_doc::{Doc, Members, Memory, Text, is_plain_token};
 use std::alloc::Global;
 
 /// A longer name isn't looked at here.
@@ -126,7 +125,7 @@ fn target_in<'t>(resource: &Resource<'_>, reference: &'t str) -> Option<UsualTar
         return None;
     }
     let name = usual_name(resource.dialect, reference)?;
-    if !has_definition(resource.dialect, resource.root, name) {
+    if !has_in(resource.definitions, name) {
         return None;
     }
     Some(UsualTarget {
@@ -135,10 +134,10 @@ fn target_in<'t>(resource: &Resource<'_>, reference: &'t str) -> Option<UsualTar
     })
 }
 
-fn has_definition(dialect: Dialect, root: &Doc, name: &str) -> bool
-    ensures { result ≡ is_some (get name.now (definitions_of dialect (value_of root.now))) }
+fn has_in(definitions: Option<&Members>, name: &str) -> bool
+    ensures { result ≡ has_in definitions.entry name.now }
 {
-    match definitions(dialect, root) {
+    match definitions {
         Some(members) => members.get(name).is_some(),
         None => false,
     }
@@ -152,14 +151,28 @@ pub(crate) fn usual_text(
     alloc: Global,
     target: UsualTarget<'_>,
     reference: &str,
-) -> Result<String, Memory>
-    ensures { IfOk result (λ s. string_bytes s ≡ usual_text target.entry.moves reference.now target.entry.name.now) }
+) -> Result<Text, Memory>
+    ensures { IfOk result (λ t. t ≡ usual_text target.entry.moves reference.now target.entry.name.now) }
 {
-    if !target.moves {
-        return Ok(String::from_str(alloc, reference)?);
+    if target.moves {
+        moved_text(alloc, target.name)
+    } else {
+        Text::from_str(alloc, reference)
     }
-    let mut text = String::with_capacity(alloc, target.name.len().saturating_add(8))?;
+}
+
+// Most names are short: then no memory is allocated for what is put together.
+fn moved_text(alloc: Global, name: &str) -> Result<Text, Memory>
+    ensures { IfOk result (λ t. t ≡ codes "#/$defs/" ++ name.now) }
+{
+    if name.len() <= 56 {
+        let mut short: ArrayString<64> = ArrayString::new();
+        short.push_str("#/$defs/");
+        short.push_str(name);
+        return Text::from_str(alloc, short.as_str());
+    }
+    let mut text = String::with_capacity(alloc, name.len().saturating_add(8))?;
     text.push_str("#/$defs/")?;
-    text.push_str(target.name)?;
-    Ok(text)
+    text.push_str(name)?;
+    Ok(Text::new(text))
 }

@@ -11,6 +11,7 @@ ghost use Rattle.js_upgrade.specs.Seen.{copies_seen, resource_seen};
 ghost use Rattle.js_upgrade.specs.Upgrade.{holding_in};
 ghost use Rattle.js_upgrade.specs.declared.holding.SchemaHolding.TheVariants.{One};
 
+use crate::copying::definitions;
 use crate::definitions::is_usual_root;
 use crate::dialect::Dialect;
 use crate::holding::{SchemaHolding, holding_by_change};
@@ -230,6 +231,7 @@ fn push_resource_with<'d>(
         root,
         copies,
         usual: is_usual_root(dialect, root),
+        definitions: definitions(dialect, root),
     })?;
     Ok(())
 }

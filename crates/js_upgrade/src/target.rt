@@ -32,18 +32,18 @@ pub(crate) fn rewritten(alloc: Global, scope: Scope<'_>, value: &Doc) -> Result<
         ≡ rewritten (all_of scope.entry.resources.now) scope.entry.base.now (value_of value.now)) }
 {
     match value {
-        Doc::Text(text) => Ok(Doc::Text(Text::new(text_rewritten(alloc, scope, text.as_str())?))),
+        Doc::Text(text) => Ok(Doc::Text(text_rewritten(alloc, scope, text.as_str())?)),
         _ => value.copy(alloc),
     }
 }
 
-fn text_rewritten(alloc: Global, scope: Scope<'_>, reference: &str) -> Result<String, Memory>
-    ensures { IfOk result (λ s. string_bytes s
+fn text_rewritten(alloc: Global, scope: Scope<'_>, reference: &str) -> Result<Text, Memory>
+    ensures { IfOk result (λ t. t
         ≡ followed (all_of scope.entry.resources.now) reference.now (uri_joined scope.entry.base.now reference.now)) }
 {
     match usual_target(scope, reference) {
         Some(target) => usual_text(alloc, target, reference),
-        None => unusual_rewritten(alloc, scope, reference),
+        None => Ok(Text::new(unusual_rewritten(alloc, scope, reference)?)),
     }
 }
 

@@ -1,5 +1,5 @@
--- What is clear: no schema in it has an identifier, or a fault, and no reference leads to what is copied. Then the roots
--- of the documents are their resources.
+-- What is clear: no schema in it has an identifier, or a fault, and no reference leads to what is copied. Then the
+-- roots of the documents are their resources.
 use Rattle.std.specs.Prelude.{◌≡◌, ℕ, List, [], ◌∷◌, ◌++◌, Bool, true, false, Option, Some, None, codes}
 use Rattle.url.specs.Parts.{Parts}
 use Rattle.js_doc.specs.Members.{get}

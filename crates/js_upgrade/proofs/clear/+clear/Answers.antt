@@ -1,5 +1,4 @@
-use Rattle.std.proofs.Common.{ℕ, List, Option, None, ap, ◌∙◌, arith, drop, map, refl, subst, sym}
-use Rattle.std.proofs.lemmas.List.{drop_all}
+use Rattle.std.proofs.Common.{ℕ, List, ap, ◌∙◌, arith, map, refl, subst, sym}
 use Rattle.js_doc.specs.Seen.{value_of, pair_of}
 use Rattle.js_doc.specs.Value.{items, list, members, object}
 use Rattle.js_doc.specs.declared.doc.Doc.{Doc}
@@ -125,5 +124,5 @@ is_clear-returns-in-Listed-holding t c = λ is.
 pub is_clear-returns-in-OneOrListed-holding : goal.is_clear-returns-in-OneOrListed-holding
 is_clear-returns-in-OneOrListed-holding t c = λ is.
     held_so (all_of c.args.roots.resources.now) (all_of c.args.scope.resources.now) c.args.dialect c.args.scope.base.now
-    c.args.holding holding.OneOrListed (value_of c.args.value.now) (list (items c.in-List.items)) c.in-OneOrListed-holding.is
-    (ap value_of c.in-List.is) (c.are_clear_items-in-OneOrListed-holding.ensures is)
+    c.args.holding holding.OneOrListed (value_of c.args.value.now) (list (items c.in-List.items))
+    c.in-OneOrListed-holding.is (ap value_of c.in-List.is) (c.are_clear_items-in-OneOrListed-holding.ensures is)
