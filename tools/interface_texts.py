@@ -1,4 +1,4 @@
-"""What tools/interface writes: a text for each mark of each file, made of interface.toml."""
+"""What tools/interface writes: a text for each mark of each file, made of interface.toml and keywords.toml."""
 import json
 import re
 import textwrap
@@ -337,6 +337,36 @@ def page_examples(*kinds):
     return write
 
 
+def keyword_rows(interface):
+    """Of each keyword its name, the numbers of the first and of the last dialect, the form of its value, the types of
+    instances that it is about, and what 2020-12 has in its place."""
+    drafts = interface["upgrade"]["dialects"]
+    for name, it in interface["keywords"]["keyword"].items():
+        last = it.get("last", drafts[-1])
+        instead = " or ".join(it.get("instead", [])) or None
+        yield name, drafts.index(it["first"]), drafts.index(last), it["form"], it.get("about", []), instead
+
+
+def python_keywords(interface):
+    rows = "".join(f'    "{name}": Row({", ".join(json.dumps(it) for it in row if it is not None)}),\n'
+                   for name, *row in keyword_rows(interface))
+    return f"ROWS: dict[str, Row] = {{\n{rows}}}\n"
+
+
+def javascript_keywords(interface):
+    rows = "".join(f"  {json.dumps([it for it in row if it is not None])},\n" for row in keyword_rows(interface))
+    return f"const ROWS = [\n{rows}];\n"
+
+
+def page_keywords(interface):
+    rows = [row for row in keyword_rows(interface) if row[2] == len(interface["upgrade"]["dialects"]) - 1]
+    shown = []
+    for form, text in interface["keywords"]["form"].items():
+        names = [name for name, _, _, its, *_ in rows if its == form]
+        shown.append((f"`{' '.join(names)}`" if form != "anything" else "every other keyword", text))
+    return table(("keyword", "its value must be"), shown)
+
+
 # For each file its marks, and what writes the text between each and the next `interface: end`.
 TEXTS = {
     "jschema": {"version": launcher_version, "usage": launcher_usages, "help": launcher_help,
@@ -354,11 +384,14 @@ TEXTS = {
                              "refusals": c_refusals, "subjects": c_subjects},
     "bindings/python/pyproject.toml": {"version": project_version},
     "bindings/python/jschema/interface.py": {"tables": python_tables},
+    "bindings/python/jschema/keyword_table.py": {"keywords": python_keywords},
+    "bindings/javascript/src/keyword_table.js": {"keywords": javascript_keywords},
     "bindings/javascript/src/interface.js": {"tables": javascript_tables},
     "README.md": {"commands": page_commands, "statuses": page_statuses},
     "docs/COMMAND.md": {"rewriting": page_rewriting},
     "docs/REFUSALS.md": {"limits": page_limits, "lines": page_lines, **{kind: page_checks(kind) for kind in
                                                  ("document", "schema", "keyword", "reference", "entry")},
+                         "keyword values": page_keywords,
                          "examples of documents": page_examples("document"),
                          "examples of checks": page_examples("schema", "keyword", "reference")},
 }

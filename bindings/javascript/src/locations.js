@@ -1,10 +1,12 @@
 /** JSON Pointers (RFC 6901), and what the steps of a keyword location are. */
 
+import { ofForm } from "./keyword_table.js";
+
 /** The keywords of draft 2020-12 whose value is a list of schemas. */
-export const LISTS = new Set(["allOf", "anyOf", "oneOf", "prefixItems"]);
+export const LISTS = ofForm("schemas");
 
 /** Those whose value is an object of schemas. */
-export const OBJECTS = new Set(["$defs", "definitions", "dependentSchemas", "patternProperties", "properties"]);
+export const OBJECTS = ofForm("named schemas");
 
 /** The tokens of a JSON Pointer, unescaped. */
 export function steps(pointer) {

@@ -1,13 +1,13 @@
 /** The keywords of a schema that have numbers, with those that are no integers in the range as what says the same. */
 import { Change } from "./changes.js";
 import { FOUR, SIX } from "./dialects.js";
+import { ofForm } from "./keyword_table.js";
 import { acts } from "./keywords.js";
 import { Decimal, GREATEST, LEAST, asTexts, hasDecimal, isInRange } from "./numbers.js";
 
 // (What another one becomes comes last.)
 const BOUNDS = ["exclusiveMinimum", "exclusiveMaximum", "minimum", "maximum"];
-const COUNTS = ["maxContains", "maxItems", "maxLength", "maxProperties", "minContains", "minItems", "minLength",
-  "minProperties"];
+const COUNTS = [...ofForm("count")].sort();
 const ANNOTATIONS = new Set(["$comment", "default", "description", "examples", "title"]);
 
 /**

@@ -1,5 +1,6 @@
 /** What a keyword of an upgraded schema comes from in the schema that it was (crates/js_upgrade/specs). */
 import { FOUR, LATEST, NINETEEN, SIX, dialectNamed, hides, identifier, isObject } from "./dialects.js";
+import { ofForm } from "./keyword_table.js";
 import { LISTS, OBJECTS, steps } from "./locations.js";
 
 // What a value is: a schema, a list or an object of schemas, or neither.
@@ -12,8 +13,7 @@ const ORIGINS = new Map(Object.entries({
   dependentSchemas: [NINETEEN, "dependencies"], required: [FOUR, "properties"], multipleOf: [FOUR, "divisibleBy"],
   exclusiveMaximum: [SIX, "maximum"], exclusiveMinimum: [SIX, "minimum"],
 }));
-const SCHEMAS = new Set(["additionalItems", "additionalProperties", "contains", "else", "if", "items", "not",
-  "propertyNames", "then", "unevaluatedItems", "unevaluatedProperties"]);
+const SCHEMAS = ofForm("schema");
 const INDEX = /^(?:0|[1-9][0-9]*)$/;
 
 /**

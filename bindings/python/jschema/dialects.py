@@ -4,8 +4,10 @@ from __future__ import annotations
 import re
 from typing import Any, Optional
 
+from .keyword_table import ROWS
+
 DRAFTS = ("draft-03", "draft-04", "draft-06", "draft-07", "2019-09", "2020-12")
-_THREE, _FOUR, _SIX, _SEVEN, _NINETEEN, LATEST = range(6)
+LATEST = len(DRAFTS) - 1
 
 #: The `$schema` of each dialect.
 URIS = (*(f"http://json-schema.org/{name}/schema#" for name in DRAFTS[:4]),
@@ -13,30 +15,8 @@ URIS = (*(f"http://json-schema.org/{name}/schema#" for name in DRAFTS[:4]),
 # Schemas name the meta-schema or the hyper-schema of a draft, with `http` or `https`, with an empty fragment or none.
 _NAMED = re.compile(r"https?://json-schema\.org/(?:(draft-0[3467]|draft/2019-09)/(?:hyper-)?|(draft/2020-12)/)schema#?")
 
-_SPANS = {
-    (_THREE, LATEST): "$ref $schema title description default format type enum properties patternProperties "
-                      "additionalProperties items minimum maximum minLength maxLength pattern minItems maxItems "
-                      "uniqueItems exclusiveMinimum exclusiveMaximum required definitions",
-    (_THREE, _THREE): "extends disallow divisibleBy",
-    (_THREE, _FOUR): "id",
-    (_THREE, _SEVEN): "dependencies",
-    (_THREE, _NINETEEN): "additionalItems",
-    (_FOUR, LATEST): "allOf anyOf oneOf not multipleOf minProperties maxProperties",
-    (_SIX, LATEST): "$id const contains propertyNames examples",
-    (_SEVEN, LATEST): "$comment if then else readOnly writeOnly contentEncoding contentMediaType",
-    (_NINETEEN, _NINETEEN): "$recursiveRef $recursiveAnchor",
-    (_NINETEEN, LATEST): "$anchor $defs $vocabulary dependentRequired dependentSchemas unevaluatedItems "
-                         "unevaluatedProperties minContains maxContains contentSchema deprecated",
-    (LATEST, LATEST): "$dynamicRef $dynamicAnchor prefixItems",
-}
 #: The first and the last dialect of each keyword.
-KEYWORDS = {name: span for span, names in _SPANS.items() for name in names.split()}
-
-_INSTEAD = {
-    "additionalItems": "`items` beside `prefixItems`", "dependencies": "`dependentRequired` or `dependentSchemas`",
-    "id": "`$id`", "divisibleBy": "`multipleOf`", "extends": "`allOf`", "disallow": "`not`",
-    "$recursiveRef": "`$dynamicRef`", "$recursiveAnchor": "`$dynamicAnchor`",
-}
+KEYWORDS = {name: (row.first, row.last) for name, row in ROWS.items()}
 
 
 def dialect_named(uri: Any) -> Optional[int]:
@@ -71,5 +51,5 @@ def stranger(keyword: str, dialect: int) -> Optional[str]:
         return None
     first, last = DRAFTS[span[0]], DRAFTS[span[1]]
     since = f"is of {first}" if first == last else f"is of {first} to {last}"
-    instead = _INSTEAD.get(keyword) if dialect == LATEST else None
+    instead = ROWS[keyword].instead if dialect == LATEST else None
     return f"`{keyword}` {since}, and can't act in {DRAFTS[dialect]}" + (f": use {instead}" if instead else "")

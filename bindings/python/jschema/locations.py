@@ -3,9 +3,10 @@ from __future__ import annotations
 
 from typing import NamedTuple, Union
 
+from .keyword_table import of_form
+
 #: The keywords of draft 2020-12 whose value is a list of schemas, and those whose value is an object of schemas.
-LISTS = frozenset({"allOf", "anyOf", "oneOf", "prefixItems"})
-OBJECTS = frozenset({"$defs", "definitions", "dependentSchemas", "patternProperties", "properties"})
+LISTS, OBJECTS = of_form("schemas"), of_form("named schemas")
 
 
 class Step(NamedTuple):

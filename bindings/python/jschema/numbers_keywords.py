@@ -6,14 +6,14 @@ from typing import Any
 
 from .changes import Change
 from .dialects import KEYWORDS
+from .keyword_table import of_form
 from .numbers import Number, as_texts, has_number
 from .values import GREATEST, LEAST
 
 _FOUR, _SIX = 1, 2
 # (What another one becomes comes last.)
 _BOUNDS = ("exclusiveMinimum", "exclusiveMaximum", "minimum", "maximum")
-_COUNTS = ("maxContains", "maxItems", "maxLength", "maxProperties", "minContains", "minItems", "minLength",
-           "minProperties")
+_COUNTS = sorted(of_form("count"))
 _ANNOTATIONS = frozenset({"$comment", "default", "description", "examples", "title"})
 
 

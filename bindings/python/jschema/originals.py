@@ -5,6 +5,7 @@ from collections.abc import Iterable, Sequence
 from typing import Any, NamedTuple, Optional
 
 from .dialects import LATEST, dialect_named
+from .keyword_table import of_form
 from .locations import LISTS, OBJECTS, steps
 
 _FOUR, _SIX, _NINETEEN = 1, 2, 4
@@ -19,8 +20,7 @@ _ORIGINS = {
     "required": (_FOUR, "properties"), "multipleOf": (_FOUR, "divisibleBy"), "exclusiveMaximum": (_SIX, "maximum"),
     "exclusiveMinimum": (_SIX, "minimum"),
 }
-_SCHEMAS = frozenset({"additionalItems", "additionalProperties", "contains", "else", "if", "items", "not",
-                      "propertyNames", "then", "unevaluatedItems", "unevaluatedProperties"})
+_SCHEMAS = of_form("schema")
 
 
 class Original(NamedTuple):

@@ -1,5 +1,6 @@
 /** Keywords that no dialect knows, and keywords that can't act where they stand. */
 import { NINETEEN } from "../dialects.js";
+import { ABOUT } from "../keyword_table.js";
 import { KEYWORDS, stranger } from "../keywords.js";
 import { NOTE, WARNING } from "./finding.js";
 
@@ -8,13 +9,6 @@ const OWN = "x-";
 // Up to how many letters a name is short: then one typing error is enough to make it another, else two.
 const SHORT = 5, SHORTEST = 3;
 
-const TYPES = new Map([
-  [["integer", "number"], "minimum maximum exclusiveMinimum exclusiveMaximum multipleOf"],
-  [["string"], "minLength maxLength pattern contentEncoding contentMediaType"],
-  [["array"], "items prefixItems contains minContains maxContains minItems maxItems uniqueItems unevaluatedItems"],
-  [["object"], "properties patternProperties additionalProperties propertyNames required dependentRequired " +
-    "dependentSchemas minProperties maxProperties unevaluatedProperties"],
-].flatMap(([types, names]) => names.split(" ").map((name) => [name, types])));
 // Each keyword that needs another one beside it.
 const NEEDS = new Map(Object.entries({ then: "if", else: "if", minContains: "contains", maxContains: "contains",
   contentSchema: "contentMediaType" }));
@@ -116,7 +110,7 @@ function why(schema, keyword, dialect) {
 }
 
 function whyByType(given, keyword) {
-  const types = typeof given === "string" ? [given] : given, acting = TYPES.get(keyword);
+  const types = typeof given === "string" ? [given] : given, acting = ABOUT.get(keyword);
   if (acting === undefined || !Array.isArray(types) || types.length === 0) return undefined;
   if (types.some((it) => acting.includes(it))) return undefined;
   const named = types.map((it) => typeof it === "string" ? it : JSON.stringify(it)).join(" or ");

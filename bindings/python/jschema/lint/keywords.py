@@ -7,22 +7,15 @@ from functools import lru_cache
 from typing import Any, Optional
 
 from ..dialects import KEYWORDS, stranger
+from ..keyword_table import ROWS
 from ..resources import Document
 from .finding import NOTE, WARNING, Found
 
 # Of those with this beginning everybody knows that they are somebody's own.
 _OWN = "x-"
 
-_TYPES: dict[str, tuple[str, ...]] = {
-    **dict.fromkeys(("minimum", "maximum", "exclusiveMinimum", "exclusiveMaximum", "multipleOf"),
-                    ("integer", "number")),
-    **dict.fromkeys(("minLength", "maxLength", "pattern", "contentEncoding", "contentMediaType"), ("string",)),
-    **dict.fromkeys(("items", "prefixItems", "contains", "minContains", "maxContains", "minItems", "maxItems",
-                     "uniqueItems", "unevaluatedItems"), ("array",)),
-    **dict.fromkeys(("properties", "patternProperties", "additionalProperties", "propertyNames", "required",
-                     "dependentRequired", "dependentSchemas", "minProperties", "maxProperties",
-                     "unevaluatedProperties"), ("object",)),
-}
+# The types that a keyword is about, if it isn't about all.
+_TYPES = {name: row.about for name, row in ROWS.items() if row.about}
 # Each keyword that needs another one beside it.
 _NEEDS = {"then": "if", "else": "if", "minContains": "contains", "maxContains": "contains",
           "contentSchema": "contentMediaType"}
