@@ -1,7 +1,7 @@
 -- A usual reference leads to the definition that it names, and to nothing that is copied.
 use Rattle.std.proofs.Common.{◌≡◌, ℕ, ◌+◌, ◌<◌, ◌≤◌, [], ◌∷◌, ◌++◌, Bool, true, false}
 use Rattle.std.proofs.Common.{not, ◌&&◌, ◌||◌, Option, Some, None}
-use Rattle.std.proofs.Common.{zero, suc, cond, length, nat_lt, codes, refl, sym, ap, ◌∙◌, arith}
+use Rattle.std.proofs.Common.{zero, suc, cond, flat_map, length, nat_lt, codes, refl, sym, ap, ◌∙◌, arith}
 use Rattle.std.specs.Prelude.{◌==◌, option_and_then, if◌then◌else◌}
 use Rattle.std.specs.List.{list_all}
 use Rattle.std.specs.Str.{IsAscii, is_utf8}
@@ -11,17 +11,18 @@ use Rattle.std.proofs.lemmas.List.{append-nil}
 use Rattle.std.proofs.lemmas.Str.{IsUtf8-from_ascii, is_utf8-from_IsUtf8}
 use Rattle.percent_encoding.specs.Percent.{percent_decode}
 use Rattle.percent_encoding.proofs.PercentLemmas.{percent_decode-nil, percent_decode_not_percent}
-use Rattle.js_doc.specs.Plain.{is_plain}
+use Rattle.js_doc.specs.Fragment.{fragment_byte, is_fragment_char}
+use Rattle.js_doc.specs.Plain.{is_kept}
 use Rattle.js_doc.specs.Pointer.{Tokens, escape, pointer_text}
 use Rattle.js_doc.specs.PointerReading.{pointer_of}
 use Rattle.js_doc.specs.Value.{Text}
-use Rattle.js_doc.proofs.PlainTokens.{all_kept, kept_too}
+use Rattle.js_doc.proofs.PlainTokens.{all_kept}
 use Rattle.js_doc.proofs.PointerTexts.{pointer_of-text}
 use Rattle.js_upgrade.specs.CopyName.{definitions_name}
 use Rattle.js_upgrade.specs.Dialect.{after_prefix}
 use Rattle.js_upgrade.specs.Url.{uri_limit}
 use Rattle.js_upgrade.specs.code.Local.{is_fragment_byte, local_fragment}
-use Rattle.js_upgrade.specs.code.Usual.{plain_name, usual_name, usual_prefix}
+use Rattle.js_upgrade.specs.code.Usual.{is_usual_byte, plain_name, usual_name, usual_prefix}
 use Rattle.js_upgrade.specs.declared.dialect.Dialect.{Dialect}
 use Rattle.js_upgrade.specs.declared.dialect.Dialect.TheVariants.{Draft03, Draft04, Draft06}
 use Rattle.js_upgrade.specs.declared.dialect.Dialect.TheVariants.{Draft07, Draft2019, Draft2020}
@@ -30,9 +31,10 @@ use Rattle.js_upgrade.proofs.Prefixes.{after-prefixed, some_is}
 -- ---- how it is written
 
 abbrev IsPlainName : Text → Type 0
-IsPlainName name = (length name ≤ 60000) × (list_all is_plain name ≡ true)
+IsPlainName name = (length name ≤ 60000) × (list_all is_usual_byte name ≡ true)
 
-plain_by : (rest name : Text) (long plain : Bool) → nat_lt 60000 (length rest) ≡ long → list_all is_plain rest ≡ plain
+plain_by : (rest name : Text) (long plain : Bool) → nat_lt 60000 (length rest) ≡ long
+    → list_all is_usual_byte rest ≡ plain
     → cond (not long && plain) (Some rest) None ≡ Some name → (rest ≡ name) × IsPlainName rest
 plain_by rest name false true short plain is = (some_is rest name is, (ltb-false 60000 (length rest) short, plain))
 plain_by rest name false false short plain is = absurd (cc)
@@ -42,14 +44,14 @@ parts_by : (d : Dialect) (t name : Text) (found : Option Text) → after_prefix 
     → option_and_then plain_name found ≡ Some name → (t ≡ usual_prefix d ++ name) × IsPlainName name
 parts_by d t name None is named = absurd (cc)
 parts_by d t name (Some rest) is named =
-    let plain = plain_by rest name (nat_lt 60000 (length rest)) (list_all is_plain rest) refl refl named in (
+    let plain = plain_by rest name (nat_lt 60000 (length rest)) (list_all is_usual_byte rest) refl refl named in (
       after-prefixed (usual_prefix d) t rest is ∙ ap (λ n. usual_prefix d ++ n) plain.0,
       subst_plain rest name plain.0 plain.1,
     )
   where
     subst_plain : (rest name : Text) → rest ≡ name → IsPlainName rest → IsPlainName name
     subst_plain rest name same (short, plain) =
-        (rw (sym (ap length same)) short, ap (list_all is_plain) (sym same) ∙ plain)
+        (rw (sym (ap length same)) short, ap (list_all is_usual_byte) (sym same) ∙ plain)
 
 pub usual_parts : (d : Dialect) (t name : Text) → usual_name d t ≡ Some name
     → (t ≡ usual_prefix d ++ name) × IsPlainName name
@@ -62,25 +64,54 @@ kept_or true true none is = refl
 kept_or true false none is = absurd (cc)
 kept_or false other none is = absurd (cc)
 
-plain_below : agree_below (λ b. is_plain b && not (is_fragment_byte b && not (b == 37))) (λ b. false) 128 ≡ true
+plain_below : agree_below (λ b. is_usual_byte b && not (is_fragment_byte b && not (b == 37))) (λ b. false) 128 ≡ true
 plain_below = refl
 
-plain_high : (b : ℕ) → is_plain b ≡ true → b < 128
+plain_high : (b : ℕ) → is_usual_byte b ≡ true → b < 128
 plain_high b is = grind (arith, nat_tests)
 
-plain_stands : (b : ℕ) → is_plain b ≡ true → (is_fragment_byte b && not (b == 37)) ≡ true
+plain_stands : (b : ℕ) → is_usual_byte b ≡ true → (is_fragment_byte b && not (b == 37)) ≡ true
 plain_stands b is =
-    kept_or (is_plain b) (is_fragment_byte b && not (b == 37))
-    (agree_below_at (λ b. is_plain b && not (is_fragment_byte b && not (b == 37))) (λ b. false) 128 b plain_below
+    kept_or (is_usual_byte b) (is_fragment_byte b && not (b == 37))
+    (agree_below_at (λ b. is_usual_byte b && not (is_fragment_byte b && not (b == 37))) (λ b. false) 128 b plain_below
     (plain_high b is)) is
+
+plain_kept_below : agree_below (λ b. is_usual_byte b && not (is_kept b)) (λ b. false) 128 ≡ true
+plain_kept_below = refl
+
+usual_kept : (bs : Text) → list_all is_usual_byte bs ≡ true → list_all is_kept bs ≡ true
+usual_kept [] is = refl
+usual_kept (b ∷ bs) is =
+    let parts = and_parts (is_usual_byte b) (list_all is_usual_byte bs) is in
+    ap (λ x. x && list_all is_kept bs)
+    (kept_or (is_usual_byte b) (is_kept b)
+    (agree_below_at (λ b. is_usual_byte b && not (is_kept b)) (λ b. false) 128 b plain_kept_below
+    (plain_high b parts.0)) parts.0)
+    ∙ usual_kept bs parts.1
+
+plain_char_below : agree_below (λ b. is_usual_byte b && not (is_fragment_char b)) (λ b. false) 128 ≡ true
+plain_char_below = refl
+
+encoded_alone : (bs : Text) → list_all is_usual_byte bs ≡ true → flat_map fragment_byte bs ≡ bs
+encoded_alone [] is = refl
+encoded_alone (b ∷ bs) is =
+    let parts = and_parts (is_usual_byte b) (list_all is_usual_byte bs) is in
+    let here = kept_or (is_usual_byte b) (is_fragment_char b)
+    (agree_below_at (λ b. is_usual_byte b && not (is_fragment_char b)) (λ b. false) 128 b plain_char_below
+    (plain_high b parts.0)) parts.0 in
+    rw (here) (ap (λ cs. b ∷ cs) (encoded_alone bs parts.1))
+
+-- a name is written as it is
+pub all_usual : (bs : Text) → list_all is_usual_byte bs ≡ true → flat_map fragment_byte (escape bs) ≡ bs
+all_usual bs is = ap (flat_map fragment_byte) (all_kept bs (usual_kept bs is)) ∙ encoded_alone bs is
 
 abbrev stands : ℕ → Bool
 stands b = is_fragment_byte b && not (b == 37)
 
-all_stand : (bs : Text) → list_all is_plain bs ≡ true → list_all stands bs ≡ true
+all_stand : (bs : Text) → list_all is_usual_byte bs ≡ true → list_all stands bs ≡ true
 all_stand [] is = refl
 all_stand (b ∷ bs) is =
-    let parts = and_parts (is_plain b) (list_all is_plain bs) is in
+    let parts = and_parts (is_usual_byte b) (list_all is_usual_byte bs) is in
     ap (λ x. x && list_all stands bs) (plain_stands b parts.0) ∙ all_stand bs parts.1
 
 all_fragment : (bs : Text) → list_all stands bs ≡ true → list_all is_fragment_byte bs ≡ true
@@ -126,7 +157,8 @@ prefix_is Draft07 name = refl
 prefix_is Draft2019 name = refl
 prefix_is Draft2020 name = refl
 
-all_there : (d : Dialect) (name : Text) → list_all is_plain name ≡ true → list_all stands (usual_fragment d name) ≡ true
+all_there : (d : Dialect) (name : Text) → list_all is_usual_byte name ≡ true
+    → list_all stands (usual_fragment d name) ≡ true
 all_there Draft03 name is = all_stand name is
 all_there Draft04 name is = all_stand name is
 all_there Draft06 name is = all_stand name is
@@ -157,7 +189,7 @@ module _ (d : Dialect) (t name : Text) (is : usual_name d t ≡ Some name) where
   pub its_text : t ≡ 35 ∷ usual_fragment d name
   its_text = its_parts.0 ∙ prefix_is d name
 
-  pub plain_bytes : list_all is_plain name ≡ true
+  pub plain_bytes : list_all is_usual_byte name ≡ true
   plain_bytes = its_parts.1.1
 
   it_stands : list_all stands (usual_fragment d name) ≡ true
@@ -184,7 +216,7 @@ module _ (d : Dialect) (t name : Text) (is : usual_name d t ≡ Some name) where
       (all_ascii (usual_fragment d name) (all_fragment (usual_fragment d name) it_stands)))
 
   written : pointer_text (usual_tokens d name) ≡ usual_fragment d name
-  written = written_by d name (all_kept name (kept_too name plain_bytes))
+  written = written_by d name (all_kept name (usual_kept name plain_bytes))
     where
       written_by : (d : Dialect) (name : Text) → escape name ≡ name → pointer_text (usual_tokens d name)
           ≡ usual_fragment d name

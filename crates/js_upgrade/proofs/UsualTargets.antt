@@ -1,6 +1,6 @@
 -- Where a usual reference leads, by what is known of the definitions of its resource.
 use Rattle.std.proofs.Common.{◌≡◌, ℕ, List, [], ◌∷◌, ◌++◌, Bool, true, false, ◌&&◌, Option, Some, None}
-use Rattle.std.proofs.Common.{Bor, IfSome, cond, codes, flat_map, refl, sym, ap, ◌∙◌}
+use Rattle.std.proofs.Common.{Bor, IfSome, cond, codes, flat_map, refl, sym, ap, ◌∙◌, not, arith}
 use Rattle.std.specs.Prelude.{◌==◌, ◌/◌, is_none, is_some, length, nat_lt, option_and_then, option_map}
 use Rattle.std.specs.Prelude.{slice_get, if◌then◌else◌}
 use Rattle.std.specs.List.{after_first, list_all, position_from}
@@ -10,16 +10,19 @@ use Rattle.url.specs.Parts.{Parts}
 use Rattle.js_doc.specs.Lookup.{member_named}
 use Rattle.js_doc.specs.Members.{get}
 use Rattle.js_doc.specs.Parts.{member_list, members_of}
-use Rattle.js_doc.specs.Plain.{is_plain}
+use Rattle.percent_encoding.specs.Percent.{percent_decode}
+use Rattle.percent_encoding.proofs.PercentLemmas.{percent_decode-nil}
+use Rattle.std.specs.Str.{is_utf8}
+use Rattle.std.proofs.lemmas.Str.{IsUtf8-from_ascii, is_utf8-from_IsUtf8}
 use Rattle.js_doc.specs.Fragment.{fragment_byte}
 use Rattle.js_doc.specs.Pointer.{Tokens, escape}
+use Rattle.js_doc.specs.PointerReading.{pointer_of}
 use Rattle.js_doc.specs.Value.{Value, null, truth, whole, text, list, object, Members, Text, Named, members}
 use Rattle.js_doc.proofs.PartLists.{members-member_list}
-use Rattle.js_doc.proofs.PlainTokens.{all_plain}
 use Rattle.js_doc.proofs.TokenLookup.{is_text-refl, member_is}
 use Rattle.js_upgrade.specs.Apart.{apart, copy_of, if_schema, onward, takes_copies, under_name}
 use Rattle.js_upgrade.specs.Apart.{definitions_of}
-use Rattle.js_upgrade.specs.Copies.{Copies, copied_at, copied_for_text, copied_in, with_copy}
+use Rattle.js_upgrade.specs.Copies.{Copies, copied_at, copied_for_text, copied_for_uri, copied_in, with_copy}
 use Rattle.js_upgrade.specs.CopyName.{definitions_name, free_name, is_rooted}
 use Rattle.js_upgrade.specs.CopyName.{redirected}
 use Rattle.js_upgrade.specs.Dialect.{draft_number, is_before}
@@ -32,8 +35,8 @@ use Rattle.js_upgrade.specs.Schema.{change_of, hides, is_mark, members_found}
 use Rattle.js_upgrade.specs.Upgrade.{holding_by_change, own_dialect}
 use Rattle.js_upgrade.specs.Url.{uri_joined, uri_limit}
 use Rattle.js_upgrade.specs.code.First.{has_uri}
-use Rattle.js_upgrade.specs.code.Local.{local_uri}
-use Rattle.js_upgrade.specs.code.Usual.{IsUsualTarget, usual_name, usual_text}
+use Rattle.js_upgrade.specs.code.Local.{local_fragment, local_uri}
+use Rattle.js_upgrade.specs.code.Usual.{IsUsualTarget, is_usual_byte, usual_name, usual_text}
 use Rattle.js_upgrade.specs.code.UsualRoot.{holds_members, is_same_dialect, is_usual_root}
 use Rattle.js_upgrade.specs.declared.definitions.UsualTarget.{UsualTarget}
 use Rattle.js_upgrade.specs.declared.dialect.Dialect.{Dialect}
@@ -45,7 +48,8 @@ use Rattle.js_upgrade.specs.declared.keyword.Change.TheVariants.{Definitions as 
 use Rattle.js_upgrade.specs.declared.fault.UpgradeFaultKind.TheVariants.{Unresolved}
 use Rattle.js_upgrade.proofs.LocalFragments.{local_copied, local_followed, local_kind}
 use Rattle.js_upgrade.proofs.PartsAt.{member_at}
-use Rattle.js_upgrade.proofs.UsualReferences.{its_text, plain_bytes, usual_fragment, usual_local, usual_pointer}
+use Rattle.js_upgrade.proofs.UsualReferences.{all_usual, its_text, plain_bytes, usual_fragment, usual_local}
+use Rattle.js_upgrade.proofs.UsualReferences.{usual_pointer}
 use Rattle.js_upgrade.proofs.UsualReferences.{usual_short, usual_tokens}
 use Rattle.js_upgrade.proofs.WithoutCopies.{redirected_none}
 
@@ -284,11 +288,11 @@ stays_by : (t name : Text) (same : Bool) → are_same_tokens (defs_tokens name) 
 stays_by t name true is known = ap (λ b. cond b t (with_pointer t (defs_tokens name))) is
 stays_by t name false is known = absurd (cc)
 
-written : (name : Text) → list_all is_plain name ≡ true
+written : (name : Text) → list_all is_usual_byte name ≡ true
     → flat_map fragment_byte (escape name ++ []) ≡ name
-written name plain = ap (flat_map fragment_byte) (append-nil (escape name)) ∙ all_plain name plain
+written name plain = ap (flat_map fragment_byte) (append-nil (escape name)) ∙ all_usual name plain
 
-text_by : (d : Dialect) (name t : Text) → t ≡ 35 ∷ usual_fragment d name → list_all is_plain name ≡ true
+text_by : (d : Dialect) (name t : Text) → t ≡ 35 ∷ usual_fragment d name → list_all is_usual_byte name ≡ true
     → with_target t (usual_tokens d name) (Some (defs_tokens name)) ≡ usual_text (is_before d Draft2019) t name
 text_by Draft03 name t is plain =
     ap (λ u. with_pointer u (defs_tokens name)) is ∙ ap (λ n. codes "#/$defs/" ++ n) (written name plain)
@@ -342,3 +346,36 @@ module _ (r : Resource) (t : Text) (target : UsualTarget) (known : IsUsualTarget
         (sym (usual_local r.dialect t target.name.now known.2))
         (usual_pointer r.dialect t target.name.now known.2) number there named)
         ∙ ap (λ o. if is_none o then Some Unresolved else None) moved_here
+
+-- ---- `#`
+
+nothing_local : (t : Text) → t ≡ codes "#" → Some [] ≡ local_fragment t
+nothing_local t is = sym (ap local_fragment is)
+
+nothing_utf8 : is_utf8 [] ≡ true
+nothing_utf8 = is_utf8-from_IsUtf8 [] (IsUtf8-from_ascii [] (λ i. omega arith))
+
+nothing_pointer : (Some []) ≡ (if is_utf8 (percent_decode []) then pointer_of (percent_decode []) else None)
+nothing_pointer =
+    sym (ap (λ f. if is_utf8 f then pointer_of f else None) percent_decode-nil
+    ∙ ap (λ b. cond b (pointer_of []) None) nothing_utf8)
+
+pub not_so : (b : Bool) → not b ≡ true → b ≡ false
+not_so true is = absurd (cc)
+not_so false is = refl
+
+-- it leads to the root, which stays where it is
+pub root_leads : (t : Text) (r : Resource) (all : List Resource) (base : Parts) (number : Option ℕ) → t ≡ codes "#"
+    → r.copies ≡ [] → number ≡ position_from (has_uri (local_uri base)) 0 all
+    → Some r ≡ option_and_then (slice_get all) number → target_kind all (uri_joined base t) ≡ None
+root_leads t r all base number is none named there =
+    sym (local_kind all base t [] (Some []) (Some r) (nothing_local t is) nothing_pointer number there named)
+    ∙ ap (λ o. if is_none o then Some Unresolved else None)
+    (ap (λ c. moved_tokens One r.dialect r.root (redirected r.dialect c [])) none
+    ∙ ap (moved_tokens One r.dialect r.root) (redirected_none r.dialect []))
+
+-- it is no pointer below a root
+pub root_copied_nowhere : (t : Text) → t ≡ codes "#" → (roots : List Resource) (base : Parts) (copies : Copies)
+    → copied_for_text roots base t copies ≡ copies
+root_copied_nowhere t is roots base copies =
+    ap (λ u. cond (is_rooted (after_first is_mark u)) (copied_for_uri roots (uri_joined base u) copies) copies) is

@@ -10,7 +10,7 @@ ghost use Rattle.js_upgrade.specs.code.Clear.{IsClearSchema, IsClearValue, IsFau
 ghost use Rattle.js_upgrade.specs.code.Table.{all_of};
 ghost use Rattle.js_upgrade.specs.declared.holding.SchemaHolding.TheVariants.{Named, One};
 
-use crate::definitions::{is_usual, usual_target};
+use crate::definitions::{is_usual, leads_to_root, usual_target};
 use crate::dialect::Dialect;
 use crate::holding::{SchemaHolding, holding_by_change};
 use crate::kinds::{anchor_kind, contains_kind, recursive_kind, unevaluated_kind};
@@ -113,7 +113,8 @@ fn refers_usually(roots: Scope<'_>, scope: Scope<'_>, found: Option<&Doc>) -> bo
         None => true,
         Some(Doc::Text(text)) => {
             let reference = text.as_str();
-            usual_target(scope, reference).is_some() && is_usual(roots, reference)
+            leads_to_root(scope, reference)
+                || (usual_target(scope, reference).is_some() && is_usual(roots, reference))
         }
         Some(_) => false,
     }

@@ -1,5 +1,6 @@
 //! References to definitions of their own resource, as most are written: `#/definitions/` or `#/$defs/`, and a name.
 ghost use Rattle.std.specs.Prelude.{◌≡◌, ◌++◌, [], IfOk, IfSome, None, codes, false, length, nat_lt, option_map};
+ghost use Rattle.std.specs.List.{list_all};
 ghost use Rattle.std.specs.Prelude.{true};
 ghost use Rattle.js_doc.specs.Members.{get};
 ghost use Rattle.js_doc.specs.Seen.{value_of};
@@ -9,7 +10,8 @@ ghost use Rattle.js_upgrade.specs.Reference.{followed};
 ghost use Rattle.js_upgrade.specs.Seen.{copies_seen, resource_seen};
 ghost use Rattle.js_upgrade.specs.Url.{uri_joined, uri_limit};
 ghost use Rattle.js_upgrade.specs.code.Table.{all_of};
-ghost use Rattle.js_upgrade.specs.code.Usual.{IsUsualTarget, plain_name, usual_name, usual_prefix, usual_text};
+ghost use Rattle.js_upgrade.specs.code.Usual.{IsUncopied, IsUsualTarget, is_usual_byte, plain_name, usual_name};
+ghost use Rattle.js_upgrade.specs.code.Usual.{usual_prefix, usual_text};
 ghost use Rattle.js_upgrade.specs.code.UsualRoot.{has_in, holds_members, is_usual_root};
 
 use crate::copy_name::definitions_name;
@@ -19,7 +21,7 @@ use crate::resource_table::resource_numbered;
 use crate::schema::own_dialect;
 use crate::scope::Scope;
 use arrayvec::ArrayString;
-use js_doc::{Doc, Members, Memory, Text, is_plain_token};
+use js_doc::{Doc, Members, Memory, Text};
 use std::alloc::Global;
 
 /// A longer name isn't looked at here.
@@ -78,11 +80,26 @@ fn usual_prefix(dialect: Dialect) -> &'static str
 fn plain_name(name: &str) -> Option<&str>
     ensures { option_map (λ n. n.now) result ≡ plain_name name.now }
 {
-    if name.len() <= NAME_LIMIT && is_plain_token(name) {
+    if name.len() <= NAME_LIMIT && are_usual_bytes(name.as_bytes()) {
         Some(name)
     } else {
         None
     }
+}
+
+fn are_usual_bytes(bytes: &[u8]) -> bool
+    ensures { result ≡ list_all is_usual_byte bytes.now }
+{
+    bytes.iter().all(|byte| is_usual_byte(*byte))
+}
+
+// Letters, digits, `$`, `-`, `.`, `_` and `:`.
+fn is_usual_byte(byte: u8) -> bool
+    ensures { result ≡ is_usual_byte byte }
+{
+    (byte.is_ascii_alphanumeric()
+        || (byte == b'$' || (byte == b'-' || (byte == b'.' || byte == b'_'))))
+        || byte == b':'
 }
 
 /// Whether the reference is a usual one: then it leads to nothing that is copied.
@@ -92,6 +109,18 @@ pub(crate) fn is_usual(scope: Scope<'_>, reference: &str) -> bool
 {
     match resource_numbered(scope.resources, scope.here) {
         Some(root) => root.usual && usual_name(root.dialect, reference).is_some(),
+        None => false,
+    }
+}
+
+/// Whether the reference is `#`, and leads to the root of its resource.
+pub(crate) fn leads_to_root(scope: Scope<'_>, reference: &str) -> bool
+    ensures leads { result ≡ true → target_kind (all_of scope.entry.resources.now)
+        (uri_joined scope.entry.base.now reference.now) ≡ None }
+    ensures copies { result ≡ true → IsUncopied reference.now }
+{
+    match resource_numbered(scope.resources, scope.here) {
+        Some(resource) => reference == "#" && !has_copies(resource.copies),
         None => false,
     }
 }
