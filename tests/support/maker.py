@@ -2,6 +2,7 @@
 import random
 
 from tests.reference.url import parse
+from tests.support.keywords import FORMS
 
 NAMES = ("a", "b", "aa", "x1", "é", "a/b", "~", "% ", "")
 PATTERNS = ("^a", "b$", "x[0-9]+", "é|b", ".", "^$", "a{2}")
@@ -12,14 +13,8 @@ IDS = ("x", "y/z", "/r", "https://c.example/q", "?k")
 ANCHORS = ("n", "m")
 FAULTY = ("type", "allOf", "properties", "not", "$ref", "$anchor", "minimum", "pattern", "$id", "if")
 # Those that stand here twice are made more often.
-KEYWORDS = (
-    "type", "enum", "const", "multipleOf", "maximum", "exclusiveMaximum", "minimum", "exclusiveMinimum", "maxLength",
-    "minLength", "pattern", "maxItems", "minItems", "uniqueItems", "maxContains", "minContains", "maxProperties",
-    "minProperties", "required", "dependentRequired", "allOf", "anyOf", "oneOf", "not", "if", "if", "then", "else",
-    "dependentSchemas", "prefixItems", "items", "contains", "contains", "properties", "properties",
-    "patternProperties", "additionalProperties", "propertyNames", "unevaluatedItems", "unevaluatedProperties",
-    "unevaluatedItems", "unevaluatedProperties", "$ref", "$ref", "$dynamicRef", "$anchor", "$dynamicAnchor", "$id",
-    "$defs", "definitions", "title", "format", "iff", "$comment", "x")
+KEYWORDS = (*(it for it in FORMS if it != "$schema"), "if", "contains", "properties", "unevaluatedItems",
+            "unevaluatedProperties", "$ref", "iff", "x")
 
 
 class Maker:
@@ -96,18 +91,11 @@ class Maker:
         made[keyword] = self.argument(keyword, depth)
 
     def argument(self, keyword, depth):
-        if keyword in ("not", "if", "then", "else", "items", "contains", "additionalProperties", "propertyNames",
-                       "unevaluatedItems", "unevaluatedProperties"):
-            return self.schema(depth)
-        if keyword in ("allOf", "anyOf", "oneOf", "prefixItems"):
-            return self.listed(depth)
-        if keyword in ("properties", "dependentSchemas", "$defs", "definitions"):
-            return self.schemas(depth)
         if keyword == "patternProperties":
             return {it: self.schema(depth) for it in self.some(PATTERNS, 2)}
         if keyword == "$dynamicRef" and self.chance(0.7):
             return self.one(("#n", "#m"))
-        return {
+        named = {
             "type": self.types,
             "enum": lambda: [self.value(1) for _ in range(self.count())],
             "const": lambda: self.value(1),
@@ -120,8 +108,12 @@ class Maker:
             "$anchor": lambda: self.one(ANCHORS), "$dynamicAnchor": lambda: self.one(ANCHORS),
             "$id": lambda: self.one(IDS),
             "$comment": self.string, "format": self.string,
-        }.get(keyword, self.count if keyword.startswith(("min", "max")) and keyword not in ("minimum", "maximum") else
-              self.number if "imum" in keyword else lambda: self.value(2))()
+        }
+        formed = {
+            "schema": lambda: self.schema(depth), "schemas": lambda: self.listed(depth),
+            "named schemas": lambda: self.schemas(depth), "number": self.number, "count": self.count,
+        }
+        return (named.get(keyword) or formed.get(FORMS.get(keyword), lambda: self.value(2)))()
 
     def types(self):
         if self.chance(0.6):

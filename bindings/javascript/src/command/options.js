@@ -1,6 +1,6 @@
 /** The options of the commands: what each is for, and how it is taken. */
 import { DRAFTS, dialectCalled } from "../dialects.js";
-import { REWRITING } from "../interface.js";
+import { FORMATS, REWRITING } from "../interface.js";
 import { CHOICES } from "./reports.js";
 import { SUFFIXES } from "./sources.js";
 
@@ -33,7 +33,7 @@ export const OPTIONS = Object.freeze([
   { name: "--format", argument: "FORMAT", commands: BOTH,
     take: (given, value) => { given.format = chosen(value, CHOICES[given.command]); },
     help: (command) => command === "lint" ? SHOWN
-      : `${SHOWN}. flag, basic, detailed, verbose, merged: the validator's output, a line for each instance` },
+      : `${SHOWN}. ${FORMATS.join(", ")}: the validator's output, a line for each instance` },
   { name: "--input", argument: "KIND", commands: BOTH,
     take: (given, value) => { given.input = chosen(value, Object.keys(SUFFIXES)); },
     help: () => "what the files are: json, or jsonc, JSON with comments (default: what the suffix says, else json)" },

@@ -1,13 +1,14 @@
 /** Schemas that accept nothing by their own bounds. */
 import { isObject } from "../dialects.js";
+import { ABOUT } from "../keyword_table.js";
 import { Numeral } from "../numerals.js";
 import { WARNING } from "./finding.js";
 import { comparable, isNumber, isWhole, shown } from "./values.js";
 
 // The bounds of which the first may not be above the second, and what they are about.
 const PAIRS = [
-  ["minimum", "maximum", "number"], ["minLength", "maxLength", "string"], ["minItems", "maxItems", "array"],
-  ["minProperties", "maxProperties", "object"], ["minContains", "maxContains", "array"],
+  ...[...ABOUT].filter(([low]) => low.startsWith("min"))
+    .map(([low, about]) => [low, "max" + low.slice(3), about.at(-1)]),
   ["minContains", "maxItems", "array"],
 ];
 // Those that must be below.

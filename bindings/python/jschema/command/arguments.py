@@ -127,7 +127,7 @@ def _validate(name: str) -> _Parser:
                         help="the file of the schema (default: the first file); its URI is its $id if that is "
                              "absolute, else its file's URL")
     _add_common(parser, (*REPORTS, *FORMATS),
-                f"{_SHOWN}. flag, basic, detailed, verbose, merged: the validator's output, a line for each instance")
+                f"{_SHOWN}. {', '.join(FORMATS)}: the validator's output, a line for each instance")
     parser.add_argument("--formats", action="store_true",
                         help="warn of values of a valid instance that break a `format`; the verdict stays")
     parser.add_argument("--lines", action="store_true",

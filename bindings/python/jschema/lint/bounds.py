@@ -5,15 +5,13 @@ import re
 from collections.abc import Iterator
 from typing import Any, Optional
 
+from ..keyword_table import ROWS
 from ..resources import Document, is_number, is_whole
 from .finding import WARNING, Found
 
 # The bounds of which the first may not be above the second, and what they are about.
-_PAIRS = (
-    ("minimum", "maximum", "number"), ("minLength", "maxLength", "string"), ("minItems", "maxItems", "array"),
-    ("minProperties", "maxProperties", "object"), ("minContains", "maxContains", "array"),
-    ("minContains", "maxItems", "array"),
-)
+_PAIRS = (*((low, "max" + low[3:], row.about[-1]) for low, row in ROWS.items() if low.startswith("min")),
+          ("minContains", "maxItems", "array"))
 # Those that must be below.
 _STRICT = (("exclusiveMinimum", "maximum"), ("minimum", "exclusiveMaximum"), ("exclusiveMinimum", "exclusiveMaximum"))
 _TYPES = {dict: "object", list: "array", str: "string", bool: "boolean", type(None): "null", int: "integer",
