@@ -122,31 +122,31 @@ of_root uri assumed root = record { uri = uri; assumed = assumed; root = root }
 simple_stays : (uri : Parts) (d : Dialect) (v : Value) → holds_members v ≡ false → Stays (of_root uri d v)
 simple_stays uri d null simple = (
   refl,
-  ((still_moves d null simple, none_recursive d), tt),
+  ((still_moves d null simple, none_recursive d, refl), tt),
   λ all still. simple_made (has_recursion d null) (is_before d Draft2020) null refl,
   refl,
 )
 simple_stays uri d (truth b) simple = (
   refl,
-  ((still_moves d (truth b) simple, none_recursive d), tt),
+  ((still_moves d (truth b) simple, none_recursive d, refl), tt),
   λ all still. simple_made (has_recursion d (truth b)) (is_before d Draft2020) (truth b) refl,
   refl,
 )
 simple_stays uri d (whole z) simple = (
   refl,
-  ((still_moves d (whole z) simple, none_recursive d), tt),
+  ((still_moves d (whole z) simple, none_recursive d, refl), tt),
   λ all still. simple_made (has_recursion d (whole z)) (is_before d Draft2020) (whole z) refl,
   refl,
 )
 simple_stays uri d (text t) simple = (
   refl,
-  ((still_moves d (text t) simple, none_recursive d), tt),
+  ((still_moves d (text t) simple, none_recursive d, refl), tt),
   λ all still. simple_made (has_recursion d (text t)) (is_before d Draft2020) (text t) refl,
   refl,
 )
 simple_stays uri d (list vs) simple = (
   refl,
-  ((still_moves d (list vs) simple, none_recursive d), tt),
+  ((still_moves d (list vs) simple, none_recursive d, refl), tt),
   λ all still. simple_made (has_recursion d (list vs)) (is_before d Draft2020) (list vs) refl,
   refl,
 )

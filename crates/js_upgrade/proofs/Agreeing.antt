@@ -19,7 +19,7 @@ use Rattle.js_upgrade.specs.declared.keyword.Change.TheVariants.{HoldsOne, Holds
 use Rattle.js_upgrade.specs.declared.keyword.Change.TheVariants.{Goes, Identifier, Definitions, Items, AdditionalItems}
 use Rattle.js_upgrade.specs.declared.keyword.Change.TheVariants.{Dependencies, Minimum, Maximum, Divisor, Types}
 use Rattle.js_upgrade.specs.declared.keyword.Change.TheVariants.{Disallowed, Extended, Properties}
-use Rattle.js_upgrade.specs.declared.keyword.Change.TheVariants.{Contains, RecursiveReference, RecursiveAnchor}
+use Rattle.js_upgrade.specs.declared.keyword.Change.TheVariants.{Contains, Anchor, RecursiveReference, RecursiveAnchor}
 use Rattle.js_upgrade.specs.declared.holding.SchemaHolding.{SchemaHolding}
 use Rattle.js_upgrade.specs.declared.holding.SchemaHolding.TheVariants.{One, Listed, Named as ByName, OneOrListed}
 use Rattle.js_upgrade.specs.declared.holding.SchemaHolding.TheVariants.{Nothing}
@@ -208,6 +208,7 @@ beside_plain Extended e = absurd (cc)
 beside_plain Properties e = absurd (cc)
 beside_plain Contains e = absurd (cc)
 beside_plain RecursiveReference e = absurd (cc)
+beside_plain Anchor e = absurd (cc)
 beside_plain RecursiveAnchor e = absurd (cc)
 
 fit_by : (hidden : Bool) (d : Dialect) (name : Text) (v : Value)

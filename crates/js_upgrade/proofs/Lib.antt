@@ -4,6 +4,7 @@ pub mod Agreeing
 pub mod Alternatives
 pub mod AnyFault
 pub mod AnyRecurses
+pub mod AsciiNames
 pub mod ClearDocuments
 pub mod ClearValues
 pub mod CopiesAscend

@@ -18,7 +18,7 @@ use Rattle.js_upgrade.specs.declared.keyword.Change.TheVariants.{HoldsOne, Holds
 use Rattle.js_upgrade.specs.declared.keyword.Change.TheVariants.{Goes, Identifier, Definitions, Items, AdditionalItems}
 use Rattle.js_upgrade.specs.declared.keyword.Change.TheVariants.{Dependencies, Minimum, Maximum, Divisor, Types}
 use Rattle.js_upgrade.specs.declared.keyword.Change.TheVariants.{Disallowed, Extended, Properties}
-use Rattle.js_upgrade.specs.declared.keyword.Change.TheVariants.{Contains, RecursiveReference, RecursiveAnchor}
+use Rattle.js_upgrade.specs.declared.keyword.Change.TheVariants.{Contains, Anchor, RecursiveReference, RecursiveAnchor}
 use Rattle.js_upgrade.proofs.Agreeing.{beside_plain}
 use Rattle.js_upgrade.proofs.PlainChanges.{is_plain}
 
@@ -38,6 +38,7 @@ outputs listed Disallowed = codes "not" ∷ []
 outputs listed Extended = codes "allOf" ∷ []
 outputs listed Properties = codes "properties" ∷ codes "required" ∷ []
 outputs listed RecursiveReference = codes "$dynamicRef" ∷ []
+outputs listed Anchor = codes "$anchor" ∷ []
 outputs listed RecursiveAnchor = codes "$dynamicAnchor" ∷ []
 outputs listed _ = []
 
@@ -239,6 +240,7 @@ beside_fits d listed k Extended e = refl
 beside_fits d listed k Properties e = refl
 beside_fits d listed k Contains e = refl
 beside_fits d listed k RecursiveReference e = refl
+beside_fits d listed k Anchor e = refl
 beside_fits d listed k RecursiveAnchor e = refl
 
 fits_by : (hidden : Bool) (d : Dialect) (listed : Bool) (k : Text)

@@ -21,7 +21,7 @@ use Rattle.js_upgrade.specs.declared.keyword.Change.TheVariants.{HoldsOne, Holds
 use Rattle.js_upgrade.specs.declared.keyword.Change.TheVariants.{Goes, Identifier, Definitions, Items, AdditionalItems}
 use Rattle.js_upgrade.specs.declared.keyword.Change.TheVariants.{Dependencies, Minimum, Maximum, Divisor, Types}
 use Rattle.js_upgrade.specs.declared.keyword.Change.TheVariants.{Disallowed, Extended, Properties}
-use Rattle.js_upgrade.specs.declared.keyword.Change.TheVariants.{Contains, RecursiveReference, RecursiveAnchor}
+use Rattle.js_upgrade.specs.declared.keyword.Change.TheVariants.{Contains, Anchor, RecursiveReference, RecursiveAnchor}
 use Rattle.js_upgrade.specs.declared.holding.SchemaHolding.{SchemaHolding}
 use Rattle.js_upgrade.specs.declared.holding.SchemaHolding.TheVariants.{One, Listed, Named as ByName, OneOrListed}
 use Rattle.js_upgrade.specs.declared.holding.SchemaHolding.TheVariants.{Nothing}
@@ -120,6 +120,7 @@ module _ (all : List Resource) where
   argument_placed d base v Extended e = e
   argument_placed d base v Properties e = e
   argument_placed d base v Contains e = e
+  argument_placed d base v Anchor e = e
   argument_placed d base v RecursiveAnchor e = e
   argument_placed d base v Refers e = sym (nothing_upgraded d (rewritten all base v))
   argument_placed d base v RecursiveReference e = sym (nothing_upgraded d (recursion_rewritten all base v))

@@ -12,7 +12,7 @@ use Rattle.js_upgrade.specs.declared.keyword.Change.TheVariants.{HoldsOne, Holds
 use Rattle.js_upgrade.specs.declared.keyword.Change.TheVariants.{Goes, Identifier, Definitions, Items, AdditionalItems}
 use Rattle.js_upgrade.specs.declared.keyword.Change.TheVariants.{Dependencies, Minimum, Maximum, Divisor, Types}
 use Rattle.js_upgrade.specs.declared.keyword.Change.TheVariants.{Disallowed, Extended, Properties}
-use Rattle.js_upgrade.specs.declared.keyword.Change.TheVariants.{Contains, RecursiveReference, RecursiveAnchor}
+use Rattle.js_upgrade.specs.declared.keyword.Change.TheVariants.{Contains, Anchor, RecursiveReference, RecursiveAnchor}
 
 -- the keyword stays as it is
 abbrev pub is_plain : Change → Bool
@@ -84,6 +84,7 @@ stays_by siblings name v Extended e = absurd (cc)
 stays_by siblings name v Properties e = absurd (cc)
 stays_by siblings name v Contains e = absurd (cc)
 stays_by siblings name v RecursiveReference e = absurd (cc)
+stays_by siblings name v Anchor e = absurd (cc)
 stays_by siblings name v RecursiveAnchor e = absurd (cc)
 
 pub keyword_stays : (siblings : Named) (name : Text) (v : Value)

@@ -21,7 +21,7 @@ use Rattle.js_upgrade.specs.declared.keyword.Change.TheVariants.{HoldsOne, Holds
 use Rattle.js_upgrade.specs.declared.keyword.Change.TheVariants.{Goes, Identifier, Definitions, Items, AdditionalItems}
 use Rattle.js_upgrade.specs.declared.keyword.Change.TheVariants.{Dependencies, Minimum, Maximum, Divisor, Types}
 use Rattle.js_upgrade.specs.declared.keyword.Change.TheVariants.{Disallowed, Extended, Properties}
-use Rattle.js_upgrade.specs.declared.keyword.Change.TheVariants.{Contains, RecursiveReference, RecursiveAnchor}
+use Rattle.js_upgrade.specs.declared.keyword.Change.TheVariants.{Contains, Anchor, RecursiveReference, RecursiveAnchor}
 use Rattle.js_upgrade.specs.declared.holding.SchemaHolding.{SchemaHolding}
 use Rattle.js_upgrade.specs.declared.holding.SchemaHolding.TheVariants.{One, Listed, Named as ByName, OneOrListed}
 use Rattle.js_upgrade.specs.declared.holding.SchemaHolding.TheVariants.{Nothing}
@@ -66,6 +66,7 @@ module _ (all : List Resource) where
   argument_ascends Extended base v w s t = t
   argument_ascends Properties base v w s t = t
   argument_ascends Contains base v w s t = t
+  argument_ascends Anchor base v w s t = t
   argument_ascends RecursiveAnchor base v w s t = t
 
   below_relocated : (held : Text → SchemaHolding) (argument : Text → Value → Value → Value) (d : Dialect) (base : Parts)
@@ -207,6 +208,7 @@ module _ (all : List Resource) where
   plain_argument Extended d base v e = refl
   plain_argument Properties d base v e = refl
   plain_argument Contains d base v e = refl
+  plain_argument Anchor d base v e = refl
   plain_argument RecursiveAnchor d base v e = refl
   plain_argument Refers d base v e = absurd (cc)
   plain_argument RecursiveReference d base v e = absurd (cc)
