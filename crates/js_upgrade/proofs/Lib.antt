@@ -32,6 +32,7 @@ pub mod Lookups
 pub mod Loops
 pub mod MovedExamples
 pub mod MovedParts
+pub mod NamesApart
 pub mod OneStep
 pub mod OriginalExamples
 pub mod Origins

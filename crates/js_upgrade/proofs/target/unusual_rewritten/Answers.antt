@@ -20,7 +20,7 @@ returns-in-Some c =
     let t = c.args.reference.now in
     let fragment = c.in-Some.fragment.now in
     let pointer : Option Tokens =
-        if is_utf8 (percent_decode fragment) then pointer_of (percent_decode fragment) else None in
+    if is_utf8 (percent_decode fragment) then pointer_of (percent_decode fragment) else None in
     let here = option_map (λ r. resource_seen r.now) c.resource_numbered-here.result in
     IfOk-weaker c.in_resource.result (λ s. string_bytes s ≡ in_resource t fragment pointer here)
     (λ s. string_bytes s ≡ followed all t (uri_joined base t))
