@@ -30,6 +30,7 @@ use Rattle.js_upgrade.specs.declared.dialect.Dialect.{Dialect}
 use Rattle.js_upgrade.specs.declared.dialect.Dialect.TheVariants.{Draft03, Draft04, Draft06}
 use Rattle.js_upgrade.specs.declared.dialect.Dialect.TheVariants.{Draft07, Draft2019, Draft2020}
 use Rattle.js_upgrade.specs.declared.holding.SchemaHolding.TheVariants.{One, Nothing}
+use Rattle.js_upgrade.proofs.ByCases.{by_dialect}
 use Rattle.js_upgrade.proofs.Again.{current, in_2020, made, own_by, same_declared, uri_current, uri_declared, with_uri}
 use Rattle.js_upgrade.proofs.CopiesAscend.{copied_ascend}
 use Rattle.js_upgrade.proofs.Each.{are_current, each_current, each_put}
@@ -60,12 +61,7 @@ holds_members (object ms) = true
 holds_members _ = false
 
 none_recursive : (d : Dialect) → is_recursive d [] ≡ false
-none_recursive Draft03 = refl
-none_recursive Draft04 = refl
-none_recursive Draft06 = refl
-none_recursive Draft07 = refl
-none_recursive Draft2019 = refl
-none_recursive Draft2020 = refl
+none_recursive d = by_dialect (λ e. is_recursive e [] ≡ false) refl refl refl refl refl refl d
 
 one_moves : (token : List ℕ) (rest : Tokens) (d : Dialect) (new : Tokens)
     → ((w : Value) (inner : Tokens) → moved_tokens Nothing d w rest ≡ Some inner → rest ≡ inner)

@@ -25,9 +25,9 @@ use Rattle.js_upgrade.specs.declared.keyword.Change.TheVariants.{Goes, Identifie
 use Rattle.js_upgrade.specs.declared.keyword.Change.TheVariants.{Dependencies, Minimum, Maximum, Divisor, Types}
 use Rattle.js_upgrade.specs.declared.keyword.Change.TheVariants.{Disallowed, Extended, Properties}
 use Rattle.js_upgrade.specs.declared.keyword.Change.TheVariants.{Contains, Anchor, RecursiveReference, RecursiveAnchor}
+use Rattle.js_upgrade.proofs.ByCases.{is_plain}
 use Rattle.js_upgrade.proofs.Each.{Each, each_append}
 use Rattle.js_upgrade.proofs.Origins.{all_from, outputs}
-use Rattle.js_upgrade.proofs.PlainChanges.{is_plain}
 
 -- the first two names, and the rest
 pub from_first : (f : Text → Text) (k n : Text) (ns : List Text) → all_from f k (n ∷ ns) ≡ true → f n ≡ k

@@ -5,6 +5,7 @@ pub mod Alternatives
 pub mod AnyFault
 pub mod AnyRecurses
 pub mod AsciiNames
+pub mod ByCases
 pub mod ClearDocuments
 pub mod ClearValues
 pub mod CopiesAscend

@@ -35,9 +35,9 @@ use Rattle.js_upgrade.specs.declared.keyword.Change.TheVariants.{Contains, Ancho
 use Rattle.js_upgrade.specs.declared.holding.SchemaHolding.{SchemaHolding}
 use Rattle.js_upgrade.specs.declared.holding.SchemaHolding.TheVariants.{One, Listed, Named as ByName, OneOrListed}
 use Rattle.js_upgrade.specs.declared.holding.SchemaHolding.TheVariants.{Nothing}
+use Rattle.js_upgrade.proofs.ByCases.{is_plain}
 use Rattle.js_upgrade.proofs.Agreeing.{IsFit, may_stand, stays_fit}
 use Rattle.js_upgrade.proofs.Each.{Each, are_current, each_append, each_current, each_gathered, each_put_all}
-use Rattle.js_upgrade.proofs.PlainChanges.{is_plain}
 
 -- ---- a member with a known name
 

@@ -29,6 +29,7 @@ use Rattle.js_upgrade.specs.declared.keyword.Change.TheVariants.{Dependencies, M
 use Rattle.js_upgrade.specs.declared.keyword.Change.TheVariants.{Disallowed, Extended, Properties}
 use Rattle.js_upgrade.specs.declared.keyword.Change.TheVariants.{Contains, Anchor, RecursiveReference, RecursiveAnchor}
 use Rattle.js_upgrade.specs.declared.holding.SchemaHolding.TheVariants.{One, Listed, Named as ByName, OneOrListed}
+use Rattle.js_upgrade.proofs.ByCases.{is_plain}
 use Rattle.js_upgrade.proofs.Each.{Each}
 use Rattle.js_upgrade.proofs.EachOrigin.{from_first, from_second}
 use Rattle.js_upgrade.proofs.InOrder.{names_ascend}
@@ -36,7 +37,6 @@ use Rattle.js_upgrade.proofs.Lookups.{gathered_get}
 use Rattle.js_upgrade.proofs.Origins.{all_from, outputs}
 use Rattle.js_upgrade.proofs.PartsAt.{first, found_at, get_last, get_upgraded, item_upgraded, member_at, single}
 use Rattle.js_upgrade.proofs.PartsAt.{tokens_or_none}
-use Rattle.js_upgrade.proofs.PlainChanges.{is_plain}
 use Rattle.js_upgrade.proofs.Staying.{ascending}
 
 -- ---- schemas among dependencies

@@ -32,18 +32,13 @@ use Rattle.js_upgrade.specs.Url.{fragment_pointer, uri_joined, uri_printed, uri_
 use Rattle.js_upgrade.specs.declared.dialect.Dialect.{Dialect}
 use Rattle.js_upgrade.specs.declared.dialect.Dialect.TheVariants.{Draft2020}
 use Rattle.js_upgrade.specs.declared.keyword.Change.{Change}
-use Rattle.js_upgrade.specs.declared.keyword.Change.TheVariants.{Stays, Asserts, Refers}
-use Rattle.js_upgrade.specs.declared.keyword.Change.TheVariants.{HoldsOne, HoldsList, HoldsNamed}
-use Rattle.js_upgrade.specs.declared.keyword.Change.TheVariants.{Goes, Identifier, Definitions, Items, AdditionalItems}
-use Rattle.js_upgrade.specs.declared.keyword.Change.TheVariants.{Dependencies, Minimum, Maximum, Divisor, Types}
-use Rattle.js_upgrade.specs.declared.keyword.Change.TheVariants.{Disallowed, Extended, Properties}
-use Rattle.js_upgrade.specs.declared.keyword.Change.TheVariants.{Contains, Anchor, RecursiveReference, RecursiveAnchor}
 use Rattle.js_upgrade.specs.declared.holding.SchemaHolding.{SchemaHolding}
 use Rattle.js_upgrade.specs.declared.holding.SchemaHolding.TheVariants.{One, Listed, Named as ByName, OneOrListed}
 use Rattle.js_upgrade.specs.declared.holding.SchemaHolding.TheVariants.{Nothing}
+use Rattle.js_upgrade.proofs.ByCases.{by_argument, by_plain, is_plain}
 use Rattle.js_upgrade.proofs.MovedParts.{both_are, tokens_of}
 use Rattle.js_upgrade.proofs.Outcome.{nothing_current}
-use Rattle.js_upgrade.proofs.PlainChanges.{change_plain, is_plain}
+use Rattle.js_upgrade.proofs.PlainChanges.{change_plain}
 use Rattle.js_upgrade.proofs.Staying.{stays}
 use Rattle.js_upgrade.proofs.WithoutCopies.{all_take_none, redirected_none, upgraded_without}
 
@@ -51,29 +46,8 @@ use Rattle.js_upgrade.proofs.WithoutCopies.{all_take_none, redirected_none, upgr
 
 under_plain : (siblings : Named) (name : Text) (v : Value) (rest : Tokens) (change : Change) → is_plain change ≡ true
     → tokens_under siblings name v rest change ≡ just name
-under_plain siblings name v rest Stays e = refl
-under_plain siblings name v rest Asserts e = refl
-under_plain siblings name v rest Refers e = refl
-under_plain siblings name v rest HoldsOne e = refl
-under_plain siblings name v rest HoldsList e = refl
-under_plain siblings name v rest HoldsNamed e = refl
-under_plain siblings name v rest Goes e = absurd (cc)
-under_plain siblings name v rest Identifier e = absurd (cc)
-under_plain siblings name v rest Definitions e = absurd (cc)
-under_plain siblings name v rest Items e = absurd (cc)
-under_plain siblings name v rest AdditionalItems e = absurd (cc)
-under_plain siblings name v rest Dependencies e = absurd (cc)
-under_plain siblings name v rest Minimum e = absurd (cc)
-under_plain siblings name v rest Maximum e = absurd (cc)
-under_plain siblings name v rest Divisor e = absurd (cc)
-under_plain siblings name v rest Types e = absurd (cc)
-under_plain siblings name v rest Disallowed e = absurd (cc)
-under_plain siblings name v rest Extended e = absurd (cc)
-under_plain siblings name v rest Properties e = absurd (cc)
-under_plain siblings name v rest Contains e = absurd (cc)
-under_plain siblings name v rest RecursiveReference e = absurd (cc)
-under_plain siblings name v rest Anchor e = absurd (cc)
-under_plain siblings name v rest RecursiveAnchor e = absurd (cc)
+under_plain siblings name v rest change =
+    by_plain (λ c. tokens_under siblings name v rest c ≡ just name) refl refl refl refl refl refl change
 
 abbrev value_or : Value → Option Value → Value
 value_or v None = v
@@ -271,29 +245,9 @@ module _ (all : List Resource) (c : AllByRecursion IsStill all) where
 
   argument_stays : (change : Change) (base : Parts) (v w : Value) → w ≡ v
       → argument_rewritten all change base v w ≡ v
-  argument_stays Refers base v w same = rewritten_stays base v
-  argument_stays Stays base v w same = same
-  argument_stays Asserts base v w same = same
-  argument_stays HoldsOne base v w same = same
-  argument_stays HoldsList base v w same = same
-  argument_stays HoldsNamed base v w same = same
-  argument_stays Goes base v w same = same
-  argument_stays Identifier base v w same = same
-  argument_stays Definitions base v w same = same
-  argument_stays Items base v w same = same
-  argument_stays AdditionalItems base v w same = same
-  argument_stays Dependencies base v w same = same
-  argument_stays Minimum base v w same = same
-  argument_stays Maximum base v w same = same
-  argument_stays Divisor base v w same = same
-  argument_stays Types base v w same = same
-  argument_stays Disallowed base v w same = same
-  argument_stays Extended base v w same = same
-  argument_stays Properties base v w same = same
-  argument_stays Contains base v w same = same
-  argument_stays RecursiveReference base v w same = recursion_stays base v
-  argument_stays Anchor base v w same = same
-  argument_stays RecursiveAnchor base v w same = same
+  argument_stays change base =
+      by_argument all base (λ c f. (v w : Value) → w ≡ v → f v w ≡ v) (λ v w same. rewritten_stays base v)
+      (λ v w same. recursion_stays base v) (λ c other v w same. same) change
 
   -- ---- a value
 
