@@ -162,9 +162,15 @@ fn with_spelled(alloc: Global, reference: &str, name: &[u8]) -> Result<String, M
     ensures { IfOk result (λ s. string_bytes s ≡ before_first is_mark reference.now ++ (35 ∷ spelled name.now)) }
 {
     let name = spelled_text(alloc, name)?;
+    with_fragment(alloc, reference, name.as_str())
+}
+
+fn with_fragment(alloc: Global, reference: &str, fragment: &str) -> Result<String, Memory>
+    ensures { IfOk result (λ s. string_bytes s ≡ before_first is_mark reference.now ++ (35 ∷ fragment.now)) }
+{
     let mut out = String::from_str(alloc, before_mark(reference))?;
     out.push_str("#")?;
-    out.push_str(name.as_str())?;
+    out.push_str(fragment)?;
     Ok(out)
 }
 
@@ -258,8 +264,5 @@ fn with_pointer(alloc: Global, reference: &str, pointer: &Pointer) -> Result<Str
     ensures { IfOk result (λ s. string_bytes s ≡ with_pointer reference.now pointer.now) }
 {
     let fragment = pointer.fragment(alloc)?;
-    let mut out = String::from_str(alloc, before_mark(reference))?;
-    out.push_str("#")?;
-    out.push_str(fragment.as_str())?;
-    Ok(out)
+    with_fragment(alloc, reference, fragment.as_str())
 }
