@@ -25,6 +25,7 @@ use Rattle.js_upgrade.specs.declared.dialect.Dialect.TheVariants.{Draft07, Draft
 use Rattle.js_upgrade.specs.declared.holding.SchemaHolding.{SchemaHolding}
 use Rattle.js_upgrade.specs.declared.holding.SchemaHolding.TheVariants.{One, Listed, Named as ByName, OneOrListed}
 use Rattle.js_upgrade.specs.declared.holding.SchemaHolding.TheVariants.{Nothing}
+use Rattle.js_upgrade.proofs.ByCases.{by_dialect}
 use Rattle.js_upgrade.proofs.Agreeing.{IsFit}
 use Rattle.js_upgrade.proofs.Each.{Each, are_current, each_current, each_gathered, each_put}
 use Rattle.js_upgrade.proofs.InOrder.{names_ascend}
@@ -73,12 +74,7 @@ reference_held = refl
 
 identifier_held : (e : Dialect) → in_2020 (identifier e) ≡ Nothing
 unfolding core_change applicator_change assertion_change
-identifier_held Draft03 = refl
-identifier_held Draft04 = refl
-identifier_held Draft06 = refl
-identifier_held Draft07 = refl
-identifier_held Draft2019 = refl
-identifier_held Draft2020 = refl
+identifier_held e = by_dialect (λ d. in_2020 (identifier d) ≡ Nothing) refl refl refl refl refl refl e
 
 identifies_kept : (ms : Members) (e : Dialect)
     → identifies e (members_upgraded in_2020 Draft2020 ms) ≡ identifies e (member_list ms)

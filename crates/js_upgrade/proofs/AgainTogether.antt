@@ -30,6 +30,7 @@ use Rattle.js_upgrade.specs.declared.dialect.Dialect.{Dialect}
 use Rattle.js_upgrade.specs.declared.dialect.Dialect.TheVariants.{Draft03, Draft04, Draft06}
 use Rattle.js_upgrade.specs.declared.dialect.Dialect.TheVariants.{Draft07, Draft2019, Draft2020}
 use Rattle.js_upgrade.specs.declared.holding.SchemaHolding.TheVariants.{One, Nothing}
+use Rattle.js_upgrade.proofs.ByCases.{by_dialect}
 use Rattle.js_upgrade.proofs.Again.{current, in_2020, made, own_by, same_declared, uri_current, uri_declared, with_uri}
 use Rattle.js_upgrade.proofs.CopiesAscend.{copied_ascend}
 use Rattle.js_upgrade.proofs.Each.{are_current, each_current, each_put}
@@ -60,12 +61,7 @@ holds_members (object ms) = true
 holds_members _ = false
 
 none_recursive : (d : Dialect) → is_recursive d [] ≡ false
-none_recursive Draft03 = refl
-none_recursive Draft04 = refl
-none_recursive Draft06 = refl
-none_recursive Draft07 = refl
-none_recursive Draft2019 = refl
-none_recursive Draft2020 = refl
+none_recursive d = by_dialect (λ e. is_recursive e [] ≡ false) refl refl refl refl refl refl d
 
 one_moves : (token : List ℕ) (rest : Tokens) (d : Dialect) (new : Tokens)
     → ((w : Value) (inner : Tokens) → moved_tokens Nothing d w rest ≡ Some inner → rest ≡ inner)
@@ -122,31 +118,31 @@ of_root uri assumed root = record { uri = uri; assumed = assumed; root = root }
 simple_stays : (uri : Parts) (d : Dialect) (v : Value) → holds_members v ≡ false → Stays (of_root uri d v)
 simple_stays uri d null simple = (
   refl,
-  ((still_moves d null simple, none_recursive d), tt),
+  ((still_moves d null simple, none_recursive d, refl), tt),
   λ all still. simple_made (has_recursion d null) (is_before d Draft2020) null refl,
   refl,
 )
 simple_stays uri d (truth b) simple = (
   refl,
-  ((still_moves d (truth b) simple, none_recursive d), tt),
+  ((still_moves d (truth b) simple, none_recursive d, refl), tt),
   λ all still. simple_made (has_recursion d (truth b)) (is_before d Draft2020) (truth b) refl,
   refl,
 )
 simple_stays uri d (whole z) simple = (
   refl,
-  ((still_moves d (whole z) simple, none_recursive d), tt),
+  ((still_moves d (whole z) simple, none_recursive d, refl), tt),
   λ all still. simple_made (has_recursion d (whole z)) (is_before d Draft2020) (whole z) refl,
   refl,
 )
 simple_stays uri d (text t) simple = (
   refl,
-  ((still_moves d (text t) simple, none_recursive d), tt),
+  ((still_moves d (text t) simple, none_recursive d, refl), tt),
   λ all still. simple_made (has_recursion d (text t)) (is_before d Draft2020) (text t) refl,
   refl,
 )
 simple_stays uri d (list vs) simple = (
   refl,
-  ((still_moves d (list vs) simple, none_recursive d), tt),
+  ((still_moves d (list vs) simple, none_recursive d, refl), tt),
   λ all still. simple_made (has_recursion d (list vs)) (is_before d Draft2020) (list vs) refl,
   refl,
 )

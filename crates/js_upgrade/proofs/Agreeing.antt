@@ -11,19 +11,12 @@ use Rattle.js_upgrade.specs.Keyword.{change_in, core_rows, core_change, or_stays
 use Rattle.js_upgrade.specs.Schema.{beside_reference, change_of, hides}
 use Rattle.js_upgrade.specs.Upgrade.{holding_in, holding_by_change}
 use Rattle.js_upgrade.specs.declared.dialect.Dialect.{Dialect}
-use Rattle.js_upgrade.specs.declared.dialect.Dialect.TheVariants.{Draft03, Draft04, Draft06}
-use Rattle.js_upgrade.specs.declared.dialect.Dialect.TheVariants.{Draft07, Draft2019, Draft2020}
+use Rattle.js_upgrade.specs.declared.dialect.Dialect.TheVariants.{Draft2020}
 use Rattle.js_upgrade.specs.declared.keyword.Change.{Change}
-use Rattle.js_upgrade.specs.declared.keyword.Change.TheVariants.{Stays, Asserts, Refers}
-use Rattle.js_upgrade.specs.declared.keyword.Change.TheVariants.{HoldsOne, HoldsList, HoldsNamed}
-use Rattle.js_upgrade.specs.declared.keyword.Change.TheVariants.{Goes, Identifier, Definitions, Items, AdditionalItems}
-use Rattle.js_upgrade.specs.declared.keyword.Change.TheVariants.{Dependencies, Minimum, Maximum, Divisor, Types}
-use Rattle.js_upgrade.specs.declared.keyword.Change.TheVariants.{Disallowed, Extended, Properties}
-use Rattle.js_upgrade.specs.declared.keyword.Change.TheVariants.{Contains, RecursiveReference, RecursiveAnchor}
 use Rattle.js_upgrade.specs.declared.holding.SchemaHolding.{SchemaHolding}
 use Rattle.js_upgrade.specs.declared.holding.SchemaHolding.TheVariants.{One, Listed, Named as ByName, OneOrListed}
 use Rattle.js_upgrade.specs.declared.holding.SchemaHolding.TheVariants.{Nothing}
-use Rattle.js_upgrade.proofs.PlainChanges.{is_plain}
+use Rattle.js_upgrade.proofs.ByCases.{by_dialect, by_sibling, is_plain}
 
 abbrev number : SchemaHolding → ℕ
 number One = 0
@@ -55,28 +48,13 @@ all_agree (old ∷ olds) [] = false
 all_agree (old ∷ olds) (new ∷ news) = cond (agrees old.1 new.1) (all_agree olds news) false
 
 core_agrees : (d : Dialect) → all_agree (core_rows d) (core_rows Draft2020) ≡ true
-core_agrees Draft03 = refl
-core_agrees Draft04 = refl
-core_agrees Draft06 = refl
-core_agrees Draft07 = refl
-core_agrees Draft2019 = refl
-core_agrees Draft2020 = refl
+core_agrees d = by_dialect (λ e. all_agree (core_rows e) (core_rows Draft2020) ≡ true) refl refl refl refl refl refl d
 
 applicators_agree : (d : Dialect) → all_agree (applicator_rows d) (applicator_rows Draft2020) ≡ true
-applicators_agree Draft03 = refl
-applicators_agree Draft04 = refl
-applicators_agree Draft06 = refl
-applicators_agree Draft07 = refl
-applicators_agree Draft2019 = refl
-applicators_agree Draft2020 = refl
+applicators_agree d = by_dialect (λ e. all_agree (applicator_rows e) (applicator_rows Draft2020) ≡ true) refl refl refl refl refl refl d
 
 assertions_agree : (d : Dialect) → all_agree (assertion_rows d) (assertion_rows Draft2020) ≡ true
-assertions_agree Draft03 = refl
-assertions_agree Draft04 = refl
-assertions_agree Draft06 = refl
-assertions_agree Draft07 = refl
-assertions_agree Draft2019 = refl
-assertions_agree Draft2020 = refl
+assertions_agree d = by_dialect (λ e. all_agree (assertion_rows e) (assertion_rows Draft2020) ≡ true) refl refl refl refl refl refl d
 
 -- ---- what is found in them
 
@@ -159,12 +137,9 @@ may_stand last name = cond (bytes_eq name (codes "$schema")) last true
 
 schema_goes : (d : Dialect) → is_plain (change_in d (codes "$schema")) ≡ true → not (is_before d Draft2020) ≡ true
 unfolding core_change applicator_change assertion_change
-schema_goes Draft03 e = e
-schema_goes Draft04 e = e
-schema_goes Draft06 e = e
-schema_goes Draft07 e = e
-schema_goes Draft2019 e = e
-schema_goes Draft2020 e = e
+schema_goes d =
+    by_dialect (λ e. is_plain (change_in e (codes "$schema")) ≡ true → not (is_before e Draft2020) ≡ true)
+    (λ e. e) (λ e. e) (λ e. e) (λ e. e) (λ e. e) (λ e. e) d
 
 stands_by : (d : Dialect) (name : Text) (b : Bool) → bytes_eq name (codes "$schema") ≡ b
     → is_plain (change_in d name) ≡ true → cond b (not (is_before d Draft2020)) true ≡ true
@@ -187,28 +162,10 @@ plain_fit d name v plain c = (
 
 pub beside_plain : (change : Change) → is_plain (beside_reference change) ≡ true
     → (is_plain change ≡ true) × (holding_by_change (beside_reference change) ≡ holding_by_change change)
-beside_plain Stays e = (refl, refl)
-beside_plain Refers e = (refl, refl)
-beside_plain Asserts e = absurd (cc)
-beside_plain HoldsOne e = absurd (cc)
-beside_plain HoldsList e = absurd (cc)
-beside_plain HoldsNamed e = absurd (cc)
-beside_plain Goes e = absurd (cc)
-beside_plain Identifier e = absurd (cc)
-beside_plain Definitions e = absurd (cc)
-beside_plain Items e = absurd (cc)
-beside_plain AdditionalItems e = absurd (cc)
-beside_plain Dependencies e = absurd (cc)
-beside_plain Minimum e = absurd (cc)
-beside_plain Maximum e = absurd (cc)
-beside_plain Divisor e = absurd (cc)
-beside_plain Types e = absurd (cc)
-beside_plain Disallowed e = absurd (cc)
-beside_plain Extended e = absurd (cc)
-beside_plain Properties e = absurd (cc)
-beside_plain Contains e = absurd (cc)
-beside_plain RecursiveReference e = absurd (cc)
-beside_plain RecursiveAnchor e = absurd (cc)
+beside_plain change =
+    by_sibling (λ c b. is_plain b ≡ true
+    → (is_plain c ≡ true) × (holding_by_change b ≡ holding_by_change c)) (λ e. (refl, refl)) (λ e. absurd (cc))
+    (λ e. (refl, refl)) (λ c e. absurd (cc)) change
 
 fit_by : (hidden : Bool) (d : Dialect) (name : Text) (v : Value)
     → is_plain (cond hidden (beside_reference (change_in d name)) (change_in d name)) ≡ true

@@ -3,15 +3,18 @@ use Rattle.std.proofs.Common.{◌≡◌, List, [], ◌∷◌, Bool, true, false,
 use Rattle.std.proofs.Common.{map, codes, bytes_eq}
 use Rattle.std.specs.List.{after_first, before_first, list_any}
 use Rattle.std.proofs.lemmas.Bool.{and_parts}
+use Rattle.percent_encoding.specs.Percent.{percent_decode}
 use Rattle.js_doc.specs.Members.{get}
 use Rattle.js_doc.specs.Parts.{item_list, member_list}
 use Rattle.js_doc.specs.Value.{Value, null, truth, whole, text, list, object, items}
 use Rattle.js_doc.specs.Value.{Text, Values, Named}
 use Rattle.js_doc.proofs.TokenLookup.{is_text-sound}
+use Rattle.js_upgrade.specs.AnchorName.{anchor_name}
+use Rattle.js_upgrade.specs.CopyName.{is_rooted}
 use Rattle.js_upgrade.specs.Schema.{alternative, alternatives_upgraded, dependencies_upgraded, dependent_names}
 use Rattle.js_upgrade.specs.Schema.{dependent_schema, extends_upgraded, gathered_members, identifier_upgraded, is_any}
 use Rattle.js_upgrade.specs.Schema.{is_some_list}
-use Rattle.js_upgrade.specs.Schema.{is_mark, is_plain_name, is_simple_type, is_true, list_or_schema_upgraded}
+use Rattle.js_upgrade.specs.Schema.{is_mark, is_simple_type, is_true, list_or_schema_upgraded}
 use Rattle.js_upgrade.specs.Schema.{members_found}
 use Rattle.js_upgrade.specs.Schema.{one, required_names, some_items, some_members, some_name, some_uri}
 use Rattle.js_upgrade.specs.Schema.{holder, is_identifier, recursive_name, types_upgraded, upgraded_by}
@@ -21,10 +24,10 @@ use Rattle.js_upgrade.specs.declared.keyword.Change.TheVariants.{HoldsOne, Holds
 use Rattle.js_upgrade.specs.declared.keyword.Change.TheVariants.{Goes, Identifier, Definitions, Items, AdditionalItems}
 use Rattle.js_upgrade.specs.declared.keyword.Change.TheVariants.{Dependencies, Minimum, Maximum, Divisor, Types}
 use Rattle.js_upgrade.specs.declared.keyword.Change.TheVariants.{Disallowed, Extended, Properties}
-use Rattle.js_upgrade.specs.declared.keyword.Change.TheVariants.{Contains, RecursiveReference, RecursiveAnchor}
+use Rattle.js_upgrade.specs.declared.keyword.Change.TheVariants.{Contains, Anchor, RecursiveReference, RecursiveAnchor}
+use Rattle.js_upgrade.proofs.ByCases.{is_plain}
 use Rattle.js_upgrade.proofs.Each.{Each, each_append}
 use Rattle.js_upgrade.proofs.Origins.{all_from, outputs}
-use Rattle.js_upgrade.proofs.PlainChanges.{is_plain}
 
 -- the first two names, and the rest
 pub from_first : (f : Text → Text) (k n : Text) (ns : List Text) → all_from f k (n ∷ ns) ≡ true → f n ≡ k
@@ -57,11 +60,19 @@ module _ (f : Text → Text) (k : Text) where
   members_from n [] e = tt
   members_from n (m ∷ ms) e = (e, tt)
 
+  name_by : (rooted : Bool) (v : Value) → f (codes "$anchor") ≡ k → AllFrom (cond rooted [] (one (codes "$anchor") v))
+  name_by true v g = tt
+  name_by false v g = (g, tt)
+
+  name_from : (t : Text) → f (codes "$anchor") ≡ k → AllFrom (some_name t)
+  name_from [] g = tt
+  name_from (b ∷ bs) g = name_by (is_rooted (b ∷ bs)) (text (anchor_name (percent_decode (b ∷ bs)))) g
+
   identifier_from : (v : Value) → f (codes "$id") ≡ k → f (codes "$anchor") ≡ k → AllFrom (identifier_upgraded v)
   identifier_from (text t) e g =
       each_append (λ n w. f n ≡ k) (some_uri (before_first is_mark t)) (some_name (after_first is_mark t))
       (uri_from (before_first is_mark t) e)
-      (choice_from (is_plain_name (after_first is_mark t)) (codes "$anchor") (text (after_first is_mark t)) g)
+      (name_from (after_first is_mark t) g)
   identifier_from null e g = (e, tt)
   identifier_from (truth b) e g = (e, tt)
   identifier_from (whole z) e g = (e, tt)
@@ -175,6 +186,7 @@ module _ (f : Text → Text) (k : Text) where
         (from_second f k (codes "properties") (codes "required") [] e),
   )
   each_from siblings listed v is Contains e plain same held = (held refl, tt)
+  each_from siblings listed v is Anchor e plain same held = (from_first f k (codes "$anchor") [] e, tt)
   each_from siblings listed v is RecursiveReference e plain same held =
       (from_first f k (codes "$dynamicRef") [] e, tt)
   each_from siblings listed v is RecursiveAnchor e plain same held =

@@ -1,5 +1,6 @@
 -- Schemas of older drafts, and what becomes of them.
 use Rattle.std.proofs.Common.{◌≡◌, ℕ, [], ◌∷◌, pos, true, false, Some, None, codes, refl}
+use Rattle.percent_encoding.specs.Percent.{percent_decode}
 use Rattle.js_doc.specs.Value.{Value, null, truth, whole, text, list, object, items, members, Values, Named}
 use Rattle.js_upgrade.specs.Dialect.{dialect_named, version_named}
 use Rattle.js_upgrade.specs.Keyword.{core_change, applicator_change, assertion_change}
@@ -112,12 +113,29 @@ identifier = refl
 
 name : BecomesAll Draft07 ((codes "$id", text (codes "#a.1")) ∷ [])
     ((codes "$anchor", text (codes "a.1")) ∷ (codes "$schema", schema_uri) ∷ [])
-unfolding core_change applicator_change assertion_change
+unfolding core_change applicator_change assertion_change percent_decode
 name = refl
+
+-- a name that `$anchor` can't have is spelled so that it can
+spelled_name : BecomesAll Draft04 ((codes "id", text (codes "#n%3A1 a")) ∷ [])
+    ((codes "$anchor", text (codes "_-n-3A1-20a")) ∷ (codes "$schema", schema_uri) ∷ [])
+unfolding core_change applicator_change assertion_change percent_decode
+spelled_name = refl
+
+anchor_with_colon : BecomesAll Draft2019 ((codes "$anchor", text (codes "n:1")) ∷ [])
+    ((codes "$anchor", text (codes "_-n-3A1")) ∷ (codes "$schema", schema_uri) ∷ [])
+unfolding core_change applicator_change assertion_change
+anchor_with_colon = refl
+
+-- what isn't a name in 2019-09 stays
+no_anchor : BecomesAll Draft2019 ((codes "$anchor", text (codes "1 a")) ∷ [])
+    ((codes "$anchor", text (codes "1 a")) ∷ (codes "$schema", schema_uri) ∷ [])
+unfolding core_change applicator_change assertion_change
+no_anchor = refl
 
 uri_and_name : BecomesAll Draft06 ((codes "$id", text (codes "a.json#n")) ∷ [])
     ((codes "$anchor", text (codes "n")) ∷ (codes "$id", text (codes "a.json")) ∷ (codes "$schema", schema_uri) ∷ [])
-unfolding core_change applicator_change assertion_change
+unfolding core_change applicator_change assertion_change percent_decode
 uri_and_name = refl
 
 no_name : Becomes Draft07 ((codes "$id", text (codes "#/a")) ∷ []) []

@@ -10,9 +10,9 @@ use Rattle.js_upgrade.specs.Schema.{change_of, holder, is_some_list}
 use Rattle.js_upgrade.specs.declared.dialect.Dialect.{Dialect}
 use Rattle.js_upgrade.specs.declared.keyword.Change.{Change}
 use Rattle.js_upgrade.specs.declared.keyword.Change.TheVariants.{Contains}
+use Rattle.js_upgrade.proofs.ByCases.{is_plain}
 use Rattle.js_upgrade.proofs.Origins.{all_apart, all_from, all_other, is_apart, is_named, is_own, moves_by}
 use Rattle.js_upgrade.proofs.Origins.{outputs, own_fits, stays_own}
-use Rattle.js_upgrade.proofs.PlainChanges.{is_plain}
 
 -- ---- the name that holds `contains`
 

@@ -8,15 +8,9 @@ use Rattle.js_upgrade.specs.declared.dialect.Dialect.{Dialect}
 use Rattle.js_upgrade.specs.declared.dialect.Dialect.TheVariants.{Draft03, Draft04, Draft06}
 use Rattle.js_upgrade.specs.declared.dialect.Dialect.TheVariants.{Draft07, Draft2019, Draft2020}
 use Rattle.js_upgrade.specs.declared.keyword.Change.{Change}
-use Rattle.js_upgrade.specs.declared.keyword.Change.TheVariants.{Refers, RecursiveReference}
 use Rattle.js_upgrade.specs.declared.holding.SchemaHolding.{SchemaHolding}
 use Rattle.js_upgrade.specs.declared.holding.SchemaHolding.TheVariants.{Named as ByName, Nothing}
-
--- no reference
-abbrev pub is_plain : Change → Bool
-is_plain Refers = false
-is_plain RecursiveReference = false
-is_plain _ = true
+use Rattle.js_upgrade.proofs.ByCases.{by_dialect, is_no_reference}
 
 abbrev pub is_nothing : SchemaHolding → Bool
 is_nothing Nothing = true
@@ -28,10 +22,10 @@ is_named ByName = true
 is_named h = is_nothing h
 
 abbrev pub keeps : Change → Bool
-keeps change = is_plain change && is_nothing (holding_by_change change)
+keeps change = is_no_reference change && is_nothing (holding_by_change change)
 
 abbrev pub keeps_names : Change → Bool
-keeps_names change = is_plain change && is_named (holding_by_change change)
+keeps_names change = is_no_reference change && is_named (holding_by_change change)
 
 -- ---- in each dialect
 
@@ -50,16 +44,8 @@ module _ (p : Change → Bool) (k : Text) where
   known : both_ways p k Draft03 ≡ true → both_ways p k Draft04 ≡ true → both_ways p k Draft06 ≡ true
       → both_ways p k Draft07 ≡ true → both_ways p k Draft2019 ≡ true → both_ways p k Draft2020 ≡ true
       → IsEverywhere p k
-  known a b c e f g d hidden = way hidden (in_dialect d)
+  known a b c e f g d hidden = way hidden (by_dialect (λ d. both_ways p k d ≡ true) a b c e f g d)
     where
-      in_dialect : (d : Dialect) → both_ways p k d ≡ true
-      in_dialect Draft03 = a
-      in_dialect Draft04 = b
-      in_dialect Draft06 = c
-      in_dialect Draft07 = e
-      in_dialect Draft2019 = f
-      in_dialect Draft2020 = g
-
       way : (hidden : Bool) → both_ways p k d ≡ true
           → p (cond hidden (beside_reference (change_in d k)) (change_in d k)) ≡ true
       way true here = (split (p (change_in d k)) (p (beside_reference (change_in d k))) here).1
@@ -77,7 +63,7 @@ pub record AreKept : Type 0 where
   pub max_contains : IsEverywhere keeps (codes "maxContains")
   pub min_contains : IsEverywhere keeps (codes "minContains")
   pub properties : IsEverywhere keeps_names (codes "properties")
-  pub items : IsEverywhere is_plain (codes "items")
+  pub items : IsEverywhere is_no_reference (codes "items")
 
 pub are_kept : AreKept
 unfolding core_change applicator_change assertion_change
@@ -92,5 +78,5 @@ are_kept =
       max_contains = known keeps (codes "maxContains") refl refl refl refl refl refl;
       min_contains = known keeps (codes "minContains") refl refl refl refl refl refl;
       properties = known keeps_names (codes "properties") refl refl refl refl refl refl;
-      items = known is_plain (codes "items") refl refl refl refl refl refl;
+      items = known is_no_reference (codes "items") refl refl refl refl refl refl;
     }

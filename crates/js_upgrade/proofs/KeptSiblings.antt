@@ -18,19 +18,19 @@ use Rattle.js_upgrade.specs.Keyword.{change_in}
 use Rattle.js_upgrade.specs.Upgrade.{becomes, dialect_in, dialect_or, holding_by_change, identifier, identifies}
 use Rattle.js_upgrade.specs.Upgrade.{own_dialect}
 use Rattle.js_upgrade.specs.declared.dialect.Dialect.{Dialect}
-use Rattle.js_upgrade.specs.declared.dialect.Dialect.TheVariants.{Draft03, Draft04, Draft06}
-use Rattle.js_upgrade.specs.declared.dialect.Dialect.TheVariants.{Draft07, Draft2019, Draft2020}
+use Rattle.js_upgrade.specs.declared.dialect.Dialect.TheVariants.{Draft2019}
 use Rattle.js_upgrade.specs.declared.keyword.Change.{Change}
 use Rattle.js_upgrade.specs.declared.keyword.Change.TheVariants.{Stays, Asserts, Refers}
 use Rattle.js_upgrade.specs.declared.keyword.Change.TheVariants.{HoldsOne, HoldsList, HoldsNamed}
 use Rattle.js_upgrade.specs.declared.keyword.Change.TheVariants.{Goes, Identifier, Definitions, Items, AdditionalItems}
 use Rattle.js_upgrade.specs.declared.keyword.Change.TheVariants.{Dependencies, Minimum, Maximum, Divisor, Types}
 use Rattle.js_upgrade.specs.declared.keyword.Change.TheVariants.{Disallowed, Extended, Properties}
-use Rattle.js_upgrade.specs.declared.keyword.Change.TheVariants.{Contains, RecursiveReference, RecursiveAnchor}
+use Rattle.js_upgrade.specs.declared.keyword.Change.TheVariants.{Contains, Anchor, RecursiveReference, RecursiveAnchor}
 use Rattle.js_upgrade.specs.declared.holding.SchemaHolding.{SchemaHolding}
 use Rattle.js_upgrade.specs.declared.holding.SchemaHolding.TheVariants.{One, Listed, Named as ByName, OneOrListed}
 use Rattle.js_upgrade.specs.declared.holding.SchemaHolding.TheVariants.{Nothing}
-use Rattle.js_upgrade.proofs.KeptArguments.{are_kept, is_named, is_plain, keeps_names, split}
+use Rattle.js_upgrade.proofs.ByCases.{by_dialect, is_no_reference}
+use Rattle.js_upgrade.proofs.KeptArguments.{are_kept, is_named, keeps_names, split}
 use Rattle.js_upgrade.proofs.Relocated.{argument_of, key_got, nothing_relocated, plain_argument, schema_got}
 use Rattle.js_upgrade.proofs.Relocated.{schema_got_as}
 use Rattle.js_upgrade.proofs.Relocated.{schema_members}
@@ -75,7 +75,7 @@ module _ (all : List Resource) where
   stays_list Nothing d base (list vs) = refl
   stays_list Nothing d base (object ms) = refl
 
-  found_list : (change : Change) (d : Dialect) (base : Parts) (found : Option Value) → is_plain change ≡ true
+  found_list : (change : Change) (d : Dialect) (base : Parts) (found : Option Value) → is_no_reference change ≡ true
       → is_some_list (option_map (argument_of all change d base) found) ≡ is_some_list found
   found_list change d base None e = refl
   found_list change d base (Some v) e =
@@ -126,7 +126,7 @@ module _ (all : List Resource) where
       ≡ required_names (members_found found)
   required_found change d base None e = refl
   required_found change d base (Some v) e =
-      let parts = split (is_plain change) (is_named (holding_by_change change)) e in
+      let parts = split (is_no_reference change) (is_named (holding_by_change change)) e in
       ap (λ w. required_names (members_of w)) (plain_argument all change d base v parts.0)
       ∙ required_held (holding_by_change change) d base v parts.1
 
@@ -152,12 +152,10 @@ module _ (all : List Resource) where
     change_so e k = ap (λ b. cond b (beside_reference (change_in e k)) (change_in e k)) (hides_so e)
 
     identifier_got : (e : Dialect) → get (identifier e) new ≡ get (identifier e) old
-    identifier_got Draft03 = key_got all (codes "id") are_kept.id d base ms
-    identifier_got Draft04 = key_got all (codes "id") are_kept.id d base ms
-    identifier_got Draft06 = key_got all (codes "$id") are_kept.dollar_id d base ms
-    identifier_got Draft07 = key_got all (codes "$id") are_kept.dollar_id d base ms
-    identifier_got Draft2019 = key_got all (codes "$id") are_kept.dollar_id d base ms
-    identifier_got Draft2020 = key_got all (codes "$id") are_kept.dollar_id d base ms
+    identifier_got e =
+        let id = key_got all (codes "id") are_kept.id d base ms in
+        let dollar_id = key_got all (codes "$id") are_kept.dollar_id d base ms in
+        by_dialect (λ f. get (identifier f) new ≡ get (identifier f) old) id id dollar_id dollar_id dollar_id dollar_id e
 
     identifies_so : (e : Dialect) → identifies e new ≡ identifies e old
     identifies_so e = ap₂ (λ found b. is_identifier found && not b) (identifier_got e) (hides_so e)
@@ -233,6 +231,7 @@ module _ (all : List Resource) where
     upgraded_so k v Types = refl
     upgraded_so k v Disallowed = refl
     upgraded_so k v Extended = refl
+    upgraded_so k v Anchor = refl
     upgraded_so k v RecursiveReference = refl
 
     -- a keyword becomes the same

@@ -4,6 +4,8 @@ pub mod Agreeing
 pub mod Alternatives
 pub mod AnyFault
 pub mod AnyRecurses
+pub mod AsciiNames
+pub mod ByCases
 pub mod ClearDocuments
 pub mod ClearValues
 pub mod CopiesAscend
@@ -31,6 +33,7 @@ pub mod Lookups
 pub mod Loops
 pub mod MovedExamples
 pub mod MovedParts
+pub mod NamesApart
 pub mod OneStep
 pub mod OriginalExamples
 pub mod Origins

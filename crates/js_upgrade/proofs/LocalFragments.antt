@@ -1,7 +1,7 @@
 -- A reference that is a fragment alone, joined with its base.
 use Rattle.std.proofs.Common.{◌≡◌, ℕ, ◌<◌, List, [], ◌∷◌, Bool, true, false, not, ◌&&◌, ◌||◌, ◌==◌, Option, Some, None}
 use Rattle.std.proofs.Common.{All, cond, Ok, length, get_or, option_and_then, codes, refl, sym, ap, ◌∙◌, arith}
-use Rattle.std.proofs.Common.{nat_lt, slice_get, take_all, Bor}
+use Rattle.std.proofs.Common.{nat_lt, slice_get, take_all, unwrap_or, Bor}
 use Rattle.std.specs.List.{list_all, position_from, prefix_len}
 use Rattle.std.specs.Prelude.{reverse, is_none, is_some, if◌then◌else◌, option_copied, ◌-◌}
 use Rattle.std.specs.Str.{is_utf8}
@@ -220,9 +220,14 @@ module _ (all : List Resource) (base : Parts) (t fragment : Text) (pointer : Opt
       numbered ∙ ap (option_and_then (slice_get all)) named ∙ found_at (has_uri (local_uri base)) all
       ∙ ap (resource_named all) (sym (local_is base (Some fragment)))
 
-  pub local_followed : in_resource t pointer here ≡ followed all t (uri_joined base t)
+  its_fragment : fragment ≡ unwrap_or uri.fragment []
+  its_fragment = sym (unescaped fragment (all_kept t fragment (sym is)))
+
+  pub local_followed : in_resource t fragment pointer here ≡ followed all t (uri_joined base t)
   local_followed =
-      ap (λ p. in_resource t p here) its_pointer ∙ ap (in_resource t (fragment_pointer uri)) its_resource
+      ap (λ f. in_resource t f pointer here) its_fragment
+      ∙ ap (λ p. in_resource t (unwrap_or uri.fragment []) p here) its_pointer
+      ∙ ap (in_resource t (unwrap_or uri.fragment []) (fragment_pointer uri)) its_resource
       ∙ sym (ap (followed all t) (joined_local base t fragment (sym is)))
 
   pub local_kind : (if is_none (option_and_then (part_at pointer) here) then Some Unresolved else None)

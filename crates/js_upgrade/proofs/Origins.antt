@@ -10,17 +10,13 @@ use Rattle.js_upgrade.specs.Keyword.{change_in, core_rows, core_change, or_stays
 use Rattle.js_upgrade.specs.Origin.{moves_contains, origin_by, origin_rows}
 use Rattle.js_upgrade.specs.Schema.{beside_reference, change_of, hides}
 use Rattle.js_upgrade.specs.declared.dialect.Dialect.{Dialect}
-use Rattle.js_upgrade.specs.declared.dialect.Dialect.TheVariants.{Draft03, Draft04, Draft06}
-use Rattle.js_upgrade.specs.declared.dialect.Dialect.TheVariants.{Draft07, Draft2019, Draft2020}
 use Rattle.js_upgrade.specs.declared.keyword.Change.{Change}
-use Rattle.js_upgrade.specs.declared.keyword.Change.TheVariants.{Stays, Asserts, Refers}
-use Rattle.js_upgrade.specs.declared.keyword.Change.TheVariants.{HoldsOne, HoldsList, HoldsNamed}
-use Rattle.js_upgrade.specs.declared.keyword.Change.TheVariants.{Goes, Identifier, Definitions, Items, AdditionalItems}
+use Rattle.js_upgrade.specs.declared.keyword.Change.TheVariants.{Identifier, Definitions, Items, AdditionalItems}
 use Rattle.js_upgrade.specs.declared.keyword.Change.TheVariants.{Dependencies, Minimum, Maximum, Divisor, Types}
 use Rattle.js_upgrade.specs.declared.keyword.Change.TheVariants.{Disallowed, Extended, Properties}
-use Rattle.js_upgrade.specs.declared.keyword.Change.TheVariants.{Contains, RecursiveReference, RecursiveAnchor}
+use Rattle.js_upgrade.specs.declared.keyword.Change.TheVariants.{Contains, Anchor, RecursiveReference, RecursiveAnchor}
+use Rattle.js_upgrade.proofs.ByCases.{by_dialect, by_sibling, is_plain}
 use Rattle.js_upgrade.proofs.Agreeing.{beside_plain}
-use Rattle.js_upgrade.proofs.PlainChanges.{is_plain}
 
 -- ---- the names that a change gives, where it isn't the keyword's own
 
@@ -38,6 +34,7 @@ outputs listed Disallowed = codes "not" ∷ []
 outputs listed Extended = codes "allOf" ∷ []
 outputs listed Properties = codes "properties" ∷ codes "required" ∷ []
 outputs listed RecursiveReference = codes "$dynamicRef" ∷ []
+outputs listed Anchor = codes "$anchor" ∷ []
 outputs listed RecursiveAnchor = codes "$dynamicAnchor" ∷ []
 outputs listed _ = []
 
@@ -83,46 +80,16 @@ all_fit d listed [] = true
 all_fit d listed (row ∷ rows) = fits d listed row.0 row.1 && all_fit d listed rows
 
 core_fits : (d : Dialect) (listed : Bool) → all_fit d listed (core_rows d) ≡ true
-core_fits Draft03 true = refl
-core_fits Draft04 true = refl
-core_fits Draft06 true = refl
-core_fits Draft07 true = refl
-core_fits Draft2019 true = refl
-core_fits Draft2020 true = refl
-core_fits Draft03 false = refl
-core_fits Draft04 false = refl
-core_fits Draft06 false = refl
-core_fits Draft07 false = refl
-core_fits Draft2019 false = refl
-core_fits Draft2020 false = refl
+core_fits d true = by_dialect (λ e. all_fit e true (core_rows e) ≡ true) refl refl refl refl refl refl d
+core_fits d false = by_dialect (λ e. all_fit e false (core_rows e) ≡ true) refl refl refl refl refl refl d
 
 applicators_fit : (d : Dialect) (listed : Bool) → all_fit d listed (applicator_rows d) ≡ true
-applicators_fit Draft03 true = refl
-applicators_fit Draft04 true = refl
-applicators_fit Draft06 true = refl
-applicators_fit Draft07 true = refl
-applicators_fit Draft2019 true = refl
-applicators_fit Draft2020 true = refl
-applicators_fit Draft03 false = refl
-applicators_fit Draft04 false = refl
-applicators_fit Draft06 false = refl
-applicators_fit Draft07 false = refl
-applicators_fit Draft2019 false = refl
-applicators_fit Draft2020 false = refl
+applicators_fit d true = by_dialect (λ e. all_fit e true (applicator_rows e) ≡ true) refl refl refl refl refl refl d
+applicators_fit d false = by_dialect (λ e. all_fit e false (applicator_rows e) ≡ true) refl refl refl refl refl refl d
 
 assertions_fit : (d : Dialect) (listed : Bool) → all_fit d listed (assertion_rows d) ≡ true
-assertions_fit Draft03 true = refl
-assertions_fit Draft04 true = refl
-assertions_fit Draft06 true = refl
-assertions_fit Draft07 true = refl
-assertions_fit Draft2019 true = refl
-assertions_fit Draft2020 true = refl
-assertions_fit Draft03 false = refl
-assertions_fit Draft04 false = refl
-assertions_fit Draft06 false = refl
-assertions_fit Draft07 false = refl
-assertions_fit Draft2019 false = refl
-assertions_fit Draft2020 false = refl
+assertions_fit d true = by_dialect (λ e. all_fit e true (assertion_rows e) ≡ true) refl refl refl refl refl refl d
+assertions_fit d false = by_dialect (λ e. all_fit e false (assertion_rows e) ≡ true) refl refl refl refl refl refl d
 
 -- ---- what is found in them
 
@@ -176,18 +143,8 @@ all_keep d (row ∷ rows) = row_keeps d row && all_keep d rows
 
 origins_keep : (d : Dialect) (listed : Bool) → all_keep d (origin_rows d listed) ≡ true
 unfolding core_change applicator_change assertion_change
-origins_keep Draft03 true = refl
-origins_keep Draft04 true = refl
-origins_keep Draft06 true = refl
-origins_keep Draft07 true = refl
-origins_keep Draft2019 true = refl
-origins_keep Draft2020 true = refl
-origins_keep Draft03 false = refl
-origins_keep Draft04 false = refl
-origins_keep Draft06 false = refl
-origins_keep Draft07 false = refl
-origins_keep Draft2019 false = refl
-origins_keep Draft2020 false = refl
+origins_keep d true = by_dialect (λ e. all_keep e (origin_rows e true) ≡ true) refl refl refl refl refl refl d
+origins_keep d false = by_dialect (λ e. all_keep e (origin_rows e false) ≡ true) refl refl refl refl refl refl d
 
 kept_by : (same plain : Bool) (old new : Text) → bytes_eq old new ≡ same → same || not plain ≡ true → plain ≡ true
     → old ≡ new
@@ -218,28 +175,9 @@ plain_own d listed k plain = found_kept d k (origin_rows d listed) (origins_keep
 
 beside_fits : (d : Dialect) (listed : Bool) (k : Text) (change : Change) → fits d listed k change ≡ true
     → fits d listed k (beside_reference change) ≡ true
-beside_fits d listed k Definitions e = e
-beside_fits d listed k Stays e = refl
-beside_fits d listed k Refers e = refl
-beside_fits d listed k Asserts e = refl
-beside_fits d listed k HoldsOne e = refl
-beside_fits d listed k HoldsList e = refl
-beside_fits d listed k HoldsNamed e = refl
-beside_fits d listed k Goes e = refl
-beside_fits d listed k Identifier e = refl
-beside_fits d listed k Items e = refl
-beside_fits d listed k AdditionalItems e = refl
-beside_fits d listed k Dependencies e = refl
-beside_fits d listed k Minimum e = refl
-beside_fits d listed k Maximum e = refl
-beside_fits d listed k Divisor e = refl
-beside_fits d listed k Types e = refl
-beside_fits d listed k Disallowed e = refl
-beside_fits d listed k Extended e = refl
-beside_fits d listed k Properties e = refl
-beside_fits d listed k Contains e = refl
-beside_fits d listed k RecursiveReference e = refl
-beside_fits d listed k RecursiveAnchor e = refl
+beside_fits d listed k change =
+    by_sibling (λ c b. fits d listed k c ≡ true → fits d listed k b ≡ true) (λ e. refl) (λ e. e) (λ e. refl)
+    (λ c e. refl) change
 
 fits_by : (hidden : Bool) (d : Dialect) (listed : Bool) (k : Text)
     → fits d listed k (cond hidden (beside_reference (change_in d k)) (change_in d k)) ≡ true

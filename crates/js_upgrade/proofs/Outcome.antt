@@ -2,19 +2,22 @@
 use Rattle.std.proofs.Common.{◌≡◌, [], ◌∷◌, ◌++◌, Bool, true, false, not, ◌&&◌, Option, Some, None, cond, map, refl}
 use Rattle.std.proofs.Common.{sym, ap, ◌∙◌, subst, codes, option_and_then}
 use Rattle.std.specs.List.{after_first, before_first, list_any}
+use Rattle.percent_encoding.specs.Percent.{percent_decode}
 use Rattle.js_doc.specs.Value.{Value, null, truth, whole, text, list, object, Items as ItemList, no_items, item, items}
 use Rattle.js_doc.specs.Value.{members, Text, Values, Named}
 use Rattle.js_doc.specs.Members.{get, has_name}
 use Rattle.js_doc.specs.Parts.{item_list, member_list}
 use Rattle.js_doc.proofs.FiniteMaps.{get_past}
 use Rattle.js_doc.proofs.PartLists.{items-item_list, member_list-members}
+use Rattle.js_upgrade.specs.AnchorName.{anchor_name, anchor_upgraded}
+use Rattle.js_upgrade.specs.CopyName.{is_rooted}
 use Rattle.js_upgrade.specs.Current.{IsCurrent, ItemsAreCurrent}
 use Rattle.js_upgrade.specs.Dialect.{is_before}
 use Rattle.js_upgrade.specs.Keyword.{applicator_change, assertion_change, change_in, core_change}
 use Rattle.js_upgrade.specs.Schema.{alternative, alternatives_upgraded, change_of, dependencies_upgraded}
 use Rattle.js_upgrade.specs.Schema.{dependent_names, dependent_schema, extends_upgraded, gathered_members, is_any}
 use Rattle.js_upgrade.specs.Schema.{is_some_list}
-use Rattle.js_upgrade.specs.Schema.{identifier_upgraded, is_mark, is_plain_name, some_name, some_uri}
+use Rattle.js_upgrade.specs.Schema.{identifier_upgraded, is_mark, some_name, some_uri}
 use Rattle.js_upgrade.specs.Schema.{is_simple_type, is_true, list_or_schema_upgraded, members_found, one, put_all}
 use Rattle.js_upgrade.specs.Schema.{required_names, some_items, some_members, types_upgraded, upgraded_by}
 use Rattle.js_upgrade.specs.Schema.{contains_upgraded, contains_with_limits, is_identifier, negation, recursive_name}
@@ -28,13 +31,13 @@ use Rattle.js_upgrade.specs.declared.keyword.Change.TheVariants.{HoldsOne, Holds
 use Rattle.js_upgrade.specs.declared.keyword.Change.TheVariants.{Goes, Identifier, Definitions, Items, AdditionalItems}
 use Rattle.js_upgrade.specs.declared.keyword.Change.TheVariants.{Dependencies, Minimum, Maximum, Divisor, Types}
 use Rattle.js_upgrade.specs.declared.keyword.Change.TheVariants.{Disallowed, Extended, Properties}
-use Rattle.js_upgrade.specs.declared.keyword.Change.TheVariants.{Contains, RecursiveReference, RecursiveAnchor}
+use Rattle.js_upgrade.specs.declared.keyword.Change.TheVariants.{Contains, Anchor, RecursiveReference, RecursiveAnchor}
 use Rattle.js_upgrade.specs.declared.holding.SchemaHolding.{SchemaHolding}
 use Rattle.js_upgrade.specs.declared.holding.SchemaHolding.TheVariants.{One, Listed, Named as ByName, OneOrListed}
 use Rattle.js_upgrade.specs.declared.holding.SchemaHolding.TheVariants.{Nothing}
+use Rattle.js_upgrade.proofs.ByCases.{is_plain}
 use Rattle.js_upgrade.proofs.Agreeing.{IsFit, may_stand, stays_fit}
 use Rattle.js_upgrade.proofs.Each.{Each, are_current, each_append, each_current, each_gathered, each_put_all}
-use Rattle.js_upgrade.proofs.PlainChanges.{is_plain}
 
 -- ---- a member with a known name
 
@@ -88,10 +91,14 @@ unfolding core_change applicator_change assertion_change
 uri_fit last [] = tt
 uri_fit last (b ∷ bs) = (held_fit last (codes "$id") (text (b ∷ bs)) Nothing refl refl tt, tt)
 
-name_fit : (last is : Bool) (t : Text) → Each (IsFit last) (cond is (one (codes "$anchor") (text t)) [])
+name_by : (last rooted : Bool) (v : Value) → Each (IsFit last) (cond rooted [] (one (codes "$anchor") v))
 unfolding core_change applicator_change assertion_change
-name_fit last true t = (held_fit last (codes "$anchor") (text t) Nothing refl refl tt, tt)
-name_fit last false t = tt
+name_by last true v = tt
+name_by last false v = (held_fit last (codes "$anchor") v Nothing refl refl (nothing_current v), tt)
+
+name_fit : (last : Bool) (t : Text) → Each (IsFit last) (some_name t)
+name_fit last [] = tt
+name_fit last (b ∷ bs) = name_by last (is_rooted (b ∷ bs)) (text (anchor_name (percent_decode (b ∷ bs))))
 
 id_fit : (last : Bool) (v : Value) → Each (IsFit last) (one (codes "$id") v)
 unfolding core_change applicator_change assertion_change
@@ -101,7 +108,7 @@ identifier_fit : (last : Bool) (v : Value) → Each (IsFit last) (identifier_upg
 identifier_fit last (text t) =
     each_append (IsFit last) (some_uri (before_first is_mark t)) (some_name (after_first is_mark t))
     (uri_fit last (before_first is_mark t))
-    (name_fit last (is_plain_name (after_first is_mark t)) (after_first is_mark t))
+    (name_fit last (after_first is_mark t))
 identifier_fit last null = id_fit last null
 identifier_fit last (truth b) = id_fit last (truth b)
 identifier_fit last (whole z) = id_fit last (whole z)
@@ -339,6 +346,7 @@ module _ (last : Bool) (siblings : Named) (name : Text) (v : Value) where
   outcome Properties plain c =
       properties_fit last v (required_names (members_found (get (codes "properties") siblings))) c
   outcome Contains plain c = contains_fit last siblings v c
+  outcome Anchor plain c = name_by last false (anchor_upgraded v)
   outcome RecursiveReference plain c =
       (held_fit last (codes "$dynamicRef") v Nothing refl refl (nothing_current v), tt)
   outcome RecursiveAnchor plain c =

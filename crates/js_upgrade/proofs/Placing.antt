@@ -16,15 +16,10 @@ use Rattle.js_upgrade.specs.code.Placed.{ScopeSeen, argument_at, items_placed, k
 use Rattle.js_upgrade.specs.code.Placed.{members_placed, place_below, placed}
 use Rattle.js_upgrade.specs.declared.dialect.Dialect.{Dialect}
 use Rattle.js_upgrade.specs.declared.keyword.Change.{Change}
-use Rattle.js_upgrade.specs.declared.keyword.Change.TheVariants.{Stays, Asserts, Refers}
-use Rattle.js_upgrade.specs.declared.keyword.Change.TheVariants.{HoldsOne, HoldsList, HoldsNamed}
-use Rattle.js_upgrade.specs.declared.keyword.Change.TheVariants.{Goes, Identifier, Definitions, Items, AdditionalItems}
-use Rattle.js_upgrade.specs.declared.keyword.Change.TheVariants.{Dependencies, Minimum, Maximum, Divisor, Types}
-use Rattle.js_upgrade.specs.declared.keyword.Change.TheVariants.{Disallowed, Extended, Properties}
-use Rattle.js_upgrade.specs.declared.keyword.Change.TheVariants.{Contains, RecursiveReference, RecursiveAnchor}
 use Rattle.js_upgrade.specs.declared.holding.SchemaHolding.{SchemaHolding}
 use Rattle.js_upgrade.specs.declared.holding.SchemaHolding.TheVariants.{One, Listed, Named as ByName, OneOrListed}
 use Rattle.js_upgrade.specs.declared.holding.SchemaHolding.TheVariants.{Nothing}
+use Rattle.js_upgrade.proofs.ByCases.{by_argument}
 use Rattle.js_upgrade.proofs.Again.{nothing_upgraded}
 use Rattle.js_upgrade.proofs.KeptSiblings.{becomes_so, change_so, own_so}
 use Rattle.js_upgrade.proofs.Relocated.{schema_members}
@@ -101,28 +96,10 @@ module _ (all : List Resource) where
   argument_placed : (d : Dialect) (base : Parts) (v : Value) (change : Change)
       → IsPlaced d base v (holding_by_change change) (argument_rewritten all change base v)
       (argument_rewritten all change base v)
-  argument_placed d base v Stays e = e
-  argument_placed d base v Asserts e = e
-  argument_placed d base v HoldsOne e = e
-  argument_placed d base v HoldsList e = e
-  argument_placed d base v HoldsNamed e = e
-  argument_placed d base v Goes e = e
-  argument_placed d base v Identifier e = e
-  argument_placed d base v Definitions e = e
-  argument_placed d base v Items e = e
-  argument_placed d base v AdditionalItems e = e
-  argument_placed d base v Dependencies e = e
-  argument_placed d base v Minimum e = e
-  argument_placed d base v Maximum e = e
-  argument_placed d base v Divisor e = e
-  argument_placed d base v Types e = e
-  argument_placed d base v Disallowed e = e
-  argument_placed d base v Extended e = e
-  argument_placed d base v Properties e = e
-  argument_placed d base v Contains e = e
-  argument_placed d base v RecursiveAnchor e = e
-  argument_placed d base v Refers e = sym (nothing_upgraded d (rewritten all base v))
-  argument_placed d base v RecursiveReference e = sym (nothing_upgraded d (recursion_rewritten all base v))
+  argument_placed d base v change =
+      by_argument all base (λ c f. IsPlaced d base v (holding_by_change c) (f v) (f v))
+      (λ e. sym (nothing_upgraded d (rewritten all base v)))
+      (λ e. sym (nothing_upgraded d (recursion_rewritten all base v))) (λ c other e. e) change
 
   -- a schema is of the same dialect then, and its keywords become the same
   abbrev IsMade : Dialect → Parts → Members → Named → Type 0

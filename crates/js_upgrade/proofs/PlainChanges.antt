@@ -7,22 +7,7 @@ use Rattle.js_upgrade.specs.Keyword.{change_in, core_rows, core_change, or_stays
 use Rattle.js_upgrade.specs.Schema.{one, upgraded_by}
 use Rattle.js_upgrade.specs.declared.dialect.Dialect.TheVariants.{Draft2020}
 use Rattle.js_upgrade.specs.declared.keyword.Change.{Change}
-use Rattle.js_upgrade.specs.declared.keyword.Change.TheVariants.{Stays, Asserts, Refers}
-use Rattle.js_upgrade.specs.declared.keyword.Change.TheVariants.{HoldsOne, HoldsList, HoldsNamed}
-use Rattle.js_upgrade.specs.declared.keyword.Change.TheVariants.{Goes, Identifier, Definitions, Items, AdditionalItems}
-use Rattle.js_upgrade.specs.declared.keyword.Change.TheVariants.{Dependencies, Minimum, Maximum, Divisor, Types}
-use Rattle.js_upgrade.specs.declared.keyword.Change.TheVariants.{Disallowed, Extended, Properties}
-use Rattle.js_upgrade.specs.declared.keyword.Change.TheVariants.{Contains, RecursiveReference, RecursiveAnchor}
-
--- the keyword stays as it is
-abbrev pub is_plain : Change → Bool
-is_plain Stays = true
-is_plain Asserts = true
-is_plain Refers = true
-is_plain HoldsOne = true
-is_plain HoldsList = true
-is_plain HoldsNamed = true
-is_plain _ = false
+use Rattle.js_upgrade.proofs.ByCases.{by_plain, is_plain}
 
 abbrev plain_or_none : Option Change → Bool
 plain_or_none None = true
@@ -63,28 +48,8 @@ change_plain name = or_plain _ (first_plain _ _ (found_plain (assertion_rows Dra
 
 stays_by : (siblings : Named) (name : Text) (v : Value) (change : Change) → is_plain change ≡ true
     → upgraded_by siblings name v change ≡ one name v
-stays_by siblings name v Stays e = refl
-stays_by siblings name v Asserts e = refl
-stays_by siblings name v Refers e = refl
-stays_by siblings name v HoldsOne e = refl
-stays_by siblings name v HoldsList e = refl
-stays_by siblings name v HoldsNamed e = refl
-stays_by siblings name v Goes e = absurd (cc)
-stays_by siblings name v Identifier e = absurd (cc)
-stays_by siblings name v Definitions e = absurd (cc)
-stays_by siblings name v Items e = absurd (cc)
-stays_by siblings name v AdditionalItems e = absurd (cc)
-stays_by siblings name v Dependencies e = absurd (cc)
-stays_by siblings name v Minimum e = absurd (cc)
-stays_by siblings name v Maximum e = absurd (cc)
-stays_by siblings name v Divisor e = absurd (cc)
-stays_by siblings name v Types e = absurd (cc)
-stays_by siblings name v Disallowed e = absurd (cc)
-stays_by siblings name v Extended e = absurd (cc)
-stays_by siblings name v Properties e = absurd (cc)
-stays_by siblings name v Contains e = absurd (cc)
-stays_by siblings name v RecursiveReference e = absurd (cc)
-stays_by siblings name v RecursiveAnchor e = absurd (cc)
+stays_by siblings name v change =
+    by_plain (λ c. upgraded_by siblings name v c ≡ one name v) refl refl refl refl refl refl change
 
 pub keyword_stays : (siblings : Named) (name : Text) (v : Value)
     → upgraded_by siblings name v (change_in Draft2020 name) ≡ one name v

@@ -16,16 +16,11 @@ use Rattle.js_upgrade.specs.Upgrade.{holding_in, holding_by_change, own_dialect}
 use Rattle.js_upgrade.specs.Url.{uri_printed}
 use Rattle.js_upgrade.specs.declared.dialect.Dialect.{Dialect}
 use Rattle.js_upgrade.specs.declared.keyword.Change.{Change}
-use Rattle.js_upgrade.specs.declared.keyword.Change.TheVariants.{Stays, Asserts, Refers}
-use Rattle.js_upgrade.specs.declared.keyword.Change.TheVariants.{HoldsOne, HoldsList, HoldsNamed}
-use Rattle.js_upgrade.specs.declared.keyword.Change.TheVariants.{Goes, Identifier, Definitions, Items, AdditionalItems}
-use Rattle.js_upgrade.specs.declared.keyword.Change.TheVariants.{Dependencies, Minimum, Maximum, Divisor, Types}
-use Rattle.js_upgrade.specs.declared.keyword.Change.TheVariants.{Disallowed, Extended, Properties}
-use Rattle.js_upgrade.specs.declared.keyword.Change.TheVariants.{Contains, RecursiveReference, RecursiveAnchor}
 use Rattle.js_upgrade.specs.declared.holding.SchemaHolding.{SchemaHolding}
 use Rattle.js_upgrade.specs.declared.holding.SchemaHolding.TheVariants.{One, Listed, Named as ByName, OneOrListed}
 use Rattle.js_upgrade.specs.declared.holding.SchemaHolding.TheVariants.{Nothing}
-use Rattle.js_upgrade.proofs.KeptArguments.{IsEverywhere, are_kept, is_nothing, is_plain, keeps, split}
+use Rattle.js_upgrade.proofs.ByCases.{by_argument, is_no_reference}
+use Rattle.js_upgrade.proofs.KeptArguments.{IsEverywhere, are_kept, is_nothing, keeps, split}
 
 -- ---- names ascend
 
@@ -44,29 +39,11 @@ module _ (all : List Resource) where
 
   argument_ascends : (change : Change) (base : Parts) (v w : Value) → NamesAscend v → NamesAscend w
       → NamesAscend (argument_rewritten all change base v w)
-  argument_ascends Refers base v w s t = rewritten_ascends base v s
-  argument_ascends RecursiveReference base v w s t =
-      either_ascends (recurses_at (resource_named all (uri_printed base))) (codes "#recursiveAnchor") v s
-  argument_ascends Stays base v w s t = t
-  argument_ascends Asserts base v w s t = t
-  argument_ascends HoldsOne base v w s t = t
-  argument_ascends HoldsList base v w s t = t
-  argument_ascends HoldsNamed base v w s t = t
-  argument_ascends Goes base v w s t = t
-  argument_ascends Identifier base v w s t = t
-  argument_ascends Definitions base v w s t = t
-  argument_ascends Items base v w s t = t
-  argument_ascends AdditionalItems base v w s t = t
-  argument_ascends Dependencies base v w s t = t
-  argument_ascends Minimum base v w s t = t
-  argument_ascends Maximum base v w s t = t
-  argument_ascends Divisor base v w s t = t
-  argument_ascends Types base v w s t = t
-  argument_ascends Disallowed base v w s t = t
-  argument_ascends Extended base v w s t = t
-  argument_ascends Properties base v w s t = t
-  argument_ascends Contains base v w s t = t
-  argument_ascends RecursiveAnchor base v w s t = t
+  argument_ascends change base =
+      by_argument all base (λ c f. (v w : Value) → NamesAscend v → NamesAscend w → NamesAscend (f v w))
+      (λ v w s t. rewritten_ascends base v s)
+      (λ v w s t. either_ascends (recurses_at (resource_named all (uri_printed base))) (codes "#recursiveAnchor") v s)
+      (λ c other v w s t. t) change
 
   below_relocated : (held : Text → SchemaHolding) (argument : Text → Value → Value → Value) (d : Dialect) (base : Parts)
       (k : Text) (ms : Members) → IsBelowFirst k ms
@@ -186,30 +163,12 @@ module _ (all : List Resource) where
 
   -- ---- an argument that has no schemas and is no reference stays
 
-  pub plain_argument : (change : Change) (d : Dialect) (base : Parts) (v : Value) → is_plain change ≡ true
+  pub plain_argument : (change : Change) (d : Dialect) (base : Parts) (v : Value) → is_no_reference change ≡ true
       → argument_of change d base v ≡ relocated all (holding_by_change change) d base v
-  plain_argument Stays d base v e = refl
-  plain_argument Asserts d base v e = refl
-  plain_argument HoldsOne d base v e = refl
-  plain_argument HoldsList d base v e = refl
-  plain_argument HoldsNamed d base v e = refl
-  plain_argument Goes d base v e = refl
-  plain_argument Identifier d base v e = refl
-  plain_argument Definitions d base v e = refl
-  plain_argument Items d base v e = refl
-  plain_argument AdditionalItems d base v e = refl
-  plain_argument Dependencies d base v e = refl
-  plain_argument Minimum d base v e = refl
-  plain_argument Maximum d base v e = refl
-  plain_argument Divisor d base v e = refl
-  plain_argument Types d base v e = refl
-  plain_argument Disallowed d base v e = refl
-  plain_argument Extended d base v e = refl
-  plain_argument Properties d base v e = refl
-  plain_argument Contains d base v e = refl
-  plain_argument RecursiveAnchor d base v e = refl
-  plain_argument Refers d base v e = absurd (cc)
-  plain_argument RecursiveReference d base v e = absurd (cc)
+  plain_argument change d base v =
+      by_argument all base (λ c f. is_no_reference c ≡ true
+      → f v (relocated all (holding_by_change c) d base v) ≡ relocated all (holding_by_change c) d base v)
+      (λ e. absurd (cc)) (λ e. absurd (cc)) (λ c other e. refl) change
 
   nothing_held : (h : SchemaHolding) (d : Dialect) (base : Parts) (v : Value) → is_nothing h ≡ true
       → relocated all h d base v ≡ v
@@ -222,7 +181,7 @@ module _ (all : List Resource) where
   pub kept : (change : Change) (d : Dialect) (base : Parts) (v : Value) → keeps change ≡ true
       → argument_of change d base v ≡ v
   kept change d base v e =
-      let parts = split (is_plain change) (is_nothing (holding_by_change change)) e in
+      let parts = split (is_no_reference change) (is_nothing (holding_by_change change)) e in
       plain_argument change d base v parts.0 ∙ nothing_held (holding_by_change change) d base v parts.1
 
   unmapped : (f : Value → Value) → ((v : Value) → f v ≡ v) → (found : Option Value) → option_map f found ≡ found

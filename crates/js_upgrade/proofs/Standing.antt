@@ -27,8 +27,9 @@ use Rattle.js_upgrade.specs.declared.keyword.Change.TheVariants.{HoldsOne, Holds
 use Rattle.js_upgrade.specs.declared.keyword.Change.TheVariants.{Goes, Identifier, Definitions, Items, AdditionalItems}
 use Rattle.js_upgrade.specs.declared.keyword.Change.TheVariants.{Dependencies, Minimum, Maximum, Divisor, Types}
 use Rattle.js_upgrade.specs.declared.keyword.Change.TheVariants.{Disallowed, Extended, Properties}
-use Rattle.js_upgrade.specs.declared.keyword.Change.TheVariants.{Contains, RecursiveReference, RecursiveAnchor}
+use Rattle.js_upgrade.specs.declared.keyword.Change.TheVariants.{Contains, Anchor, RecursiveReference, RecursiveAnchor}
 use Rattle.js_upgrade.specs.declared.holding.SchemaHolding.TheVariants.{One, Listed, Named as ByName, OneOrListed}
+use Rattle.js_upgrade.proofs.ByCases.{is_plain}
 use Rattle.js_upgrade.proofs.Each.{Each}
 use Rattle.js_upgrade.proofs.EachOrigin.{from_first, from_second}
 use Rattle.js_upgrade.proofs.InOrder.{names_ascend}
@@ -36,7 +37,6 @@ use Rattle.js_upgrade.proofs.Lookups.{gathered_get}
 use Rattle.js_upgrade.proofs.Origins.{all_from, outputs}
 use Rattle.js_upgrade.proofs.PartsAt.{first, found_at, get_last, get_upgraded, item_upgraded, member_at, single}
 use Rattle.js_upgrade.proofs.PartsAt.{tokens_or_none}
-use Rattle.js_upgrade.proofs.PlainChanges.{is_plain}
 use Rattle.js_upgrade.proofs.Staying.{ascending}
 
 -- ---- schemas among dependencies
@@ -483,4 +483,5 @@ module _ (src : Text → Text) (siblings : Named) (token : Text) (d : Dialect) (
       single (codes "$dynamicRef") u ts inner ks x e
       (has (codes "$dynamicRef") u (from_first src token (codes "$dynamicRef") [] from)
       (get-put (codes "$dynamicRef") u [])) below
+  stands_in Anchor from plain same held e mv below has = absurd (cc)
   stands_in RecursiveAnchor from plain same held e mv below has = absurd (cc)

@@ -1,8 +1,9 @@
 -- Documents of 2020-12 that are upgraded together stay as they are, and so do their references.
 use Rattle.std.proofs.Common.{◌≡◌, ℕ, ◌+◌, List, [], ◌∷◌, ◌++◌, Bool, true, false, ◌&&◌, Option, Some, None, cond, map}
 use Rattle.std.proofs.Common.{decimal, find, is_some, option_and_then, refl, sym, ap, ap₂, ◌∙◌, subst}
-use Rattle.std.proofs.Common.{bytes_eq, codes}
+use Rattle.std.proofs.Common.{bytes_eq, codes, unwrap_or}
 use Rattle.std.specs.List.{AllByRecursion, list_all}
+use Rattle.percent_encoding.specs.Percent.{percent_decode}
 use Rattle.url.specs.Parts.{Parts}
 use Rattle.js_doc.specs.Lookup.{is_text, item_named, member_named, part_named}
 use Rattle.js_doc.specs.Parts.{item_list, member_list}
@@ -12,6 +13,7 @@ use Rattle.js_doc.specs.Value.{Members, no_members, member, members, Text, Named
 use Rattle.js_doc.proofs.PartLists.{items-item_list, members-member_list}
 use Rattle.js_doc.proofs.TokenLookup.{is_text-refl, is_text-sound}
 use Rattle.js_upgrade.specs.CopyName.{redirected}
+use Rattle.js_upgrade.specs.Dialect.{is_before}
 use Rattle.js_upgrade.specs.Current.{AreCurrent, IsCurrent, ItemsAreCurrent}
 use Rattle.js_upgrade.specs.Documents.{SourceDocument, all_resources, is_known, resources_by}
 use Rattle.js_upgrade.specs.Documents.{anchored, source_resources, upgraded_among, upgraded_by_dialect}
@@ -20,7 +22,7 @@ use Rattle.js_upgrade.specs.Laws.{AllCurrentStay, IsCurrentSource}
 use Rattle.js_upgrade.specs.Moved.{both, just, moved_tokens, step, tokens_under}
 use Rattle.js_upgrade.specs.Reference.{argument_rewritten, as_it_is, followed, in_resource, items_relocated}
 use Rattle.js_upgrade.specs.Reference.{members_relocated, moved_in, recurses_at, recursion_rewritten, relocated}
-use Rattle.js_upgrade.specs.Reference.{rewritten, are_same_tokens, with_pointer, with_target}
+use Rattle.js_upgrade.specs.Reference.{rewritten, are_same_tokens, is_older, with_name, with_pointer, with_target}
 use Rattle.js_upgrade.specs.Resource.{Resource, begun, identity, item_resources, member_resources, own_base}
 use Rattle.js_upgrade.specs.Resource.{recurses}
 use Rattle.js_upgrade.specs.Resource.{has_recursion, is_recursive, resource_named, resources, root_resources}
@@ -30,18 +32,13 @@ use Rattle.js_upgrade.specs.Url.{fragment_pointer, uri_joined, uri_printed, uri_
 use Rattle.js_upgrade.specs.declared.dialect.Dialect.{Dialect}
 use Rattle.js_upgrade.specs.declared.dialect.Dialect.TheVariants.{Draft2020}
 use Rattle.js_upgrade.specs.declared.keyword.Change.{Change}
-use Rattle.js_upgrade.specs.declared.keyword.Change.TheVariants.{Stays, Asserts, Refers}
-use Rattle.js_upgrade.specs.declared.keyword.Change.TheVariants.{HoldsOne, HoldsList, HoldsNamed}
-use Rattle.js_upgrade.specs.declared.keyword.Change.TheVariants.{Goes, Identifier, Definitions, Items, AdditionalItems}
-use Rattle.js_upgrade.specs.declared.keyword.Change.TheVariants.{Dependencies, Minimum, Maximum, Divisor, Types}
-use Rattle.js_upgrade.specs.declared.keyword.Change.TheVariants.{Disallowed, Extended, Properties}
-use Rattle.js_upgrade.specs.declared.keyword.Change.TheVariants.{Contains, RecursiveReference, RecursiveAnchor}
 use Rattle.js_upgrade.specs.declared.holding.SchemaHolding.{SchemaHolding}
 use Rattle.js_upgrade.specs.declared.holding.SchemaHolding.TheVariants.{One, Listed, Named as ByName, OneOrListed}
 use Rattle.js_upgrade.specs.declared.holding.SchemaHolding.TheVariants.{Nothing}
+use Rattle.js_upgrade.proofs.ByCases.{by_argument, by_plain, is_plain}
 use Rattle.js_upgrade.proofs.MovedParts.{both_are, tokens_of}
 use Rattle.js_upgrade.proofs.Outcome.{nothing_current}
-use Rattle.js_upgrade.proofs.PlainChanges.{change_plain, is_plain}
+use Rattle.js_upgrade.proofs.PlainChanges.{change_plain}
 use Rattle.js_upgrade.proofs.Staying.{stays}
 use Rattle.js_upgrade.proofs.WithoutCopies.{all_take_none, redirected_none, upgraded_without}
 
@@ -49,28 +46,8 @@ use Rattle.js_upgrade.proofs.WithoutCopies.{all_take_none, redirected_none, upgr
 
 under_plain : (siblings : Named) (name : Text) (v : Value) (rest : Tokens) (change : Change) → is_plain change ≡ true
     → tokens_under siblings name v rest change ≡ just name
-under_plain siblings name v rest Stays e = refl
-under_plain siblings name v rest Asserts e = refl
-under_plain siblings name v rest Refers e = refl
-under_plain siblings name v rest HoldsOne e = refl
-under_plain siblings name v rest HoldsList e = refl
-under_plain siblings name v rest HoldsNamed e = refl
-under_plain siblings name v rest Goes e = absurd (cc)
-under_plain siblings name v rest Identifier e = absurd (cc)
-under_plain siblings name v rest Definitions e = absurd (cc)
-under_plain siblings name v rest Items e = absurd (cc)
-under_plain siblings name v rest AdditionalItems e = absurd (cc)
-under_plain siblings name v rest Dependencies e = absurd (cc)
-under_plain siblings name v rest Minimum e = absurd (cc)
-under_plain siblings name v rest Maximum e = absurd (cc)
-under_plain siblings name v rest Divisor e = absurd (cc)
-under_plain siblings name v rest Types e = absurd (cc)
-under_plain siblings name v rest Disallowed e = absurd (cc)
-under_plain siblings name v rest Extended e = absurd (cc)
-under_plain siblings name v rest Properties e = absurd (cc)
-under_plain siblings name v rest Contains e = absurd (cc)
-under_plain siblings name v rest RecursiveReference e = absurd (cc)
-under_plain siblings name v rest RecursiveAnchor e = absurd (cc)
+under_plain siblings name v rest change =
+    by_plain (λ c. tokens_under siblings name v rest c ≡ just name) refl refl refl refl refl refl change
 
 abbrev value_or : Value → Option Value → Value
 value_or v None = v
@@ -192,10 +169,20 @@ unrecursive (whole z) c = refl
 unrecursive (text t) c = refl
 unrecursive (list vs) c = refl
 
--- a resource in which no token moves, and whose root doesn't recurse
+-- its names are those of 2020-12
+current_names : (root : Value) → IsCurrent One root → is_older Draft2020 root ≡ false
+current_names (object ms) c = ap (λ d. is_before d Draft2020) c.0
+current_names null c = refl
+current_names (truth b) c = refl
+current_names (whole z) c = refl
+current_names (text t) c = refl
+current_names (list vs) c = refl
+
+-- a resource in which no token moves and no name, and whose root doesn't recurse
 abbrev pub IsStill : Resource → Type 0
 IsStill r =
     ((tokens new : Tokens) → moved_in r tokens ≡ Some new → tokens ≡ new) × (recurses r ≡ false)
+    × (is_older r.dialect r.root ≡ false)
 
 still_current : (r : Resource) → IsCurrentResource r → IsStill r
 still_current r c = (
@@ -204,17 +191,20 @@ still_current r c = (
       ∙ ap (λ copies. moved_tokens One Draft2020 r.root (redirected Draft2020 copies tokens)) c.2
       ∙ ap (moved_tokens One Draft2020 r.root) (redirected_none Draft2020 tokens)) ∙ is),
   ap (λ d. has_recursion d r.root) c.0 ∙ unrecursive r.root c.1,
+  ap (λ d. is_older d r.root) c.0 ∙ current_names r.root c.1,
 )
 
 pub stills : (all : List Resource) → AllByRecursion IsCurrentResource all → AllByRecursion IsStill all
 stills [] c = tt
 stills (r ∷ all) c = (still_current r c.0, stills all c.1)
 
-reference_stays : (t : Text) (tokens : Option Tokens) (found : Option Resource)
-    → ((r : Resource) → found ≡ Some r → IsStill r) → in_resource t tokens found ≡ t
-reference_stays t None found c = refl
-reference_stays t (Some tokens) None c = refl
-reference_stays t (Some tokens) (Some r) c =
+reference_stays : (t fragment : Text) (tokens : Option Tokens) (found : Option Resource)
+    → ((r : Resource) → found ≡ Some r → IsStill r) → in_resource t fragment tokens found ≡ t
+reference_stays t fragment None None c = refl
+reference_stays t fragment None (Some r) c =
+    ap (λ b. cond b (with_name t (percent_decode fragment)) t) (c r refl).2
+reference_stays t fragment (Some tokens) None c = refl
+reference_stays t fragment (Some tokens) (Some r) c =
     target_stays t tokens (moved_in r tokens) (λ p is. (c r refl).0 tokens p is)
 
 found_by : (f : Resource → Bool) (b : Bool) (r s : Resource) (all : List Resource) → IsStill r
@@ -235,7 +225,8 @@ module _ (all : List Resource) (c : AllByRecursion IsStill all) where
   followed_stays : (t : Text) (uri : Option Parts) → followed all t uri ≡ t
   followed_stays t None = refl
   followed_stays t (Some uri) =
-      reference_stays t (fragment_pointer uri) (resource_named all (uri_printed (uri_without_fragment uri)))
+      reference_stays t (unwrap_or uri.fragment []) (fragment_pointer uri)
+      (resource_named all (uri_printed (uri_without_fragment uri)))
       (λ r is. found_current (λ s. bytes_eq (uri_printed (uri_without_fragment uri)) s.uri) all r c is)
 
   rewritten_stays : (base : Parts) (v : Value) → rewritten all base v ≡ v
@@ -254,28 +245,9 @@ module _ (all : List Resource) (c : AllByRecursion IsStill all) where
 
   argument_stays : (change : Change) (base : Parts) (v w : Value) → w ≡ v
       → argument_rewritten all change base v w ≡ v
-  argument_stays Refers base v w same = rewritten_stays base v
-  argument_stays Stays base v w same = same
-  argument_stays Asserts base v w same = same
-  argument_stays HoldsOne base v w same = same
-  argument_stays HoldsList base v w same = same
-  argument_stays HoldsNamed base v w same = same
-  argument_stays Goes base v w same = same
-  argument_stays Identifier base v w same = same
-  argument_stays Definitions base v w same = same
-  argument_stays Items base v w same = same
-  argument_stays AdditionalItems base v w same = same
-  argument_stays Dependencies base v w same = same
-  argument_stays Minimum base v w same = same
-  argument_stays Maximum base v w same = same
-  argument_stays Divisor base v w same = same
-  argument_stays Types base v w same = same
-  argument_stays Disallowed base v w same = same
-  argument_stays Extended base v w same = same
-  argument_stays Properties base v w same = same
-  argument_stays Contains base v w same = same
-  argument_stays RecursiveReference base v w same = recursion_stays base v
-  argument_stays RecursiveAnchor base v w same = same
+  argument_stays change base =
+      by_argument all base (λ c f. (v w : Value) → w ≡ v → f v w ≡ v) (λ v w same. rewritten_stays base v)
+      (λ v w same. recursion_stays base v) (λ c other v w same. same) change
 
   -- ---- a value
 

@@ -24,8 +24,7 @@ use Rattle.js_upgrade.specs.Url.{uri_limit}
 use Rattle.js_upgrade.specs.code.Local.{is_fragment_byte, local_fragment}
 use Rattle.js_upgrade.specs.code.Usual.{is_usual_byte, plain_name, usual_name, usual_prefix}
 use Rattle.js_upgrade.specs.declared.dialect.Dialect.{Dialect}
-use Rattle.js_upgrade.specs.declared.dialect.Dialect.TheVariants.{Draft03, Draft04, Draft06}
-use Rattle.js_upgrade.specs.declared.dialect.Dialect.TheVariants.{Draft07, Draft2019, Draft2020}
+use Rattle.js_upgrade.proofs.ByCases.{by_dialect}
 use Rattle.js_upgrade.proofs.Prefixes.{after-prefixed, some_is}
 
 -- ---- how it is written
@@ -150,30 +149,19 @@ abbrev pub usual_tokens : Dialect → Text → Tokens
 usual_tokens d name = definitions_name d ∷ name ∷ []
 
 prefix_is : (d : Dialect) (name : Text) → usual_prefix d ++ name ≡ 35 ∷ usual_fragment d name
-prefix_is Draft03 name = refl
-prefix_is Draft04 name = refl
-prefix_is Draft06 name = refl
-prefix_is Draft07 name = refl
-prefix_is Draft2019 name = refl
-prefix_is Draft2020 name = refl
+prefix_is d name = by_dialect (λ e. usual_prefix e ++ name ≡ 35 ∷ usual_fragment e name) refl refl refl refl refl refl d
 
 all_there : (d : Dialect) (name : Text) → list_all is_usual_byte name ≡ true
     → list_all stands (usual_fragment d name) ≡ true
-all_there Draft03 name is = all_stand name is
-all_there Draft04 name is = all_stand name is
-all_there Draft06 name is = all_stand name is
-all_there Draft07 name is = all_stand name is
-all_there Draft2019 name is = all_stand name is
-all_there Draft2020 name is = all_stand name is
+all_there d name is =
+    let all = all_stand name is in
+    by_dialect (λ e. list_all stands (usual_fragment e name) ≡ true) all all all all all all d
 
 -- with 20 bytes more than the name, at most
 long_enough : (d : Dialect) (name : Text) → length (35 ∷ usual_fragment d name) ≤ length name + 20
-long_enough Draft03 name = omega arith
-long_enough Draft04 name = omega arith
-long_enough Draft06 name = omega arith
-long_enough Draft07 name = omega arith
-long_enough Draft2019 name = omega arith
-long_enough Draft2020 name = omega arith
+long_enough d name =
+    by_dialect (λ e. length (35 ∷ usual_fragment e name) ≤ length name + 20) (omega arith) (omega arith) (omega arith)
+    (omega arith) (omega arith) (omega arith) d
 
 local_by : (fragment : Text) (long kept : Bool) → nat_lt uri_limit (length (35 ∷ fragment)) ≡ long
     → list_all is_fragment_byte fragment ≡ kept → long ≡ false → kept ≡ true
@@ -216,16 +204,12 @@ module _ (d : Dialect) (t name : Text) (is : usual_name d t ≡ Some name) where
       (all_ascii (usual_fragment d name) (all_fragment (usual_fragment d name) it_stands)))
 
   written : pointer_text (usual_tokens d name) ≡ usual_fragment d name
-  written = written_by d name (all_kept name (usual_kept name plain_bytes))
-    where
-      written_by : (d : Dialect) (name : Text) → escape name ≡ name → pointer_text (usual_tokens d name)
-          ≡ usual_fragment d name
-      written_by Draft03 name same = ap (λ n. codes "/definitions/" ++ n) (append-nil (escape name) ∙ same)
-      written_by Draft04 name same = ap (λ n. codes "/definitions/" ++ n) (append-nil (escape name) ∙ same)
-      written_by Draft06 name same = ap (λ n. codes "/definitions/" ++ n) (append-nil (escape name) ∙ same)
-      written_by Draft07 name same = ap (λ n. codes "/definitions/" ++ n) (append-nil (escape name) ∙ same)
-      written_by Draft2019 name same = ap (λ n. codes "/$defs/" ++ n) (append-nil (escape name) ∙ same)
-      written_by Draft2020 name same = ap (λ n. codes "/$defs/" ++ n) (append-nil (escape name) ∙ same)
+  written =
+      let same = append-nil (escape name) ∙ all_kept name (usual_kept name plain_bytes) in
+      let definitions = ap (λ n. codes "/definitions/" ++ n) same in
+      let defs = ap (λ n. codes "/$defs/" ++ n) same in
+      by_dialect (λ e. pointer_text (usual_tokens e name) ≡ usual_fragment e name) definitions definitions definitions
+      definitions defs defs d
 
   -- the pointer that the fragment is
   pub usual_pointer : Some (usual_tokens d name)

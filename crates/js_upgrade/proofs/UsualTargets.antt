@@ -46,6 +46,7 @@ use Rattle.js_upgrade.specs.declared.holding.SchemaHolding.TheVariants.{One, Nam
 use Rattle.js_upgrade.specs.declared.keyword.Change.{Change}
 use Rattle.js_upgrade.specs.declared.keyword.Change.TheVariants.{Definitions as Moves, HoldsNamed}
 use Rattle.js_upgrade.specs.declared.fault.UpgradeFaultKind.TheVariants.{Unresolved}
+use Rattle.js_upgrade.proofs.ByCases.{by_dialect}
 use Rattle.js_upgrade.proofs.LocalFragments.{local_copied, local_followed, local_kind}
 use Rattle.js_upgrade.proofs.PartsAt.{member_at}
 use Rattle.js_upgrade.proofs.UsualReferences.{all_usual, its_text, plain_bytes, usual_fragment, usual_local}
@@ -111,22 +112,13 @@ held_by d change siblings name held is new below =
       holding = holding_by_change c;
       dialect = d;
       into = tokens_under siblings (definitions_name d) held (name ∷ []) c;
-    }) held (name ∷ []))) (is ∙ new) ∙ by_dialect d below
-  where
-    by_dialect : (d : Dialect) → apart ByName d held (name ∷ []) ≡ None
-        → option_and_then (λ h. apart h.holding h.dialect held (name ∷ []))
-        (onward (record {
-          holding = holding_by_change (definitions_change d);
-          dialect = d;
-          into = tokens_under siblings (definitions_name d) held (name ∷ [])
-              (definitions_change d);
-        }) held (name ∷ [])) ≡ None
-    by_dialect Draft03 below = below
-    by_dialect Draft04 below = below
-    by_dialect Draft06 below = below
-    by_dialect Draft07 below = below
-    by_dialect Draft2019 below = below
-    by_dialect Draft2020 below = below
+    }) held (name ∷ []))) (is ∙ new)
+    ∙ by_dialect (λ e. option_and_then (λ h. apart h.holding h.dialect held (name ∷ []))
+    (onward (record {
+      holding = holding_by_change (definitions_change e);
+      dialect = d;
+      into = tokens_under siblings (definitions_name d) held (name ∷ []) (definitions_change e);
+    }) held (name ∷ [])) ≡ None) below below below below below below d
 
 -- the root's keyword holds it
 held_in_root : (d : Dialect) (siblings : Members) (name : Text) (ms : Named)
@@ -248,17 +240,13 @@ moved_by : (d : Dialect) (siblings : Named) (held : Value) (name : Text)
     ≡ Some (defs_tokens name)
 moved_by d siblings held name below =
     ap (λ c. both (tokens_under siblings (definitions_name d) held (name ∷ []) c)
-    (moved_tokens (holding_by_change c) d held (name ∷ []))) (change_is d siblings) ∙ by_dialect d below
+    (moved_tokens (holding_by_change c) d held (name ∷ []))) (change_is d siblings)
+    ∙ by_dialect (λ e. both (tokens_under siblings (definitions_name e) held (name ∷ []) (definitions_change e))
+    (moved_tokens (holding_by_change (definitions_change e)) d held (name ∷ [])) ≡ Some (defs_tokens name)) there there
+    there there there there d
   where
-    by_dialect : (d : Dialect) → moved_tokens ByName d held (name ∷ []) ≡ Some (name ∷ [])
-        → both (tokens_under siblings (definitions_name d) held (name ∷ []) (definitions_change d))
-        (moved_tokens (holding_by_change (definitions_change d)) d held (name ∷ [])) ≡ Some (defs_tokens name)
-    by_dialect Draft03 below = ap (both (Some (codes "$defs" ∷ []))) below
-    by_dialect Draft04 below = ap (both (Some (codes "$defs" ∷ []))) below
-    by_dialect Draft06 below = ap (both (Some (codes "$defs" ∷ []))) below
-    by_dialect Draft07 below = ap (both (Some (codes "$defs" ∷ []))) below
-    by_dialect Draft2019 below = ap (both (Some (codes "$defs" ∷ []))) below
-    by_dialect Draft2020 below = ap (both (Some (codes "$defs" ∷ []))) below
+    there : both (Some (codes "$defs" ∷ [])) (moved_tokens ByName d held (name ∷ [])) ≡ Some (defs_tokens name)
+    there = ap (both (Some (codes "$defs" ∷ []))) below
 
 moved_from : (d : Dialect) (root : Value) (name : Text) (ms : Named) → own_dialect d (members_of root) ≡ d
     → get (definitions_name d) (members_of root) ≡ Some (object (members ms)) → is_some (get name ms) ≡ true
@@ -320,7 +308,7 @@ module _ (r : Resource) (t : Text) (target : UsualTarget) (known : IsUsualTarget
       ∙ moved_from r.dialect r.root target.name.now (definitions_of r.dialect r.root) (its_dialect r known.0)
       (its_definitions r known.0) known.3
 
-  text_here : in_resource t (Some tokens) (Some r) ≡ usual_text target.moves t target.name.now
+  text_here : in_resource t (usual_fragment r.dialect target.name.now) (Some tokens) (Some r) ≡ usual_text target.moves t target.name.now
   text_here =
       ap (with_target t tokens) moved_here
       ∙ text_by r.dialect target.name.now t (its_text r.dialect t target.name.now known.2)

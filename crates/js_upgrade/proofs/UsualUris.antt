@@ -4,51 +4,30 @@ use Rattle.std.proofs.Common.{◌∙◌}
 use Rattle.std.specs.Prelude.{option_and_then, option_map, unwrap_or}
 use Rattle.js_doc.specs.Value.{Value, null, truth, whole, text, list, object, Named, Text}
 use Rattle.js_doc.proofs.TokenLookup.{is_text-sound}
+use Rattle.js_upgrade.proofs.ByCases.{by_dialect}
 use Rattle.js_upgrade.proofs.Prefixes.{after-prefixed}
 use Rattle.js_upgrade.specs.Dialect.{after_prefix, dialect_named, version_named}
 use Rattle.js_upgrade.specs.Upgrade.{dialect_in, dialect_or, identifies}
 use Rattle.js_upgrade.specs.code.UsualUri.{has_usual_uri, is_no_fragment, usual_path}
 use Rattle.js_upgrade.specs.declared.dialect.Dialect.{Dialect}
-use Rattle.js_upgrade.specs.declared.dialect.Dialect.TheVariants.{Draft03, Draft04, Draft06}
-use Rattle.js_upgrade.specs.declared.dialect.Dialect.TheVariants.{Draft07, Draft2019, Draft2020}
 
 -- ---- with either scheme, and with either end
 
 plain_named : (d : Dialect) → dialect_named (codes "http" ++ (usual_path d ++ [])) ≡ Some d
 unfolding version_named
-plain_named Draft03 = refl
-plain_named Draft04 = refl
-plain_named Draft06 = refl
-plain_named Draft07 = refl
-plain_named Draft2019 = refl
-plain_named Draft2020 = refl
+plain_named d = by_dialect (λ e. dialect_named (codes "http" ++ (usual_path e ++ [])) ≡ Some e) refl refl refl refl refl refl d
 
 plain_marked : (d : Dialect) → dialect_named (codes "http" ++ (usual_path d ++ codes "#")) ≡ Some d
 unfolding version_named
-plain_marked Draft03 = refl
-plain_marked Draft04 = refl
-plain_marked Draft06 = refl
-plain_marked Draft07 = refl
-plain_marked Draft2019 = refl
-plain_marked Draft2020 = refl
+plain_marked d = by_dialect (λ e. dialect_named (codes "http" ++ (usual_path e ++ codes "#")) ≡ Some e) refl refl refl refl refl refl d
 
 secure_named : (d : Dialect) → dialect_named (codes "https" ++ (usual_path d ++ [])) ≡ Some d
 unfolding version_named
-secure_named Draft03 = refl
-secure_named Draft04 = refl
-secure_named Draft06 = refl
-secure_named Draft07 = refl
-secure_named Draft2019 = refl
-secure_named Draft2020 = refl
+secure_named d = by_dialect (λ e. dialect_named (codes "https" ++ (usual_path e ++ [])) ≡ Some e) refl refl refl refl refl refl d
 
 secure_marked : (d : Dialect) → dialect_named (codes "https" ++ (usual_path d ++ codes "#")) ≡ Some d
 unfolding version_named
-secure_marked Draft03 = refl
-secure_marked Draft04 = refl
-secure_marked Draft06 = refl
-secure_marked Draft07 = refl
-secure_marked Draft2019 = refl
-secure_marked Draft2020 = refl
+secure_marked d = by_dialect (λ e. dialect_named (codes "https" ++ (usual_path e ++ codes "#")) ≡ Some e) refl refl refl refl refl refl d
 
 -- ---- read from the front
 

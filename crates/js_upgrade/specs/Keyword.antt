@@ -12,7 +12,7 @@ use Rattle.js_upgrade.specs.declared.keyword.Change.TheVariants.{HoldsOne, Holds
 use Rattle.js_upgrade.specs.declared.keyword.Change.TheVariants.{Goes, Identifier, Definitions, Items, AdditionalItems}
 use Rattle.js_upgrade.specs.declared.keyword.Change.TheVariants.{Dependencies, Minimum, Maximum, Divisor, Types}
 use Rattle.js_upgrade.specs.declared.keyword.Change.TheVariants.{Disallowed, Extended, Properties}
-use Rattle.js_upgrade.specs.declared.keyword.Change.TheVariants.{Contains, RecursiveReference, RecursiveAnchor}
+use Rattle.js_upgrade.specs.declared.keyword.Change.TheVariants.{Contains, Anchor, RecursiveReference, RecursiveAnchor}
 
 module _ (d : Dialect) where
   -- one thing before a draft, and another from it on
@@ -34,7 +34,7 @@ module _ (d : Dialect) where
       ∷ (codes "$vocabulary", since Draft2020 Asserts)  -- -; -; -; -; 8.1.2; 8.1.2
       ∷ (codes "$id", before Draft06 Goes (before Draft2019 Identifier Asserts))  -- -; -; C 9.2; C 8.2; 8.2.2; 8.2.1
       ∷ (codes "id", before Draft06 Identifier Stays)  -- 5.27; C 7.2; -; -; -; -
-      ∷ (codes "$anchor", since Draft2019 Asserts)  -- -; -; -; -; 8.2.3; 8.2.2
+      ∷ (codes "$anchor", since Draft2019 (before Draft2020 Anchor Asserts))  -- -; -; -; -; 8.2.3; 8.2.2
       ∷ (codes "$dynamicAnchor", since Draft2020 Asserts)  -- -; -; -; -; -; 8.2.2
       ∷ (codes "$ref", Refers)  -- 5.28; C 7; C 8; C 8.3; 8.2.4.1; 8.2.3.1
       ∷ (codes "$dynamicRef", since Draft2020 Asserts)  -- -; -; -; -; -; 8.2.3.2

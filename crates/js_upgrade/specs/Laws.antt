@@ -1,5 +1,5 @@
 -- Laws of the upgrade.
-use Rattle.std.specs.Prelude.{◌≡◌, List, [], ◌∷◌, Some, map, option_and_then}
+use Rattle.std.specs.Prelude.{◌≡◌, ◌<◌, List, [], ◌∷◌, Some, true, map, option_and_then}
 use Rattle.std.specs.List.{AllByRecursion}
 use Rattle.js_doc.specs.Lookup.{at}
 use Rattle.js_doc.specs.Members.{get, NamesAscend}
@@ -7,6 +7,7 @@ use Rattle.js_doc.specs.Parts.{member_list}
 use Rattle.js_doc.specs.Pointer.{Tokens}
 use Rattle.js_doc.specs.Value.{Value, object, Members, Text, Values}
 use Rattle.js_doc.specs.Lawful.{IsLawful}
+use Rattle.js_upgrade.specs.AnchorName.{anchor_name, is_plain_name}
 use Rattle.js_upgrade.specs.Current.{IsCurrent}
 use Rattle.js_upgrade.specs.Documents.{SourceDocument, all_upgraded, source_dialect}
 use Rattle.js_upgrade.specs.Moved.{Reached, moved_tokens, reached}
@@ -70,3 +71,15 @@ AllTwiceIsOnce =
     (sources : List SourceDocument) (once : Values) → AllByRecursion (λ s. IsLawful s.root) sources
     → AllByRecursion IsLawful once → all_upgraded sources ≡ Some once
     → all_upgraded (sources_with_roots sources once) ≡ Some once
+
+-- ---- names
+
+-- what a name becomes is one that `$anchor` may be
+abbrev pub NamesArePlain : Type 0
+NamesArePlain = (name : Text) → is_plain_name (anchor_name name) ≡ true
+
+-- two names stay two
+abbrev pub NamesStayApart : Type 0
+NamesStayApart =
+    (a b : Text) → AllByRecursion (λ byte. byte < 256) a → AllByRecursion (λ byte. byte < 256) b
+    → anchor_name a ≡ anchor_name b → a ≡ b

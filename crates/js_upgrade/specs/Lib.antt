@@ -1,3 +1,4 @@
+pub mod AnchorName
 pub mod Apart
 pub mod Copies
 pub mod CopyName

@@ -14,7 +14,7 @@ use Rattle.js_upgrade.specs.declared.keyword.Change.{Change}
 use Rattle.js_upgrade.specs.declared.keyword.Change.TheVariants.{Goes, Identifier, Definitions, Items as ItemsChange}
 use Rattle.js_upgrade.specs.declared.keyword.Change.TheVariants.{AdditionalItems, Dependencies, Minimum}
 use Rattle.js_upgrade.specs.declared.keyword.Change.TheVariants.{Maximum, Divisor, Types, Disallowed, Extended}
-use Rattle.js_upgrade.specs.declared.keyword.Change.TheVariants.{Properties, Contains, RecursiveReference}
+use Rattle.js_upgrade.specs.declared.keyword.Change.TheVariants.{Properties, Contains, Anchor, RecursiveReference}
 use Rattle.js_upgrade.specs.declared.keyword.Change.TheVariants.{RecursiveAnchor}
 use Rattle.js_upgrade.specs.declared.holding.SchemaHolding.{SchemaHolding}
 use Rattle.js_upgrade.specs.declared.holding.SchemaHolding.TheVariants.{One, Listed, Named as ByName, OneOrListed}
@@ -83,6 +83,7 @@ module _ (siblings : Named) (name : Text) (v : Value) (rest : Tokens) where
   tokens_under Extended = listed_under (codes "allOf") (codes "allOf" ∷ first_item) v
   tokens_under Properties = just (codes "properties")
   tokens_under Contains = Some (contains_under siblings)
+  tokens_under Anchor = None
   tokens_under RecursiveReference = just (codes "$dynamicRef")
   tokens_under RecursiveAnchor = None
   tokens_under _ = just name

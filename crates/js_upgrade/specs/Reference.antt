@@ -1,23 +1,27 @@
 -- References, rewritten to where their targets stand now (draft-03, 5.28; JSON Reference, 3; draft-06 Core, 8; draft-07
 -- Core, 8.3; 2019-09 Core, 8.2.4; 2020-12 Core, 8.2.3). The URI of a reference stays; of its fragment, a pointer, each
--- token becomes what stands in its place. A fragment that is a name stays.
+-- token becomes what stands in its place. A fragment that is a name stays, unless `$anchor` can't have it.
 use Rattle.std.specs.Prelude.{List, [], ◌∷◌, ◌++◌, Bool, false, Option, Some, None}
-use Rattle.std.specs.Prelude.{bytes_eq, codes, if◌then◌else◌}
+use Rattle.std.specs.Prelude.{bytes_eq, codes, unwrap_or, if◌then◌else◌}
 use Rattle.std.specs.Cmp.Lexicographic.{pointwise}
 use Rattle.std.specs.List.{before_first}
 use Rattle.url.specs.Parts.{Parts}
+use Rattle.percent_encoding.specs.Percent.{percent_decode}
 use Rattle.js_doc.specs.Fragment.{fragment_text}
 use Rattle.js_doc.specs.Parts.{member_list}
 use Rattle.js_doc.specs.Pointer.{Tokens}
 use Rattle.js_doc.specs.Value.{Value, text, list, object, Items, no_items, item, Members, no_members, member}
 use Rattle.js_doc.specs.Value.{Text, Values, Named, items, members}
+use Rattle.js_upgrade.specs.AnchorName.{is_settled, spelled}
 use Rattle.js_upgrade.specs.CopyName.{redirected}
+use Rattle.js_upgrade.specs.Dialect.{is_before}
 use Rattle.js_upgrade.specs.Moved.{moved_tokens}
 use Rattle.js_upgrade.specs.Resource.{Resource, own_base, recurses, resource_named}
 use Rattle.js_upgrade.specs.Schema.{change_of, is_mark}
 use Rattle.js_upgrade.specs.Upgrade.{holding_in, own_dialect}
 use Rattle.js_upgrade.specs.Url.{fragment_pointer, uri_joined, uri_printed, uri_without_fragment}
 use Rattle.js_upgrade.specs.declared.dialect.Dialect.{Dialect}
+use Rattle.js_upgrade.specs.declared.dialect.Dialect.TheVariants.{Draft2020}
 use Rattle.js_upgrade.specs.declared.keyword.Change.{Change}
 use Rattle.js_upgrade.specs.declared.keyword.Change.TheVariants.{Refers, RecursiveReference}
 use Rattle.js_upgrade.specs.declared.holding.SchemaHolding.{SchemaHolding}
@@ -41,9 +45,28 @@ with_target t old (Some new) = if are_same_tokens old new then t else with_point
 abbrev pub moved_in : Resource → Tokens → Option Tokens
 moved_in r tokens = moved_tokens One r.dialect r.root (redirected r.dialect r.copies tokens)
 
-abbrev pub in_resource : Text → Option Tokens → Option Resource → Text
-in_resource t (Some tokens) (Some r) = with_target t tokens (moved_in r tokens)
-in_resource t _ _ = t
+abbrev pub at_pointer : Text → Tokens → Option Resource → Text
+at_pointer t tokens None = t
+at_pointer t tokens (Some r) = with_target t tokens (moved_in r tokens)
+
+-- a name as it is spelled in 2020-12; one that is settled stays as it is written
+abbrev pub with_name : Text → Text → Text
+with_name t name = if is_settled name then t else before_first is_mark t ++ (35 ∷ spelled name)
+
+-- a root with names of an older draft
+abbrev pub is_older : Dialect → Value → Bool
+is_older d (object ms) = is_before (own_dialect d (member_list ms)) Draft2020
+is_older d v = false
+
+-- of a name that is spelled so
+abbrev pub at_name : Text → Text → Option Resource → Text
+at_name t named None = t
+at_name t named (Some r) = if is_older r.dialect r.root then named else t
+
+-- a reference with this fragment, and the pointer that the fragment is
+abbrev pub in_resource : Text → Text → Option Tokens → Option Resource → Text
+in_resource t fragment (Some tokens) r = at_pointer t tokens r
+in_resource t fragment None r = at_name t (with_name t (percent_decode fragment)) r
 
 -- ---- `$recursiveRef` of 2019-09 (Core, 8.2.4.2.1)
 
@@ -62,7 +85,8 @@ module _ (all : List Resource) where
   abbrev pub followed : Text → Option Parts → Text
   followed t None = t
   followed t (Some uri) =
-      in_resource t (fragment_pointer uri) (resource_named all (uri_printed (uri_without_fragment uri)))
+      in_resource t (unwrap_or uri.fragment []) (fragment_pointer uri)
+      (resource_named all (uri_printed (uri_without_fragment uri)))
 
   abbrev pub rewritten : Parts → Value → Value
   rewritten base (text t) = text (followed t (uri_joined base t))

@@ -1,13 +1,15 @@
 -- What a keyword of a schema becomes in 2020-12: a line for each change. Its argument comes with the schemas that it
 -- holds upgraded already; its siblings come as they were.
-use Rattle.std.specs.Prelude.{ℕ, ◌==◌, List, [], ◌∷◌, ◌++◌, Bool, true, false, not, ◌&&◌, ◌||◌, Option, Some, None}
+use Rattle.std.specs.Prelude.{ℕ, ◌==◌, List, [], ◌∷◌, ◌++◌, Bool, true, false, not, ◌&&◌, Option, Some, None}
 use Rattle.std.specs.Prelude.{codes, map, bytes_eq, if◌then◌else◌}
-use Rattle.std.specs.Char.{is_ascii_alphabetic, is_ascii_alphanumeric}
-use Rattle.std.specs.List.{after_first, before_first, list_all, list_any}
+use Rattle.std.specs.List.{after_first, before_first, list_any}
 use Rattle.js_doc.specs.Value.{Value, truth, text, list, object, no_items}
 use Rattle.js_doc.specs.Value.{item, Text, Values, Named, items, members}
 use Rattle.js_doc.specs.Members.{get, put, has_name}
 use Rattle.js_doc.specs.Parts.{item_list, member_list, members_of}
+use Rattle.percent_encoding.specs.Percent.{percent_decode}
+use Rattle.js_upgrade.specs.AnchorName.{anchor_name, anchor_upgraded}
+use Rattle.js_upgrade.specs.CopyName.{is_rooted}
 use Rattle.js_upgrade.specs.Dialect.{is_before}
 use Rattle.js_upgrade.specs.Keyword.{change_in}
 use Rattle.js_upgrade.specs.declared.dialect.Dialect.{Dialect}
@@ -18,7 +20,7 @@ use Rattle.js_upgrade.specs.declared.keyword.Change.TheVariants.{Goes, Identifie
 use Rattle.js_upgrade.specs.declared.keyword.Change.TheVariants.{AdditionalItems, Dependencies, Minimum}
 use Rattle.js_upgrade.specs.declared.keyword.Change.TheVariants.{Maximum, Divisor}
 use Rattle.js_upgrade.specs.declared.keyword.Change.TheVariants.{Types, Disallowed, Extended, Properties}
-use Rattle.js_upgrade.specs.declared.keyword.Change.TheVariants.{Contains, RecursiveReference, RecursiveAnchor}
+use Rattle.js_upgrade.specs.declared.keyword.Change.TheVariants.{Contains, Anchor, RecursiveReference, RecursiveAnchor}
 
 -- ---- beside a reference
 
@@ -101,23 +103,15 @@ once seen (v ∷ vs) = if is_new seen v then v ∷ once (seen_with seen v) vs el
 abbrev pub is_mark : ℕ → Bool
 is_mark b = b == 35
 
-abbrev pub is_name_start : ℕ → Bool
-is_name_start b = is_ascii_alphabetic b || b == 95
-
-abbrev pub is_name_part : ℕ → Bool
-is_name_part b = is_ascii_alphanumeric b || (b == 45 || (b == 46 || b == 95))
-
--- what `$anchor` may be: `[A-Za-z_][-A-Za-z0-9._]*`
-abbrev pub is_plain_name : Text → Bool
-is_plain_name [] = false
-is_plain_name (b ∷ bs) = is_name_start b && list_all is_name_part bs
-
 abbrev pub some_uri : Text → Named
 some_uri [] = []
 some_uri (b ∷ bs) = one (codes "$id") (text (b ∷ bs))
 
+-- a pointer is no name
 abbrev pub some_name : Text → Named
-some_name name = if is_plain_name name then one (codes "$anchor") (text name) else []
+some_name [] = []
+some_name (b ∷ bs) =
+    if is_rooted (b ∷ bs) then [] else one (codes "$anchor") (text (anchor_name (percent_decode (b ∷ bs))))
 
 abbrev pub identifier_upgraded : Value → Named
 identifier_upgraded (text t) = some_uri (before_first is_mark t) ++ some_name (after_first is_mark t)
@@ -259,6 +253,7 @@ module _ (siblings : Named) (name : Text) (v : Value) where
       one (codes "properties") v
       ++ some_items (codes "required") (required_names (members_found (get (codes "properties") siblings)))
   upgraded_by Contains = contains_upgraded siblings v
+  upgraded_by Anchor = one (codes "$anchor") (anchor_upgraded v)
   upgraded_by RecursiveReference = one (codes "$dynamicRef") v
   upgraded_by RecursiveAnchor = recursive_anchor siblings v
   upgraded_by _ = one name v

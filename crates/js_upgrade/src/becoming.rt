@@ -4,6 +4,7 @@ ghost use Rattle.js_doc.specs.Seen.{value_of};
 ghost use Rattle.js_doc.specs.Value as spec;
 ghost use Rattle.js_upgrade.specs.Schema.{one, put_all, types_upgraded, upgraded_by};
 
+use crate::anchor_name::anchor_upgraded;
 use crate::containing::put_contains;
 use crate::gathering::put_one;
 use crate::identifier::put_identifier;
@@ -46,6 +47,7 @@ pub(crate) fn put_upgraded(
         Change::Extended => put_extended(alloc, among, value),
         Change::Properties => put_properties(alloc, among, siblings, value),
         Change::Contains => put_contains(alloc, among, siblings, value),
+        Change::Anchor => put_one(alloc, among, "$anchor", anchor_upgraded(alloc, value)?),
         Change::RecursiveReference => put_one(alloc, among, "$dynamicRef", value),
         Change::RecursiveAnchor => put_recursive_anchor(alloc, among, siblings, &value),
         _ => put_one(alloc, among, name, value),

@@ -1,13 +1,16 @@
 //! Identifiers of the drafts before 2019-09: a URI, and as its fragment a name for the schema.
 ghost use Rattle.std.specs.Prelude.{◌≡◌, ◌++◌, IfOk, OnOk};
-ghost use Rattle.std.specs.List.{after_first, before_first, list_all};
+ghost use Rattle.std.specs.List.{after_first, before_first};
+ghost use Rattle.percent_encoding.specs.Percent.{percent_decode};
 ghost use Rattle.js_doc.specs.Seen.{value_of};
-ghost use Rattle.js_upgrade.specs.Schema.{identifier_upgraded, is_mark, is_plain_name, is_name_part, is_name_start};
-ghost use Rattle.js_upgrade.specs.Schema.{put_all};
-ghost use Rattle.js_upgrade.specs.Schema.{some_name, some_uri};
+ghost use Rattle.js_upgrade.specs.AnchorName.{anchor_name};
+ghost use Rattle.js_upgrade.specs.Schema.{identifier_upgraded, is_mark, put_all, some_name, some_uri};
 
+use crate::anchor_name::anchor_name;
+use crate::copy_name::is_rooted;
 use crate::gathering::put_one;
 use js_doc::{Doc, Members, Memory, Text};
+use percent_encoding::percent_decode;
 use std::alloc::Global;
 
 /// `$id` and `$anchor`, as far as the identifier has them.
@@ -63,40 +66,20 @@ fn put_uri(alloc: Global, among: &mut Members, uri: &str) -> Result<(), Memory>
     put_one(alloc, among, "$id", Doc::Text(uri))
 }
 
-fn put_name(alloc: Global, among: &mut Members, name: &str) -> Result<(), Memory>
-    ensures { OnOk result (among.new ≡ put_all (some_name name.now) among.old) }
+fn put_name(alloc: Global, among: &mut Members, fragment: &str) -> Result<(), Memory>
+    ensures { OnOk result (among.new ≡ put_all (some_name fragment.now) among.old) }
 {
-    if !is_plain_name(name.as_bytes()) {
+    if fragment.is_empty() || is_rooted(fragment) {
         return Ok(());
     }
-    let name = Text::from_str(alloc, name)?;
+    let name = name_in(alloc, fragment)?;
     put_one(alloc, among, "$anchor", Doc::Text(name))
 }
 
-// What `$anchor` may be.
-fn is_plain_name(name: &[u8]) -> bool
-    ensures { result ≡ is_plain_name name.now }
+// The name that a fragment is, in 2020-12.
+fn name_in(alloc: Global, fragment: &str) -> Result<Text, Memory>
+    ensures { IfOk result (λ t. t ≡ anchor_name (percent_decode fragment.now)) }
 {
-    match name.split_first() {
-        Some((first, others)) => is_name_start(*first) && are_name_parts(others),
-        None => false,
-    }
-}
-
-fn is_name_start(byte: u8) -> bool
-    ensures { result ≡ is_name_start byte }
-{
-    byte.is_ascii_alphabetic() || byte == b'_'
-}
-
-fn are_name_parts(bytes: &[u8]) -> bool
-    ensures { result ≡ list_all is_name_part bytes.now }
-{
-    bytes.iter().all(|byte| is_name_part(*byte))
-}
-
-fn is_name_part(byte: u8) -> bool
-    ensures { result ≡ is_name_part byte }
-{
-    byte.is_ascii_alphanumeric() || (byte == b'-' || (byte == b'.' || byte == b'_'))
+    let name = percent_decode(fragment.as_bytes()).into_cow(alloc)?;
+    anchor_name(alloc, name.as_slice())
 }

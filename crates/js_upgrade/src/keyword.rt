@@ -48,6 +48,8 @@ pub enum Change {
     Properties,
     /// `contains` of 2019-09 evaluates nothing: it goes behind two `not`s.
     Contains,
+    /// `$anchor` of 2019-09 may have a `:`.
+    Anchor,
     /// `$recursiveRef` becomes `$dynamicRef`.
     RecursiveReference,
     /// `$recursiveAnchor` becomes `$dynamicAnchor` at the root of a resource.
@@ -108,7 +110,11 @@ fn with_dollar(dialect: Dialect, name: &str) -> Option<Change>
         )),
         "$defs" => Some(since(dialect, Dialect::Draft2019, Change::HoldsNamed)),
         "$schema" => Some(since(dialect, Dialect::Draft2020, Change::Asserts)),
-        "$anchor" => Some(since(dialect, Dialect::Draft2019, Change::Asserts)),
+        "$anchor" => Some(since(
+            dialect,
+            Dialect::Draft2019,
+            before(dialect, Dialect::Draft2020, Change::Anchor, Change::Asserts),
+        )),
         "$vocabulary" | "$dynamicRef" | "$dynamicAnchor" => Some(since(
             dialect,
             Dialect::Draft2020,

@@ -1,6 +1,6 @@
 //! Laws of the definitions that this crate's contracts speak of. Calling one does nothing.
 ghost use Rattle.js_upgrade.specs.Laws.{AllCurrentStay, CurrentStays, KeywordsHaveOrigins, StandsWhereMoved};
-ghost use Rattle.js_upgrade.specs.Laws.{AllTwiceIsOnce, TwiceIsOnce};
+ghost use Rattle.js_upgrade.specs.Laws.{AllTwiceIsOnce, NamesArePlain, NamesStayApart, TwiceIsOnce};
 
 /// A document of 2020-12 in which no schema declares an older draft stays as it is.
 pub fn a_document_of_2020_12_stays()
@@ -30,4 +30,14 @@ pub fn documents_of_2020_12_stay()
 /// Documents that were upgraded together stay as they are, where the same dialects are assumed.
 pub fn upgraded_together_twice_is_once()
     ensures { AllTwiceIsOnce }
+{}
+
+/// What the name of a schema becomes is one that `$anchor` may be in 2020-12.
+pub fn names_are_plain()
+    ensures { NamesArePlain }
+{}
+
+/// Two names of schemas become two.
+pub fn names_stay_apart()
+    ensures { NamesStayApart }
 {}

@@ -1,6 +1,7 @@
 //! Documents of older drafts of JSON Schema, made into documents of 2020-12.
 #![tactic(auto)]
 
+mod anchor_name;
 mod apart;
 mod becoming;
 mod checking;

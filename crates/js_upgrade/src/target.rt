@@ -1,25 +1,36 @@
 //! The text of a reference, with the place to which its target has gone.
-ghost use Rattle.std.specs.Prelude.{◌≡◌, IfOk, map, option_map, string_bytes};
+ghost use Rattle.std.specs.Prelude.{◌≡◌, ◌∷◌, ◌++◌, IfOk, None, map, option_map, string_bytes, if◌then◌else◌};
+ghost use Rattle.std.specs.List.{before_first};
+ghost use Rattle.std.specs.Str.{is_utf8};
+ghost use Rattle.percent_encoding.specs.Percent.{percent_decode};
+ghost use Rattle.js_doc.specs.PointerReading.{pointer_of};
 ghost use Rattle.js_doc.specs.Seen.{value_of};
 ghost use Rattle.js_upgrade.specs.Moved.{moved_tokens};
-ghost use Rattle.js_upgrade.specs.Reference.{followed, in_resource, moved_in, rewritten, with_pointer, with_target};
+ghost use Rattle.js_upgrade.specs.AnchorName.{spelled};
+ghost use Rattle.js_upgrade.specs.Reference.{at_name, at_pointer, followed, in_resource, is_older, moved_in, rewritten};
+ghost use Rattle.js_upgrade.specs.Reference.{with_name, with_pointer, with_target};
+ghost use Rattle.js_upgrade.specs.Schema.{is_mark};
 ghost use Rattle.js_upgrade.specs.Seen.{resource_seen};
 ghost use Rattle.js_upgrade.specs.Url.{uri_joined};
 ghost use Rattle.js_upgrade.specs.code.Table.{all_of};
 ghost use Rattle.js_upgrade.specs.declared.holding.SchemaHolding.TheVariants.{One};
 
+use crate::anchor_name::{is_settled, spelled_text};
 use crate::copy_name::redirected;
 use crate::definitions::{usual_target, usual_text};
+use crate::dialect::Dialect;
 use crate::holding::SchemaHolding;
 use crate::identifier::before_mark;
 use crate::moving::moved_tokens;
 use crate::resource::Resource;
 use crate::resource_table::{ResourceTable, resource_named, resource_numbered};
+use crate::schema::own_dialect;
 use crate::scope::Scope;
 use crate::uri::{
     fragment_pointer, local_fragment, pointer_in, uri_joined, uri_printed, uri_without_fragment,
 };
 use js_doc::{Doc, Memory, Pointer, Text};
+use percent_encoding::percent_decode;
 use std::alloc::Global;
 use url::Url;
 
@@ -53,9 +64,8 @@ fn unusual_rewritten(alloc: Global, scope: Scope<'_>, reference: &str) -> Result
 {
     match local_fragment(reference) {
         Some(fragment) => {
-            let pointer = pointer_in(alloc, fragment)?;
             let here = resource_numbered(scope.resources, scope.here);
-            in_resource(alloc, reference, pointer, here)
+            in_resource(alloc, reference, fragment, here)
         }
         None => followed(
             alloc,
@@ -76,16 +86,19 @@ fn followed(
     ensures { IfOk result (λ s. string_bytes s ≡ followed (all_of resources.now) reference.now uri) }
 {
     match uri {
-        Some(uri) => {
-            let pointer = fragment_pointer(alloc, &uri)?;
-            let bare = uri_without_fragment(uri)?;
-            in_resource(
-                alloc,
-                reference,
-                pointer,
-                resource_named(resources, uri_printed(&bare)),
-            )
-        }
+        Some(uri) => match fragment_pointer(alloc, &uri)? {
+            Some(pointer) => {
+                let bare = uri_without_fragment(uri)?;
+                let resource = resource_named(resources, uri_printed(&bare));
+                at_pointer(alloc, reference, &pointer, resource)
+            }
+            None => {
+                let named = with_name(alloc, reference, uri.fragment().unwrap_or(""))?;
+                let bare = uri_without_fragment(uri)?;
+                let resource = resource_named(resources, uri_printed(&bare));
+                at_name(alloc, reference, named, resource)
+            }
+        },
         None => copied(alloc, reference),
     }
 }
@@ -99,21 +112,96 @@ fn copied(alloc: Global, reference: &str) -> Result<String, Memory>
 fn in_resource(
     alloc: Global,
     reference: &str,
-    pointer: Option<Pointer>,
+    fragment: &str,
     resource: Option<&Resource<'_>>,
 ) -> Result<String, Memory>
-    ensures { IfOk result (λ s. string_bytes s ≡ in_resource reference.now pointer
+    ensures { IfOk result (λ s. string_bytes s ≡ in_resource reference.now fragment.now
+        (if is_utf8 (percent_decode fragment.now) then pointer_of (percent_decode fragment.now) else None)
         (option_map (λ r. resource_seen r.now) resource.entry)) }
 {
-    match pointer {
-        Some(old) => match resource {
-            Some(resource) => {
-                let new = moved_in(alloc, resource, &old)?;
-                with_target(alloc, reference, &old, new)
-            }
-            None => copied(alloc, reference),
-        },
+    match pointer_in(alloc, fragment)? {
+        Some(pointer) => at_pointer(alloc, reference, &pointer, resource),
+        None => {
+            let named = with_name(alloc, reference, fragment)?;
+            at_name(alloc, reference, named, resource)
+        }
+    }
+}
+
+fn at_pointer(
+    alloc: Global,
+    reference: &str,
+    old: &Pointer,
+    resource: Option<&Resource<'_>>,
+) -> Result<String, Memory>
+    ensures { IfOk result (λ s. string_bytes s ≡ at_pointer reference.now old.now
+        (option_map (λ r. resource_seen r.now) resource.entry)) }
+{
+    match resource {
+        Some(resource) => {
+            let new = moved_in(alloc, resource, old)?;
+            with_target(alloc, reference, old, new)
+        }
         None => copied(alloc, reference),
+    }
+}
+
+// The name that the fragment is, as it is spelled in 2020-12.
+fn with_name(alloc: Global, reference: &str, fragment: &str) -> Result<String, Memory>
+    ensures { IfOk result (λ s. string_bytes s ≡ with_name reference.now (percent_decode fragment.now)) }
+{
+    let name = percent_decode(fragment.as_bytes()).into_cow(alloc)?;
+    if is_settled(name.as_slice()) {
+        copied(alloc, reference)
+    } else {
+        with_spelled(alloc, reference, name.as_slice())
+    }
+}
+
+fn with_spelled(alloc: Global, reference: &str, name: &[u8]) -> Result<String, Memory>
+    ensures { IfOk result (λ s. string_bytes s ≡ before_first is_mark reference.now ++ (35 ∷ spelled name.now)) }
+{
+    let name = spelled_text(alloc, name)?;
+    with_fragment(alloc, reference, name.as_str())
+}
+
+fn with_fragment(alloc: Global, reference: &str, fragment: &str) -> Result<String, Memory>
+    ensures { IfOk result (λ s. string_bytes s ≡ before_first is_mark reference.now ++ (35 ∷ fragment.now)) }
+{
+    let mut out = String::from_str(alloc, before_mark(reference))?;
+    out.push_str("#")?;
+    out.push_str(fragment)?;
+    Ok(out)
+}
+
+fn at_name(
+    alloc: Global,
+    reference: &str,
+    named: String,
+    resource: Option<&Resource<'_>>,
+) -> Result<String, Memory>
+    ensures { IfOk result (λ s. string_bytes s ≡ at_name reference.now (string_bytes named)
+        (option_map (λ r. resource_seen r.now) resource.entry)) }
+{
+    match resource {
+        Some(resource) => {
+            if is_older(resource.dialect, resource.root) {
+                Ok(named)
+            } else {
+                copied(alloc, reference)
+            }
+        }
+        None => copied(alloc, reference),
+    }
+}
+
+#[tactic(auto, using(crate::proofs::Gathered::gathering_rules))]
+fn is_older(dialect: Dialect, root: &Doc) -> bool
+    ensures { result ≡ is_older dialect (value_of root.now) }
+{
+    match root {
+        Doc::Members(siblings) => own_dialect(dialect, siblings).is_before(Dialect::Draft2020),
+        _ => false,
     }
 }
 
@@ -176,8 +264,5 @@ fn with_pointer(alloc: Global, reference: &str, pointer: &Pointer) -> Result<Str
     ensures { IfOk result (λ s. string_bytes s ≡ with_pointer reference.now pointer.now) }
 {
     let fragment = pointer.fragment(alloc)?;
-    let mut out = String::from_str(alloc, before_mark(reference))?;
-    out.push_str("#")?;
-    out.push_str(fragment.as_str())?;
-    Ok(out)
+    with_fragment(alloc, reference, fragment.as_str())
 }

@@ -33,7 +33,7 @@ pub(crate) fn push_under(
         (tokens_under siblings.now name.now (value_of value.now) rest.now change)) }
 {
     match change {
-        Change::Goes | Change::Identifier | Change::RecursiveAnchor => Ok(false),
+        Change::Goes | Change::Identifier | Change::Anchor | Change::RecursiveAnchor => Ok(false),
         Change::Definitions => push_just(out, "$defs"),
         Change::Items => push_items(out, value),
         Change::AdditionalItems => {
