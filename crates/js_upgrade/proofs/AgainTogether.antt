@@ -180,13 +180,13 @@ schema_differs : ¬ (codes "$schema" ≡ codes "$dynamicAnchor")
 schema_differs same =
     let wrong : false ≡ true = ap (λ n. bytes_eq n (codes "$dynamicAnchor")) same in absurd (cc)
 
-abbrev with_name : Members → Named
-with_name ms = put (codes "$dynamicAnchor") recursive_name (member_list ms)
+abbrev respelled : Members → Named
+respelled ms = put (codes "$dynamicAnchor") recursive_name (member_list ms)
 
 anchor_got : (ms : Members)
-    → get (codes "$schema") (member_list (members (with_name ms))) ≡ get (codes "$schema") (member_list ms)
+    → get (codes "$schema") (member_list (members (respelled ms))) ≡ get (codes "$schema") (member_list ms)
 anchor_got ms =
-    ap (get (codes "$schema")) (member_list-members (with_name ms))
+    ap (get (codes "$schema")) (member_list-members (respelled ms))
     ∙ get-put_other (codes "$dynamicAnchor") (codes "$schema") recursive_name (member_list ms) schema_differs
 
 anchored_made : (recursive : Bool) (assumed : Dialect) (ms : Members) → IsMade assumed (object ms)
@@ -194,13 +194,13 @@ anchored_made : (recursive : Bool) (assumed : Dialect) (ms : Members) → IsMade
 unfolding core_change applicator_change assertion_change
 anchored_made false assumed ms m = m
 anchored_made true assumed ms m =
-    let ns = member_list (members (with_name ms)) in
+    let ns = member_list (members (respelled ms)) in
     let is : dialect_found assumed (get (codes "$schema") ns) ≡ Some Draft2020 =
     ap (dialect_found assumed) (anchor_got ms) ∙ m.0 in (
       is,
       (
         own_by assumed ns (get (codes "$schema") ns) is,
-        are_current in_2020 (with_name ms)
+        are_current in_2020 (respelled ms)
             (each_put (λ k v. IsCurrent (in_2020 k) v) (codes "$dynamicAnchor") recursive_name (member_list ms) tt
             (each_current in_2020 ms m.1.1)),
       ),

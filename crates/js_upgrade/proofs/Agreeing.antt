@@ -48,13 +48,16 @@ all_agree (old ∷ olds) [] = false
 all_agree (old ∷ olds) (new ∷ news) = cond (agrees old.1 new.1) (all_agree olds news) false
 
 core_agrees : (d : Dialect) → all_agree (core_rows d) (core_rows Draft2020) ≡ true
-core_agrees d = by_dialect (λ e. all_agree (core_rows e) (core_rows Draft2020) ≡ true) refl refl refl refl refl refl d
+core_agrees d =
+    by_dialect (λ e. all_agree (core_rows e) (core_rows Draft2020) ≡ true) refl refl refl refl refl refl d
 
 applicators_agree : (d : Dialect) → all_agree (applicator_rows d) (applicator_rows Draft2020) ≡ true
-applicators_agree d = by_dialect (λ e. all_agree (applicator_rows e) (applicator_rows Draft2020) ≡ true) refl refl refl refl refl refl d
+applicators_agree d =
+    by_dialect (λ e. all_agree (applicator_rows e) (applicator_rows Draft2020) ≡ true) refl refl refl refl refl refl d
 
 assertions_agree : (d : Dialect) → all_agree (assertion_rows d) (assertion_rows Draft2020) ≡ true
-assertions_agree d = by_dialect (λ e. all_agree (assertion_rows e) (assertion_rows Draft2020) ≡ true) refl refl refl refl refl refl d
+assertions_agree d =
+    by_dialect (λ e. all_agree (assertion_rows e) (assertion_rows Draft2020) ≡ true) refl refl refl refl refl refl d
 
 -- ---- what is found in them
 

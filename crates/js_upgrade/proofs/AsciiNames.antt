@@ -9,8 +9,8 @@ use Rattle.std.proofs.lemmas.Bool.{and_parts}
 use Rattle.std.proofs.lemmas.Bool.Decides.{nat_tests}
 use Rattle.std.proofs.lemmas.Str.{IsAscii-append}
 use Rattle.js_doc.specs.Value.{Text}
-use Rattle.js_upgrade.specs.AnchorName.{is_kept_byte, is_name_part, is_name_start, is_plain_name, is_settled, is_spelled}
-use Rattle.js_upgrade.specs.AnchorName.{spelled, spelled_byte}
+use Rattle.js_upgrade.specs.AnchorName.{is_kept_byte, is_name_part, is_name_start, is_plain_name, is_settled}
+use Rattle.js_upgrade.specs.AnchorName.{is_spelled, spelled, spelled_byte}
 
 none_ascii : IsAscii []
 none_ascii i = omega arith

@@ -153,9 +153,9 @@ module _ (all : List Resource) where
 
     identifier_got : (e : Dialect) → get (identifier e) new ≡ get (identifier e) old
     identifier_got e =
-        let id = key_got all (codes "id") are_kept.id d base ms in
-        let dollar_id = key_got all (codes "$id") are_kept.dollar_id d base ms in
-        by_dialect (λ f. get (identifier f) new ≡ get (identifier f) old) id id dollar_id dollar_id dollar_id dollar_id e
+        let old_id = key_got all (codes "id") are_kept.id d base ms in
+        let id = key_got all (codes "$id") are_kept.dollar_id d base ms in
+        by_dialect (λ f. get (identifier f) new ≡ get (identifier f) old) old_id old_id id id id id e
 
     identifies_so : (e : Dialect) → identifies e new ≡ identifies e old
     identifies_so e = ap₂ (λ found b. is_identifier found && not b) (identifier_got e) (hides_so e)

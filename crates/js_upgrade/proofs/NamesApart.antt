@@ -92,7 +92,8 @@ not_spelled name is so =
     let parts = and_parts (is_plain_name name) (not (is_spelled name)) is in sym parts.1 ∙ ap not so
 
 apart_by : (a b : Text) (settled stays : Bool) → is_settled a ≡ settled → is_settled b ≡ stays
-    → AllByRecursion (λ x. x < 256) a → AllByRecursion (λ x. x < 256) b → cond settled a (spelled a) ≡ cond stays b (spelled b) → a ≡ b
+    → AllByRecursion (λ x. x < 256) a → AllByRecursion (λ x. x < 256) b
+    → cond settled a (spelled a) ≡ cond stays b (spelled b) → a ≡ b
 apart_by a b true true s t low under is = is
 apart_by a b false false s t low under is =
     bytes_same a b low under (tail_same 45 45 (flat_map spelled_byte a) (flat_map spelled_byte b)

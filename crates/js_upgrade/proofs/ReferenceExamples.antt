@@ -3,7 +3,7 @@ use Rattle.std.proofs.Common.{◌≡◌, [], ◌∷◌, Some, None, codes, refl}
 use Rattle.std.specs.Fmt.{digits}
 use Rattle.percent_encoding.specs.Percent.{percent_decode, percent_encode_byte}
 use Rattle.js_doc.specs.Pointer.{Tokens}
-use Rattle.js_doc.specs.Value.{Value}
+use Rattle.js_doc.specs.Value.{Value, Text}
 use Rattle.js_upgrade.specs.Keyword.{core_change, applicator_change, assertion_change}
 use Rattle.js_upgrade.specs.Reference.{in_resource}
 use Rattle.js_upgrade.specs.Resource.{Resource}
@@ -25,27 +25,30 @@ of_2020 = record { uri = codes "https://o.example/t"; dialect = Draft2020; root 
 abbrev item_1 : Tokens
 item_1 = codes "definitions" ∷ codes "a b" ∷ codes "items" ∷ codes "1" ∷ []
 
+abbrev its_fragment : Text
+its_fragment = codes "/definitions/a%20b/items/1"
+
 -- each token becomes what stands in its place
-moves : in_resource (codes "#/definitions/a%20b/items/1") (codes "/definitions/a%20b/items/1") (Some item_1) (Some of_07)
+moves : in_resource (codes "#/definitions/a%20b/items/1") its_fragment (Some item_1) (Some of_07)
     ≡ codes "#/$defs/a%20b/prefixItems/1"
 unfolding core_change applicator_change assertion_change digits percent_encode_byte
 moves = refl
 
 -- the URI stays
-another_document : in_resource (codes "s#/definitions/a%20b/items/1") (codes "/definitions/a%20b/items/1") (Some item_1) (Some of_07)
+another_document : in_resource (codes "s#/definitions/a%20b/items/1") its_fragment (Some item_1) (Some of_07)
     ≡ codes "s#/$defs/a%20b/prefixItems/1"
 unfolding core_change applicator_change assertion_change digits percent_encode_byte
 another_document = refl
 
 -- a target of 2020-12 stands where it stood
-stays : in_resource (codes "#/definitions/a%20b/items/1") (codes "/definitions/a%20b/items/1") (Some item_1) (Some of_2020)
+stays : in_resource (codes "#/definitions/a%20b/items/1") its_fragment (Some item_1) (Some of_2020)
     ≡ codes "#/definitions/a%20b/items/1"
 unfolding core_change applicator_change assertion_change digits
 stays = refl
 
 -- so does one that isn't renamed, as it is written
-unmoved : in_resource (codes "#/properties/%70") (codes "/properties/%70") (Some (codes "properties" ∷ codes "p" ∷ [])) (Some of_07)
-    ≡ codes "#/properties/%70"
+unmoved : in_resource (codes "#/properties/%70") (codes "/properties/%70")
+    (Some (codes "properties" ∷ codes "p" ∷ [])) (Some of_07) ≡ codes "#/properties/%70"
 unfolding core_change applicator_change assertion_change
 unmoved = refl
 

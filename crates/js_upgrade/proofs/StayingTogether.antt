@@ -22,7 +22,7 @@ use Rattle.js_upgrade.specs.Laws.{AllCurrentStay, IsCurrentSource}
 use Rattle.js_upgrade.specs.Moved.{both, just, moved_tokens, step, tokens_under}
 use Rattle.js_upgrade.specs.Reference.{argument_rewritten, as_it_is, followed, in_resource, items_relocated}
 use Rattle.js_upgrade.specs.Reference.{members_relocated, moved_in, recurses_at, recursion_rewritten, relocated}
-use Rattle.js_upgrade.specs.Reference.{rewritten, are_same_tokens, is_older, with_name, with_pointer, with_target}
+use Rattle.js_upgrade.specs.Reference.{rewritten, are_same_tokens, is_older, respelled, with_pointer, with_target}
 use Rattle.js_upgrade.specs.Resource.{Resource, begun, identity, item_resources, member_resources, own_base}
 use Rattle.js_upgrade.specs.Resource.{recurses}
 use Rattle.js_upgrade.specs.Resource.{has_recursion, is_recursive, resource_named, resources, root_resources}
@@ -202,7 +202,7 @@ reference_stays : (t fragment : Text) (tokens : Option Tokens) (found : Option R
     → ((r : Resource) → found ≡ Some r → IsStill r) → in_resource t fragment tokens found ≡ t
 reference_stays t fragment None None c = refl
 reference_stays t fragment None (Some r) c =
-    ap (λ b. cond b (with_name t (percent_decode fragment)) t) (c r refl).2
+    ap (λ b. cond b (respelled t (percent_decode fragment)) t) (c r refl).2
 reference_stays t fragment (Some tokens) None c = refl
 reference_stays t fragment (Some tokens) (Some r) c =
     target_stays t tokens (moved_in r tokens) (λ p is. (c r refl).0 tokens p is)

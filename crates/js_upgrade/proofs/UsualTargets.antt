@@ -308,7 +308,8 @@ module _ (r : Resource) (t : Text) (target : UsualTarget) (known : IsUsualTarget
       ∙ moved_from r.dialect r.root target.name.now (definitions_of r.dialect r.root) (its_dialect r known.0)
       (its_definitions r known.0) known.3
 
-  text_here : in_resource t (usual_fragment r.dialect target.name.now) (Some tokens) (Some r) ≡ usual_text target.moves t target.name.now
+  text_here : in_resource t (usual_fragment r.dialect target.name.now) (Some tokens) (Some r)
+      ≡ usual_text target.moves t target.name.now
   text_here =
       ap (with_target t tokens) moved_here
       ∙ text_by r.dialect target.name.now t (its_text r.dialect t target.name.now known.2)

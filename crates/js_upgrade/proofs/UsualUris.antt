@@ -15,19 +15,27 @@ use Rattle.js_upgrade.specs.declared.dialect.Dialect.{Dialect}
 
 plain_named : (d : Dialect) → dialect_named (codes "http" ++ (usual_path d ++ [])) ≡ Some d
 unfolding version_named
-plain_named d = by_dialect (λ e. dialect_named (codes "http" ++ (usual_path e ++ [])) ≡ Some e) refl refl refl refl refl refl d
+plain_named d =
+    by_dialect (λ e. dialect_named (codes "http" ++ (usual_path e ++ [])) ≡ Some e) refl refl refl refl refl
+    refl d
 
 plain_marked : (d : Dialect) → dialect_named (codes "http" ++ (usual_path d ++ codes "#")) ≡ Some d
 unfolding version_named
-plain_marked d = by_dialect (λ e. dialect_named (codes "http" ++ (usual_path e ++ codes "#")) ≡ Some e) refl refl refl refl refl refl d
+plain_marked d =
+    by_dialect (λ e. dialect_named (codes "http" ++ (usual_path e ++ codes "#")) ≡ Some e) refl refl refl refl refl
+    refl d
 
 secure_named : (d : Dialect) → dialect_named (codes "https" ++ (usual_path d ++ [])) ≡ Some d
 unfolding version_named
-secure_named d = by_dialect (λ e. dialect_named (codes "https" ++ (usual_path e ++ [])) ≡ Some e) refl refl refl refl refl refl d
+secure_named d =
+    by_dialect (λ e. dialect_named (codes "https" ++ (usual_path e ++ [])) ≡ Some e) refl refl refl refl refl
+    refl d
 
 secure_marked : (d : Dialect) → dialect_named (codes "https" ++ (usual_path d ++ codes "#")) ≡ Some d
 unfolding version_named
-secure_marked d = by_dialect (λ e. dialect_named (codes "https" ++ (usual_path e ++ codes "#")) ≡ Some e) refl refl refl refl refl refl d
+secure_marked d =
+    by_dialect (λ e. dialect_named (codes "https" ++ (usual_path e ++ codes "#")) ≡ Some e) refl refl refl refl refl
+    refl d
 
 -- ---- read from the front
 

@@ -50,8 +50,8 @@ at_pointer t tokens None = t
 at_pointer t tokens (Some r) = with_target t tokens (moved_in r tokens)
 
 -- a name as it is spelled in 2020-12; one that is settled stays as it is written
-abbrev pub with_name : Text → Text → Text
-with_name t name = if is_settled name then t else before_first is_mark t ++ (35 ∷ spelled name)
+abbrev pub respelled : Text → Text → Text
+respelled t name = if is_settled name then t else before_first is_mark t ++ (35 ∷ spelled name)
 
 -- a root with names of an older draft
 abbrev pub is_older : Dialect → Value → Bool
@@ -59,14 +59,14 @@ is_older d (object ms) = is_before (own_dialect d (member_list ms)) Draft2020
 is_older d v = false
 
 -- of a name that is spelled so
-abbrev pub at_name : Text → Text → Option Resource → Text
-at_name t named None = t
-at_name t named (Some r) = if is_older r.dialect r.root then named else t
+abbrev pub respelled_in : Text → Text → Option Resource → Text
+respelled_in t named None = t
+respelled_in t named (Some r) = if is_older r.dialect r.root then named else t
 
 -- a reference with this fragment, and the pointer that the fragment is
 abbrev pub in_resource : Text → Text → Option Tokens → Option Resource → Text
 in_resource t fragment (Some tokens) r = at_pointer t tokens r
-in_resource t fragment None r = at_name t (with_name t (percent_decode fragment)) r
+in_resource t fragment None r = respelled_in t (respelled t (percent_decode fragment)) r
 
 -- ---- `$recursiveRef` of 2019-09 (Core, 8.2.4.2.1)
 

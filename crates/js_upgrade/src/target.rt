@@ -7,8 +7,8 @@ ghost use Rattle.js_doc.specs.PointerReading.{pointer_of};
 ghost use Rattle.js_doc.specs.Seen.{value_of};
 ghost use Rattle.js_upgrade.specs.Moved.{moved_tokens};
 ghost use Rattle.js_upgrade.specs.AnchorName.{spelled};
-ghost use Rattle.js_upgrade.specs.Reference.{at_name, at_pointer, followed, in_resource, is_older, moved_in, rewritten};
-ghost use Rattle.js_upgrade.specs.Reference.{with_name, with_pointer, with_target};
+ghost use Rattle.js_upgrade.specs.Reference.{at_pointer, followed, in_resource, is_older, moved_in};
+ghost use Rattle.js_upgrade.specs.Reference.{respelled, respelled_in, rewritten, with_pointer, with_target};
 ghost use Rattle.js_upgrade.specs.Schema.{is_mark};
 ghost use Rattle.js_upgrade.specs.Seen.{resource_seen};
 ghost use Rattle.js_upgrade.specs.Url.{uri_joined};
@@ -93,10 +93,10 @@ fn followed(
                 at_pointer(alloc, reference, &pointer, resource)
             }
             None => {
-                let named = with_name(alloc, reference, uri.fragment().unwrap_or(""))?;
+                let named = respelled(alloc, reference, uri.fragment().unwrap_or(""))?;
                 let bare = uri_without_fragment(uri)?;
                 let resource = resource_named(resources, uri_printed(&bare));
-                at_name(alloc, reference, named, resource)
+                respelled_in(alloc, reference, named, resource)
             }
         },
         None => copied(alloc, reference),
@@ -122,8 +122,8 @@ fn in_resource(
     match pointer_in(alloc, fragment)? {
         Some(pointer) => at_pointer(alloc, reference, &pointer, resource),
         None => {
-            let named = with_name(alloc, reference, fragment)?;
-            at_name(alloc, reference, named, resource)
+            let named = respelled(alloc, reference, fragment)?;
+            respelled_in(alloc, reference, named, resource)
         }
     }
 }
@@ -147,8 +147,8 @@ fn at_pointer(
 }
 
 // The name that the fragment is, as it is spelled in 2020-12.
-fn with_name(alloc: Global, reference: &str, fragment: &str) -> Result<String, Memory>
-    ensures { IfOk result (λ s. string_bytes s ≡ with_name reference.now (percent_decode fragment.now)) }
+fn respelled(alloc: Global, reference: &str, fragment: &str) -> Result<String, Memory>
+    ensures { IfOk result (λ s. string_bytes s ≡ respelled reference.now (percent_decode fragment.now)) }
 {
     let name = percent_decode(fragment.as_bytes()).into_cow(alloc)?;
     if is_settled(name.as_slice()) {
@@ -174,13 +174,13 @@ fn with_fragment(alloc: Global, reference: &str, fragment: &str) -> Result<Strin
     Ok(out)
 }
 
-fn at_name(
+fn respelled_in(
     alloc: Global,
     reference: &str,
     named: String,
     resource: Option<&Resource<'_>>,
 ) -> Result<String, Memory>
-    ensures { IfOk result (λ s. string_bytes s ≡ at_name reference.now (string_bytes named)
+    ensures { IfOk result (λ s. string_bytes s ≡ respelled_in reference.now (string_bytes named)
         (option_map (λ r. resource_seen r.now) resource.entry)) }
 {
     match resource {
