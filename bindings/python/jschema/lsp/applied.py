@@ -7,6 +7,7 @@ from collections.abc import Iterator
 from typing import Any, NamedTuple
 
 from ..errors import Refused
+from ..keyword_table import of_form
 from ..locations import pointer, schema_steps
 from ..outputs import parse
 from .tree import Node
@@ -16,7 +17,8 @@ from .workspace import Choice
 _CONDITIONS = frozenset({"if", "not", "propertyNames", "contains"})
 _CHOICES = frozenset({"anyOf", "oneOf"})
 # Errors that go away when something is added.
-_ADDABLE = frozenset({"required", "dependentRequired", "minProperties", "minItems", "minLength", "contains"})
+_ADDABLE = frozenset({"contains", *of_form("names"), *of_form("lists of names"),
+                      *(it for it in of_form("count") if it.startswith("min"))})
 # How many of the items before one are kept in a sketch.
 _KEPT = 50
 
