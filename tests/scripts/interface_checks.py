@@ -1,4 +1,4 @@
-"""That `tools/interface --check` finds what differs from interface.toml."""
+"""That `tools/interface --check` finds what differs from interface.toml and keywords.toml."""
 import os
 import shutil
 
@@ -6,7 +6,8 @@ from script_checks import Check
 from tests.support.programs import HOME
 from tools.interface_texts import FOUND, TEXTS
 
-COPIED = ("interface.toml", "tests/reference", "tools", *(it for it in (*TEXTS, *FOUND) if not it.startswith("tools/")))
+COPIED = ("interface.toml", "keywords.toml", "tests/reference", "tools",
+          *(it for it in (*TEXTS, *FOUND) if not it.startswith("tools/")))
 SIXTH = '''[[format]]
 name = "hierarchical"
 number = 5
@@ -38,6 +39,10 @@ EDITS = {
     "a sixth format": ("interface.toml", "[[status]]\nnumber = 0", SIXTH,
                        "jschema is stale(.|\n)*js_tree/src/formats.rt(.|\n)*js_command/src/words.rt(.|\n)*"
                        "js_command/specs/Words.antt(.|\n)*jschema_c/src/status.rt(.|\n)*jschema_c/specs/Status.antt"),
+    "another form of a keyword": ("keywords.toml", 'minItems = { first = "draft-03", form = "count"',
+                                  'minItems = { first = "draft-03", form = "number"',
+                                  r"keyword_table.py is stale(.|\n)*keyword_table.js is stale(.|\n)*"
+                                  r"REFUSALS.md is stale"),
 }
 
 

@@ -27,9 +27,9 @@ FAKES = {
 COPIED = ("benchmarks", "bindings", "examples", "tests/conformance", "tests/fuzz", "tests/hostile", "tests/random",
           "tests/reference", "tests/rows/polygon", "tests/rows/annotated_property", "tests/scripts", "tests/support",
           "tools")
-COPIED_FILES = ("HANDLES", "crates.txt", "interface.toml", "tests/__init__.py", "tests/mutants/batches.py",
-                "tests/mutants/coverage.py", "tests/mutants/edits.py", "tests/mutants/kept_bodies.py",
-                "tests/mutants/run", "tests/rows/run")
+COPIED_FILES = ("HANDLES", "crates.txt", "interface.toml", "keywords.toml", "tests/__init__.py",
+                "tests/mutants/batches.py", "tests/mutants/coverage.py", "tests/mutants/edits.py",
+                "tests/mutants/kept_bodies.py", "tests/mutants/run", "tests/rows/run")
 
 
 @dataclass

@@ -107,7 +107,7 @@ class Maker:
             "$ref": self.reference, "$dynamicRef": self.reference,
             "$anchor": lambda: self.one(ANCHORS), "$dynamicAnchor": lambda: self.one(ANCHORS),
             "$id": lambda: self.one(IDS),
-            "$comment": self.string, "format": self.string,
+            "$comment": self.string, "format": self.string, "contentSchema": lambda: self.schema(depth),
         }
         formed = {
             "schema": lambda: self.schema(depth), "schemas": lambda: self.listed(depth),
