@@ -4,7 +4,8 @@ from dataclasses import dataclass
 from tests.support.maker import IDS, NAMES, PATTERNS, TYPES, Maker
 
 BASES = ("https://a.example/s", "https://a.example/t", "https://b.example/u/v")
-ANCHORS = ("n", "m")
+# The last is a name that 2020-12 can't have.
+ANCHORS = ("n", "m", "n:1")
 # Where schemas stand by name, and where values do.
 BY_NAME = ("properties", "patternProperties", "dependencies", "definitions", "$defs", "dependentSchemas", "x")
 VALUES = ("enum", "const", "default", "examples", "required", "dependentRequired")
@@ -125,8 +126,9 @@ class OlderMaker(Maker):
     def reference(self):
         """A reference to what each document has, or to a place that is chosen later."""
         holder = self.draft.holder
-        fragment = self.one(("", "#", LATER, LATER, "#n", "#n", "#m", f"#/{holder}/a", f"#/{holder}/b",
-                             f"#/{holder}/a~1b", f"#/{holder.replace('d', '%64')}/b"))
+        names = (f"#{it}" for it in ("n", *ANCHORS))
+        fragment = self.one(("", "#", LATER, LATER, *names, f"#/{holder}/a", f"#/{holder}/b", f"#/{holder}/a~1b",
+                             f"#/{holder.replace('d', '%64')}/b"))
         if fragment == LATER or self.chance(0.6):
             return fragment
         return self.one(self.known) + fragment
