@@ -25,7 +25,7 @@ use Rattle.js_upgrade.specs.Apart.{definitions_of}
 use Rattle.js_upgrade.specs.Copies.{Copies, copied_at, copied_for_text, copied_for_uri, copied_in, with_copy}
 use Rattle.js_upgrade.specs.CopyName.{definitions_name, free_name, is_rooted}
 use Rattle.js_upgrade.specs.CopyName.{redirected}
-use Rattle.js_upgrade.specs.Dialect.{draft_number, is_before}
+use Rattle.js_upgrade.specs.Dialect.{draft_number}
 use Rattle.js_upgrade.specs.Fault.{target_kind}
 use Rattle.js_upgrade.specs.Keyword.{applicator_change, assertion_change, core_change}
 use Rattle.js_upgrade.specs.Moved.{both, keyword_step, moved_tokens, step, tokens_under}
@@ -157,7 +157,7 @@ root_copied d (list vs) name ms own there = refl
 
 -- ---- the root of a resource
 
-same_dialect : (d e : Dialect) → (draft_number d == draft_number e) ≡ true → d ≡ e
+pub same_dialect : (d e : Dialect) → (draft_number d == draft_number e) ≡ true → d ≡ e
 same_dialect Draft03 Draft03 is = refl
 same_dialect Draft04 Draft04 is = refl
 same_dialect Draft06 Draft06 is = refl
@@ -281,7 +281,7 @@ written : (name : Text) → list_all is_usual_byte name ≡ true
 written name plain = ap (flat_map fragment_byte) (append-nil (escape name)) ∙ all_usual name plain
 
 text_by : (d : Dialect) (name t : Text) → t ≡ 35 ∷ usual_fragment d name → list_all is_usual_byte name ≡ true
-    → with_target t (usual_tokens d name) (Some (defs_tokens name)) ≡ usual_text (is_before d Draft2019) t name
+    → with_target t (usual_tokens d name) (Some (defs_tokens name)) ≡ usual_text d t name
 text_by Draft03 name t is plain =
     ap (λ u. with_pointer u (defs_tokens name)) is ∙ ap (λ n. codes "#/$defs/" ++ n) (written name plain)
 text_by Draft04 name t is plain =
@@ -309,7 +309,7 @@ module _ (r : Resource) (t : Text) (target : UsualTarget) (known : IsUsualTarget
       (its_definitions r known.0) known.3
 
   text_here : in_resource t (usual_fragment r.dialect target.name.now) (Some tokens) (Some r)
-      ≡ usual_text target.moves t target.name.now
+      ≡ usual_text target.dialect t target.name.now
   text_here =
       ap (with_target t tokens) moved_here
       ∙ text_by r.dialect target.name.now t (its_text r.dialect t target.name.now known.2)
@@ -322,7 +322,7 @@ module _ (r : Resource) (t : Text) (target : UsualTarget) (known : IsUsualTarget
   module _ (all : List Resource) (base : Parts) (number : Option ℕ)
       (named : number ≡ position_from (has_uri (local_uri base)) 0 all)
       (there : Some r ≡ option_and_then (slice_get all) number) where
-    pub usual_followed : followed all t (uri_joined base t) ≡ usual_text target.moves t target.name.now
+    pub usual_followed : followed all t (uri_joined base t) ≡ usual_text target.dialect t target.name.now
     usual_followed =
         sym (local_followed all base t (usual_fragment r.dialect target.name.now) (Some tokens) (Some r)
         (sym (usual_local r.dialect t target.name.now known.2))

@@ -1,16 +1,18 @@
 //! Values that are clear: no schema in them has an identifier, or a fault, and no reference leads to what is copied. In
 //! most documents that is seen without following a reference.
-ghost use Rattle.std.specs.Prelude.{◌≡◌, [], None, option_map, true};
+ghost use Rattle.std.specs.Prelude.{◌≡◌, [], None, false, length, nat_lt, option_map, true};
 ghost use Rattle.js_doc.specs.Seen.{value_of};
 ghost use Rattle.js_doc.specs.Value.{items, members, object};
-ghost use Rattle.js_upgrade.specs.Fault.{reference_kind};
+ghost use Rattle.js_upgrade.specs.Copies.{Copies, copied_for_text};
+ghost use Rattle.js_upgrade.specs.Fault.{reference_kind, target_kind};
 ghost use Rattle.js_upgrade.specs.Upgrade.{holding_in};
+ghost use Rattle.js_upgrade.specs.Url.{uri_joined, uri_limit};
 ghost use Rattle.js_upgrade.specs.code.Clear.{AreClearItems, AreClearMembers, CopiesNothing, IsAnonymous, IsBare};
 ghost use Rattle.js_upgrade.specs.code.Clear.{IsClearSchema, IsClearValue, IsFaultlessElse, is_some_text};
 ghost use Rattle.js_upgrade.specs.code.Table.{all_of};
 ghost use Rattle.js_upgrade.specs.declared.holding.SchemaHolding.TheVariants.{Named, One};
 
-use crate::definitions::{is_usual, leads_to_root, usual_target};
+use crate::definitions::{is_usual, is_usual_too, leads_to_root, usual_target};
 use crate::dialect::Dialect;
 use crate::holding::{SchemaHolding, holding_by_change};
 use crate::kinds::{anchor_kind, contains_kind, recursive_kind, unevaluated_kind};
@@ -113,10 +115,23 @@ fn refers_usually(roots: Scope<'_>, scope: Scope<'_>, found: Option<&Doc>) -> bo
         None => true,
         Some(Doc::Text(text)) => {
             let reference = text.as_str();
-            leads_to_root(scope, reference)
-                || (usual_target(scope, reference).is_some() && is_usual(roots, reference))
+            leads_usually(roots, scope, reference) || leads_to_root(scope, reference)
         }
         Some(_) => false,
+    }
+}
+
+fn leads_usually(roots: Scope<'_>, scope: Scope<'_>, reference: &str) -> bool
+    requires { roots.base.now ≡ scope.base.now }
+    ensures short { result ≡ true → nat_lt uri_limit (length reference.now) ≡ false }
+    ensures leads { result ≡ true → target_kind (all_of scope.entry.resources.now)
+        (uri_joined scope.entry.base.now reference.now) ≡ None }
+    ensures copies { result ≡ true → (copies : Copies) → copied_for_text (all_of roots.entry.resources.now)
+        scope.entry.base.now reference.now copies ≡ copies }
+{
+    match usual_target(scope, reference) {
+        Some(target) => is_usual_too(roots, target),
+        None => false,
     }
 }
 

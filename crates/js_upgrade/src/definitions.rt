@@ -1,9 +1,10 @@
 //! References to definitions of their own resource, as most are written: `#/definitions/` or `#/$defs/`, and a name.
-ghost use Rattle.std.specs.Prelude.{◌≡◌, ◌++◌, [], IfOk, IfSome, None, codes, false, length, nat_lt, option_map};
-ghost use Rattle.std.specs.List.{list_all};
+ghost use Rattle.std.specs.Prelude.{◌≡◌, ◌++◌, [], IfOk, IfSome, None, Some, codes, false, length, nat_lt, option_map};
 ghost use Rattle.std.specs.Prelude.{true};
+ghost use Rattle.std.specs.List.{list_all};
 ghost use Rattle.js_doc.specs.Members.{get};
 ghost use Rattle.js_doc.specs.Seen.{value_of};
+ghost use Rattle.js_doc.specs.Value.{Text as Bytes};
 ghost use Rattle.js_upgrade.specs.Copies.{Copies, copied_for_text};
 ghost use Rattle.js_upgrade.specs.Fault.{target_kind};
 ghost use Rattle.js_upgrade.specs.Reference.{followed};
@@ -113,6 +114,18 @@ pub(crate) fn is_usual(scope: Scope<'_>, reference: &str) -> bool
     }
 }
 
+/// Whether a reference with this target is a usual one here too: then it leads to nothing that is copied.
+pub(crate) fn is_usual_too(scope: Scope<'_>, target: UsualTarget<'_>) -> bool
+    ensures { (t : Bytes) → usual_name target.entry.dialect t ≡ Some target.entry.name.now → result ≡ true
+        → (copies : Copies) → copied_for_text (all_of scope.entry.resources.now) scope.entry.base.now t copies
+        ≡ copies }
+{
+    match resource_numbered(scope.resources, scope.here) {
+        Some(root) => root.usual && root.dialect.is_draft(target.dialect),
+        None => false,
+    }
+}
+
 /// Whether the reference is `#`, and leads to the root of its resource.
 pub(crate) fn leads_to_root(scope: Scope<'_>, reference: &str) -> bool
     ensures leads { result ≡ true → target_kind (all_of scope.entry.resources.now)
@@ -128,8 +141,8 @@ pub(crate) fn leads_to_root(scope: Scope<'_>, reference: &str) -> bool
 /// The target of a usual reference: a definition that is there.
 #[derive(Clone, Copy)]
 pub(crate) struct UsualTarget<'t> {
-    /// Whether it moves to `$defs`.
-    pub moves: bool,
+    /// That of the resource: before 2019-09 it moves to `$defs`.
+    pub dialect: Dialect,
     pub name: &'t str,
 }
 
@@ -137,9 +150,10 @@ pub(crate) struct UsualTarget<'t> {
 pub(crate) fn usual_target<'t>(scope: Scope<'_>, reference: &'t str) -> Option<UsualTarget<'t>>
     ensures short { IfSome result (λ t. nat_lt uri_limit (length reference.now) ≡ false) }
     ensures follows { IfSome result (λ t. followed (all_of scope.entry.resources.now) reference.now
-        (uri_joined scope.entry.base.now reference.now) ≡ usual_text t.moves reference.now t.name.now) }
+        (uri_joined scope.entry.base.now reference.now) ≡ usual_text t.dialect reference.now t.name.now) }
     ensures leads { IfSome result (λ t. target_kind (all_of scope.entry.resources.now)
         (uri_joined scope.entry.base.now reference.now) ≡ None) }
+    ensures named { IfSome result (λ t. usual_name t.dialect reference.now ≡ Some t.name.now) }
 {
     match resource_numbered(scope.resources, scope.here) {
         Some(resource) => target_in(resource, reference),
@@ -158,7 +172,7 @@ fn target_in<'t>(resource: &Resource<'_>, reference: &'t str) -> Option<UsualTar
         return None;
     }
     Some(UsualTarget {
-        moves: resource.dialect.is_before(Dialect::Draft2019),
+        dialect: resource.dialect,
         name,
     })
 }
@@ -181,9 +195,9 @@ pub(crate) fn usual_text(
     target: UsualTarget<'_>,
     reference: &str,
 ) -> Result<Text, Memory>
-    ensures { IfOk result (λ t. t ≡ usual_text target.entry.moves reference.now target.entry.name.now) }
+    ensures { IfOk result (λ t. t ≡ usual_text target.entry.dialect reference.now target.entry.name.now) }
 {
-    if target.moves {
+    if target.dialect.is_before(Dialect::Draft2019) {
         moved_text(alloc, target.name)
     } else {
         Text::from_str(alloc, reference)

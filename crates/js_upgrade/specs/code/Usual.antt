@@ -40,12 +40,12 @@ abbrev pub IsUsualTarget : Resource → Text → UsualTarget → Type 0
 IsUsualTarget r t target =
     (is_usual_root r.dialect r.root ≡ true) × (r.copies ≡ []) × (usual_name r.dialect t ≡ Some target.name.now)
     × (is_some (get target.name.now (definitions_of r.dialect r.root)) ≡ true)
-    × (target.moves ≡ is_before r.dialect Draft2019)
+    × (target.dialect ≡ r.dialect)
 
 -- wherever it stands, it leads to nothing that is copied
 abbrev pub IsUncopied : Text → Type 0
 IsUncopied t = (roots : List Resource) (base : Parts) (copies : Copies) → copied_for_text roots base t copies ≡ copies
 
 -- as it is in 2020-12
-abbrev pub usual_text : Bool → Text → Text → Text
-usual_text moves t name = if moves then codes "#/$defs/" ++ name else t
+abbrev pub usual_text : Dialect → Text → Text → Text
+usual_text d t name = if is_before d Draft2019 then codes "#/$defs/" ++ name else t
