@@ -25,7 +25,7 @@ is_plain_name (b ∷ bs) = is_name_start b && list_all is_name_part bs
 abbrev pub is_part_of_2019 : ℕ → Bool
 is_part_of_2019 b = is_name_part b || b == 58
 
--- with `:` as well
+-- a name of 2019-09 may have a `:` too; one that begins with `_`, which only 2020-12 allows, is taken as well
 abbrev pub is_name_of_2019 : Text → Bool
 is_name_of_2019 [] = false
 is_name_of_2019 (b ∷ bs) = is_name_start b && list_all is_part_of_2019 bs
