@@ -21,16 +21,14 @@ def formats(interface):
     numbers = {it["number"]: it["name"].capitalize() for it in interface["format"]}
     yield ("js_tree/src/formats.rt", "Format", set(names.values()),
            set(found("js_tree/src/formats.rt", r"\n    (\w+),", r"pub enum Format \{.*?\n\}")))
-    yield ("js_command/src/words.rt", "format_of", names,
-           dict(found("js_command/src/words.rt", r'"(\w+)" => Some\(Format::(\w+)\)')))
-    yield ("js_command/specs/Words.antt", "format_of", names,
-           dict(found("js_command/specs/Words.antt", r'codes "(\w+)"\) then Some (\w+)')))
-    yield ("jschema_c/src/status.rt", "format_numbered", numbers,
-           {int(number): name for number, name in found("jschema_c/src/status.rt", r"(\d+) => Some\(Format::(\w+)\)")})
-    yield ("jschema_c/specs/Status.antt", "format_number", numbers,
-           {int(number): name for name, number in found("jschema_c/specs/Status.antt", r"format_number (\w+) = (\d+)")})
-    yield ("jschema_c/specs/Status.antt", "last_format", [str(max(numbers))],
-           found("jschema_c/specs/Status.antt", r"last_format = (\d+)"))
+    yield ("js_tree/src/formats.rt", "named", names,
+           dict(found("js_tree/src/formats.rt", r'"(\w+)" => Some\(Format::(\w+)\)')))
+    yield ("js_tree/src/formats.rt", "numbered", numbers,
+           {int(number): name for number, name in found("js_tree/src/formats.rt", r"(\d+) => Some\(Format::(\w+)\)")})
+    yield ("js_tree/specs/Form.antt", "format_name", {variant: name for name, variant in names.items()},
+           dict(found("js_tree/specs/Form.antt", r'format_name (\w+) = codes "(\w+)"')))
+    yield ("js_tree/specs/Form.antt", "formats", [numbers[it] for it in sorted(numbers)],
+           found("js_tree/specs/Form.antt", r"[A-Z]\w*(?= ∷)", r"\nformats = .*"))
 
 
 def statuses(interface):

@@ -27,18 +27,19 @@ EDITS = {
                         r"jschema is stale(.|\n)*jschema.1 is stale(.|\n)*jschema.pc is stale(.|\n)*"
                         r"jschema.h is stale(.|\n)*pyproject.toml is stale(.|\n)*package.json is stale(.|\n)*"
                         r"jschema_c/src/lib.rt: jschema_version"),
-    "another word for a format": ("crates/js_command/src/words.rt", '"merged" =>', '"unique" =>',
-                                  "js_command/src/words.rt: format_of"),
-    "another number of a format": ("crates/jschema_c/specs/Status.antt", "format_number Basic = 1",
-                                   "format_number Basic = 7", "jschema_c/specs/Status.antt: format_number"),
+    "another word for a format": ("crates/js_tree/src/formats.rt", '"merged" =>', '"unique" =>',
+                                  "js_tree/src/formats.rt: named"),
+    "another number of a format": ("crates/js_tree/specs/Form.antt", "formats = Flag ∷ Basic", "formats = Basic ∷ Flag",
+                                   "js_tree/specs/Form.antt: formats"),
     "another status": ("crates/js_command/src/status.rt", "REFUSED: u8 = 3", "REFUSED: u8 = 5",
                        "js_command/src/status.rt: the statuses"),
     "another limit": ("crates/js_output/src/input.rt", "16_777_216", "16_777_217", "js_output/src/input.rt: LIMIT"),
     "another name of a refusal": ("crates/js_output/specs/Line.antt", 'codes "BadId"', 'codes "NoId"',
                                   "js_output/specs/Line.antt: the names"),
     "a sixth format": ("interface.toml", "[[status]]\nnumber = 0", SIXTH,
-                       "jschema is stale(.|\n)*js_tree/src/formats.rt(.|\n)*js_command/src/words.rt(.|\n)*"
-                       "js_command/specs/Words.antt(.|\n)*jschema_c/src/status.rt(.|\n)*jschema_c/specs/Status.antt"),
+                       r"jschema is stale(.|\n)*js_tree/src/formats.rt: Format(.|\n)*js_tree/src/formats.rt: named(.|\n)*"
+                       r"js_tree/src/formats.rt: numbered(.|\n)*js_tree/specs/Form.antt: format_name(.|\n)*"
+                       r"js_tree/specs/Form.antt: formats"),
     "another form of a keyword": ("keywords.toml", 'minItems = { first = "draft-03", form = "count"',
                                   'minItems = { first = "draft-03", form = "number"',
                                   r"keyword_table.py is stale(.|\n)*keyword_table.js is stale(.|\n)*"

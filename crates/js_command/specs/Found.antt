@@ -4,13 +4,14 @@ use Rattle.std.specs.Str.{bytes_eq}
 use Rattle.clap.specs.Words.{Row, Text, first_of, all_of, fault_of, subcommand_of}
 use Rattle.clap.specs.declared.error.kind.ErrorKind.{ErrorKind}
 use Rattle.clap.specs.declared.error.kind.ErrorKind.TheVariants as kind
+use Rattle.js_tree.specs.Form.{format_named}
 use Rattle.js_command.specs.Grammar.{grammar}
-use Rattle.js_command.specs.Words.{DocumentPairs, Request, pairs_in, format_of, check_by, suite_by, places_by}
+use Rattle.js_command.specs.Words.{DocumentPairs, Request, pairs_in, check_by, suite_by, places_by}
 use Rattle.js_command.specs.declared.words.Misuse.{Misuse}
 use Rattle.js_command.specs.declared.words.Misuse.TheVariants as misuse
 
 abbrev pub check_in : Option Text → Option Text → Option Text → Option DocumentPairs → Result Request Misuse
-check_in (Some format) (Some instance) (Some entry) ps = check_by (format_of format) instance entry ps
+check_in (Some format) (Some instance) (Some entry) ps = check_by (format_named format) instance entry ps
 check_in _ _ _ _ = Err misuse.OtherForm
 
 abbrev pub suite_in : Option Text → Option DocumentPairs → Result Request Misuse

@@ -4,8 +4,8 @@ use Rattle.std.specs.Str.{bytes_eq}
 use Rattle.std.specs.Borrow.{Bor}
 use Rattle.clap.specs.Words.{Text}
 use Rattle.js_command.specs.Plain.{plain_of}
+use Rattle.js_tree.specs.Form.{format_named}
 use Rattle.js_tree.specs.declared.formats.Format.{Format}
-use Rattle.js_tree.specs.declared.formats.Format.TheVariants.{Flag, Basic, Detailed, Merged, Verbose}
 use Rattle.js_command.specs.declared.words.DocumentFile.{DocumentFile}
 use Rattle.js_command.specs.declared.words.Misuse.{Misuse}
 use Rattle.js_command.specs.declared.words.Misuse.TheVariants as misuse
@@ -28,14 +28,6 @@ pub data Request : Type 0 where
   suite : Text → DocumentPairs → Request
   places : DocumentPairs → Request
 
-abbrev pub format_of : Text → Option Format
-format_of word =
-    if bytes_eq word (codes "flag") then Some Flag
-    else (if bytes_eq word (codes "basic") then Some Basic
-    else (if bytes_eq word (codes "detailed") then Some Detailed
-    else (if bytes_eq word (codes "merged") then Some Merged
-    else (if bytes_eq word (codes "verbose") then Some Verbose else None))))
-
 -- words two by two
 abbrev pub pairs_after : Text × Text → Option DocumentPairs → Option DocumentPairs
 pairs_after p None = None
@@ -53,7 +45,7 @@ check_by (Some format) instance entry None = Err misuse.OddPairs
 check_by (Some format) instance entry (Some ps) = Ok (check format instance entry ps)
 
 abbrev pub check_asked : List Text → Result Request Misuse
-check_asked (format ∷ instance ∷ entry ∷ words) = check_by (format_of format) instance entry (pairs_in words)
+check_asked (format ∷ instance ∷ entry ∷ words) = check_by (format_named format) instance entry (pairs_in words)
 check_asked _ = Err misuse.OtherForm
 
 -- `SUITE [URI FILE]...`

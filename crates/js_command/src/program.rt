@@ -32,8 +32,8 @@ use std::io::{Read, Write};
 /// | `suite SUITE [URI FILE]...` | `js_output::run_suite_text` on the suite |
 /// | `places [URI FILE]...` | `js_output::run_places` on the documents |
 ///
-/// The files of the documents are taken in the order given, then INSTANCE or SUITE. FORMAT is
-/// `flag`, `basic`, `detailed`, `merged` or `verbose`.
+/// The files of the documents are taken in the order given, then INSTANCE or SUITE. FORMAT is the
+/// name of a `js_output::Format`.
 ///
 /// The output goes to `out`, which is flushed once, as the last thing. A fault of this flush counts
 /// only if there was no other. `faults` gets a usage text, or the line of a fault and a line feed

@@ -1,7 +1,7 @@
 //! The program's arguments, and the task that they name.
 ghost use Rattle.std.specs.Prelude.{◌≡◌, Ok, Some, IfOk, IfErr, ◌<◌, length, option_map, codes};
 ghost use Rattle.clap.specs.Words.{found_of, first_of, all_of, rows_of, subcommand_rows_of};
-ghost use Rattle.js_command.specs.Words.{request_of, words_of, pairs_in, format_of, places_by, pairs_seen};
+ghost use Rattle.js_command.specs.Words.{request_of, words_of, pairs_in, places_by, pairs_seen};
 ghost use Rattle.js_command.specs.code.Tasks.{request_seen, IsMisuse, IsNoPairs};
 ghost use Rattle.js_command.specs.Found.{entered, request_in, check_in, suite_in, pairs_of};
 
@@ -172,7 +172,7 @@ fn check_in<'a>(alloc: Global, found: &ArgMatches<'a>) -> Result<Task<'a>, Misus
     let Some(entry) = word_in(found, "ENTRY") else {
         return Err(Misuse::OtherForm);
     };
-    let Some(format) = format_of(format) else {
+    let Some(format) = Format::named(format) else {
         return Err(Misuse::OtherForm);
     };
     let documents = documents_in(alloc, found)?;
@@ -253,17 +253,4 @@ fn documents_of<'a>(alloc: Global, words: &[&'a str]) -> Result<Vec<DocumentFile
         return Err(Misuse::OddPairs);
     }
     Ok(documents)
-}
-
-fn format_of(word: &str) -> Option<Format>
-    ensures { result ≡ format_of word.now }
-{
-    match word {
-        "flag" => Some(Format::Flag),
-        "basic" => Some(Format::Basic),
-        "detailed" => Some(Format::Detailed),
-        "merged" => Some(Format::Merged),
-        "verbose" => Some(Format::Verbose),
-        _ => None,
-    }
 }

@@ -1,10 +1,13 @@
 -- The output formats as JSON values: the four of the standard (JSON Schema Core, section 12.4; the members of a node
 -- are those of 12.3), and merged, which is this project's own.
-use Rattle.std.specs.Prelude.{ℕ, pos, Bool, true, false, not, List, [], ◌∷◌, ◌++◌, map, Option, Some, None, codes}
+use Rattle.std.specs.Prelude.{ℕ, pos, Bool, true, false, not, List, [], ◌∷◌, ◌++◌, map, find, Option, Some, None, codes}
+use Rattle.std.specs.Prelude.{bytes_eq}
 use Rattle.js_doc.specs.Value.{Value, truth, whole, text, list, object, items, members}
 use Rattle.js_tree.specs.Forest.{Forest, empty, tree}
 use Rattle.js_tree.specs.declared.formats.Format.{Format}
 use Rattle.js_tree.specs.declared.formats.Format.TheVariants.{Flag, Basic, Detailed, Merged, Verbose}
+use Rattle.js_tree.specs.declared.formats.Layout.{Layout}
+use Rattle.js_tree.specs.declared.formats.Layout.TheVariants.{Verdict, Units, Nodes}
 use Rattle.js_tree.specs.MergedResult.{merged}
 use Rattle.js_tree.specs.Note as note
 use Rattle.js_tree.specs.OutputUnit.{OutputUnit}
@@ -78,16 +81,24 @@ abbrev pub unit_list : ResultTree → Value
 unit_list t = object (members ((list_name t.root.valid, list (items (map (λ u. node_value u []) (units t))))
     ∷ (codes "valid", truth t.root.valid) ∷ []))
 
--- what a format shows, given the tree that it shows: the pruned tree for basic, the condensed one for detailed, the
--- merged one for merged, and else the whole tree
-abbrev pub shown : Format → ResultTree → Value
-shown Flag t = flag t.root.valid
-shown Basic t = unit_list t
-shown Detailed t = verbose t
-shown Merged t = verbose t
-shown Verbose t = verbose t
+-- a format lays out the tree that it shows: its verdict alone, the noted units in a list, or a node in a node
+abbrev pub layout : Format → Layout
+layout Flag = Verdict
+layout Basic = Units
+layout Detailed = Nodes
+layout Merged = Nodes
+layout Verbose = Nodes
 
--- that tree, made from the whole one: the format shows of it what `form` says (only private functions cite it)
+abbrev pub laid_out : Layout → ResultTree → Value
+laid_out Verdict t = flag t.root.valid
+laid_out Units t = unit_list t
+laid_out Nodes t = verbose t
+
+-- what a format shows, given the tree that it shows
+abbrev pub shown : Format → ResultTree → Value
+shown format t = laid_out (layout format) t
+
+-- that tree, made from the whole one: pruned for basic, condensed for detailed, merged for merged
 abbrev pub tree_of_format : Format → ResultTree → ResultTree
 tree_of_format Flag t = t
 tree_of_format Basic t = pruned t
@@ -96,8 +107,19 @@ tree_of_format Merged t = merged (pruned t)
 tree_of_format Verbose t = t
 
 abbrev pub form : Format → ResultTree → Value
-form Flag t = flag t.root.valid
-form Basic t = unit_list (pruned t)
-form Detailed t = verbose (kept (pruned t))
-form Merged t = verbose (merged (pruned t))
-form Verbose t = verbose t
+form format t = shown format (tree_of_format format t)
+
+-- ---- their names, as arguments have them, and their numbers, as C has them: 0 for the first of the list
+
+abbrev pub formats : List Format
+formats = Flag ∷ Basic ∷ Detailed ∷ Verbose ∷ Merged ∷ []
+
+abbrev pub format_name : Format → List ℕ
+format_name Flag = codes "flag"
+format_name Basic = codes "basic"
+format_name Detailed = codes "detailed"
+format_name Verbose = codes "verbose"
+format_name Merged = codes "merged"
+
+abbrev pub format_named : List ℕ → Option Format
+format_named name = find (λ format. bytes_eq name (format_name format)) formats

@@ -1,10 +1,10 @@
 -- A check of a ready handle is a run.
-use Rattle.std.proofs.Common.{◌≡◌, ℕ, zero, suc, List, slice_get, Some, Result, Ok, Err, Bool, true, false}
+use Rattle.std.proofs.Common.{◌≡◌, ℕ, List, slice_get, Some, Result, Ok, Err, Bool, true, false}
 use Rattle.std.proofs.Common.{refl, sym, ap, ◌∙◌, subst}
 use Rattle.js_bundle.specs.Document as bundle
 use Rattle.js_bundle.specs.Schemas.{is_place, place_at}
+use Rattle.js_tree.specs.Form.{formats}
 use Rattle.js_tree.specs.declared.formats.Format.{Format}
-use Rattle.js_tree.specs.declared.formats.Format.TheVariants.{Flag, Basic, Detailed, Merged, Verbose}
 use Rattle.js_output.specs.Documents.{DocumentTexts}
 use Rattle.js_output.specs.Entry.{entry_causes, entry_place}
 use Rattle.js_output.specs.Outcome.{Output, InstanceOutcomeWithin, OutcomeWithin}
@@ -20,30 +20,13 @@ use Rattle.jschema_c.specs.Exports.{SessionChecks}
 use Rattle.jschema_c.specs.Run.{IsReady, TellsOutcome}
 use Rattle.jschema_c.specs.LastCall.{Says}
 use Rattle.jschema_c.specs.Session.{Asked, Checks, IsOutput, Judges}
-use Rattle.jschema_c.specs.Status.{format_number}
-
-abbrev format_numbered : ℕ → Format
-format_numbered zero = Flag
-format_numbered (suc zero) = Basic
-format_numbered (suc (suc zero)) = Detailed
-format_numbered (suc (suc (suc zero))) = Verbose
-format_numbered (suc (suc (suc (suc n)))) = Merged
-
-numbered_back : (f : Format) → format_numbered (format_number f) ≡ f
-numbered_back Flag = refl
-numbered_back Basic = refl
-numbered_back Detailed = refl
-numbered_back Verbose = refl
-numbered_back Merged = refl
-
-same_format : (f g : Format) → format_number f ≡ format_number g → f ≡ g
-same_format f g e = sym (numbered_back f) ∙ ap format_numbered e ∙ numbered_back g
 
 some_is : {A : Type 0} (a b : A) → Some a ≡ Some b → a ≡ b
 some_is a b e = cc
 
 module _ (documents : DocumentTexts) (uri : List ℕ) (number : ℕ) (s : Session) (ready : IsReady documents uri number s)
-    (instance : List ℕ) (format : Format) where
+    (instance : List ℕ) (format : Format) (format_number : ℕ) (numbered : slice_get formats format_number ≡ Some format)
+    where
   abbrev Expected : Result Output Fault → Type 0
   Expected = OutcomeWithin s.limits documents uri format instance
 
@@ -64,12 +47,12 @@ module _ (documents : DocumentTexts) (uri : List ℕ) (number : ℕ) (s : Sessio
       (InstanceOutcomeWithin s.limits ready.schemas (entry_place ready.schemas uri) format instance) ready.clear outcome
       (subst (λ p. InstanceOutcomeWithin s.limits ready.schemas p format instance outcome) named h))
 
-  asked : Asked s.phase s.entries.items number (format_number format) ready.schemas ready.place format
+  asked : Asked s.phase s.entries.items number format_number ready.schemas ready.place format
   asked = record {
     finished = ready.held;
     kept = ready.kept;
     there = stands_there ready.schemas ready.place (entry_place ready.schemas uri) ready.stands;
-    numbered = refl;
+    numbered = numbered;
   }
 
   output : (valid : Bool) (text : List ℕ)
@@ -97,18 +80,18 @@ module _ (documents : DocumentTexts) (uri : List ℕ) (number : ℕ) (s : Sessio
 
   -- what was asked is what is ready
   there : (given : List ℕ) (came : Result Status Fault) (schemas : bundle.Documents) (place : ℕ) (other : Format)
-      → Asked s.phase s.entries.items number (format_number format) schemas place other
+      → Asked s.phase s.entries.items number format_number schemas place other
       → Judges (At schemas place other) given came
       → Judges Here given came
   there given came schemas place other is h =
       let same = some_is schemas ready.schemas (sym is.finished ∙ ready.held) in
       let at = some_is place ready.place (sym is.kept ∙ ready.kept) in
-      subst (λ f. Judges (At ready.schemas ready.place f) given came) (sym (same_format format other is.numbered))
+      subst (λ f. Judges (At ready.schemas ready.place f) given came) (some_is other format (sym is.numbered ∙ numbered))
       (subst (λ p. Judges (At ready.schemas p other) given came) at
       (subst (λ d. Judges (At d place other) given came) same h))
 
   checked : (given : List ℕ) (came : Result Status Fault) (answered : Status) (said : LastCall)
-      → Checks s.phase s.limits s.entries.items number instance (format_number format) given came
+      → Checks s.phase s.limits s.entries.items number instance format_number given came
       → Says given came answered said → TellsOutcome Expected answered said
   checked given (Ok status.Misused) answered said (none, empty) says =
       absurd (none ready.schemas ready.place format asked)
@@ -122,6 +105,6 @@ module _ (documents : DocumentTexts) (uri : List ℕ) (number : ℕ) (s : Sessio
       judged given (Err f) answered said (there given (Err f) schemas place other is h) says
 
   pub check_tells : (after : Session) (answered : Status)
-      → SessionChecks number instance (format_number format) s after answered
+      → SessionChecks number instance format_number s after answered
       → TellsOutcome Expected answered after.said
   check_tells after answered ((given, came, h, says), stays) = checked given came answered after.said h says

@@ -3,6 +3,7 @@ use Rattle.std.specs.Prelude.{◌≡◌, ◌≤◌, ◌<◌, ◌⊎◌, ℕ, Lis
 use Rattle.std.specs.Prelude.{None, Result, Ok, Err, Bool, true, false, ◌==◌, ⊤}
 use Rattle.std.specs.List.{list_any}
 use Rattle.std.specs.Str.{IsUtf8}
+use Rattle.js_tree.specs.Form.{formats}
 use Rattle.js_tree.specs.declared.formats.Format.{Format}
 use Rattle.js_bundle.specs.Adding.{IsAdded, IsRefusedBy}
 use Rattle.js_bundle.specs.Document.{Documents}
@@ -29,7 +30,6 @@ use Rattle.jschema_c.specs.declared.status.Status.TheVariants as status
 use Rattle.jschema_c.specs.Refusal.{IsRefusal}
 use Rattle.jschema_c.specs.LastCall.{Says}
 use Rattle.jschema_c.specs.declared.last_call.LastCall.{LastCall}
-use Rattle.jschema_c.specs.Status.{format_number}
 
 -- the documents, once they are finished
 abbrev pub finished_in : Phase → Option Documents
@@ -171,7 +171,7 @@ pub record Asked (state : Phase) (entries : List ℕ) (entry number : ℕ) (docu
   pub finished : finished_in state ≡ Some documents
   pub kept : slice_get entries entry ≡ Some place
   pub there : is_place documents place ≡ true
-  pub numbered : number ≡ format_number format
+  pub numbered : slice_get formats number ≡ Some format
 
 -- nothing is asked: documents aren't finished, or there is no such entry of them, or no such format
 abbrev pub NotAsked : Phase → List ℕ → ℕ → ℕ → Type 0

@@ -1,23 +1,24 @@
 //! Laws of the definitions that the clauses of the exports speak of. Calling one does nothing.
-ghost use Rattle.std.specs.Prelude.{◌≡◌, List, ℕ};
+ghost use Rattle.std.specs.Prelude.{◌≡◌, List, Some, slice_get, ℕ};
 ghost use Rattle.js_output.specs.Documents.{DocumentTexts};
 ghost use Rattle.js_output.specs.Outcome.{Outcome, OutcomeWithin};
+ghost use Rattle.js_tree.specs.Form.{formats};
 ghost use Rattle.js_tree.specs.declared.formats.Format.{Format};
 ghost use Rattle.jschema_c.specs.declared.session.Session.{Session};
 ghost use Rattle.jschema_c.specs.declared.status.Status.{Status};
 ghost use Rattle.jschema_c.specs.Exports.{IsSharedBy, SessionChecks, SessionEnters, SessionLimits, SessionLists};
 ghost use Rattle.js_eval.specs.Result.{standard_limits};
 ghost use Rattle.jschema_c.specs.Run.{IsOpenedSession, IsReady, TellsOutcome};
-ghost use Rattle.jschema_c.specs.Status.{format_number};
 
 /// A check is a run: after `jschema_new`, `jschema_add` for each document, `jschema_finish` and `jschema_entry`, what
 /// `jschema_check` answers and leaves is the outcome that `js_output::run` has with the same documents, entry, format
 /// and instance.
 pub fn check_is_run()
     ensures { (documents : DocumentTexts) (uri : List ℕ) (number : ℕ) (s after : Session)
-        (instance : List ℕ) (format : Format) (answered : Status)
+        (instance : List ℕ) (format : Format) (format_number : ℕ) (answered : Status)
         → IsOpenedSession documents uri number s
-        → SessionChecks number instance (format_number format) s after answered
+        → slice_get formats format_number ≡ Some format
+        → SessionChecks number instance format_number s after answered
         → TellsOutcome (Outcome documents uri format instance) answered after.said }
 {
     opened_is_ready();
@@ -35,9 +36,10 @@ pub fn opened_is_ready()
 /// A check of a ready handle is a run within its limits.
 pub fn ready_check_is_run()
     ensures { (documents : DocumentTexts) (uri : List ℕ) (number : ℕ) (s after : Session)
-        (instance : List ℕ) (format : Format) (answered : Status)
+        (instance : List ℕ) (format : Format) (format_number : ℕ) (answered : Status)
         → IsReady documents uri number s
-        → SessionChecks number instance (format_number format) s after answered
+        → slice_get formats format_number ≡ Some format
+        → SessionChecks number instance format_number s after answered
         → TellsOutcome (OutcomeWithin s.limits documents uri format instance) answered after.said }
 {}
 

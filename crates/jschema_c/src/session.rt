@@ -13,7 +13,7 @@ ghost use Rattle.js_tree.specs.declared.formats.Format.TheVariants.{Flag};
 
 use crate::last_call::{LastCall, copy_fitting};
 use crate::showing::show_text;
-use crate::status::{Status, format_numbered};
+use crate::status::Status;
 use crate::tracing::traced;
 use crate::upgrading::upgrade_phase;
 use js_bundle::{Bundle, Place, Schemas};
@@ -216,7 +216,7 @@ impl Session {
         let Some(place) = self.entries.as_slice().get(entry) else {
             return Ok(Status::Misused);
         };
-        let Some(format) = format_numbered(format) else {
+        let Some(format) = Format::numbered(format) else {
             return Ok(Status::Misused);
         };
         if !schemas.has(*place) {

@@ -1,8 +1,6 @@
-//! What a call answers, and the numbers that C passes and sees.
-ghost use Rattle.std.specs.Prelude.{◌≡◌, ◌<◌, MatchOption};
-ghost use Rattle.jschema_c.specs.Status.{code, format_number, last_format};
-
-use js_tree::Format;
+//! What a call answers, and the number that C sees.
+ghost use Rattle.std.specs.Prelude.{◌≡◌};
+ghost use Rattle.jschema_c.specs.Status.{code};
 
 /// What a call answers.
 #[derive(Debug, Clone, Copy, PartialEq, Eq)]
@@ -31,19 +29,5 @@ impl Status {
             Status::Refused => 3,
             Status::Failed => 4,
         }
-    }
-}
-
-/// The format that has the number.
-pub(crate) fn format_numbered(number: u32) -> Option<Format>
-    ensures { MatchOption result (last_format < number) (λ f. number ≡ format_number f) }
-{
-    match number {
-        0 => Some(Format::Flag),
-        1 => Some(Format::Basic),
-        2 => Some(Format::Detailed),
-        3 => Some(Format::Verbose),
-        4 => Some(Format::Merged),
-        _ => None,
     }
 }

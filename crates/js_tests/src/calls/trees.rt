@@ -110,13 +110,7 @@ fn show_tree(answers: &mut String, tree: &Tree) {
 }
 
 pub fn format_named(name: &str) -> Format {
-    match name {
-        "flag" => Format::Flag,
-        "basic" => Format::Basic,
-        "detailed" => Format::Detailed,
-        "merged" => Format::Merged,
-        _ => Format::Verbose,
-    }
+    Format::named(name).unwrap_or(Format::Verbose)
 }
 
 /// The units' keyword locations, a line each, or the fault's name.

@@ -6,18 +6,15 @@ ghost use Rattle.js_doc.specs.Seen.{value_of};
 ghost use Rattle.js_doc.specs.Value.{text, list, members, object, truth, whole, items};
 ghost use Rattle.js_tree.specs.Forest.{forest_of};
 ghost use Rattle.js_tree.specs.Form.{annotation_value, array_of_some, error_value, flag, form, list_name, node_value};
-ghost use Rattle.js_tree.specs.Form.{node_values, shown, tree_of_format, unit_list, verbose, value_if};
+ghost use Rattle.js_tree.specs.Form.{node_values, shown, unit_list, verbose, value_if};
 ghost use Rattle.js_tree.specs.code.Put.{put_some};
 ghost use Rattle.js_tree.specs.Result.{ResultTree, Normal, Run, pruned};
 ghost use Rattle.js_tree.specs.Seen.{note_of};
 ghost use Rattle.js_tree.specs.declared.formats.Format.TheVariants.{Detailed};
 
-use crate::formats::Format;
+use crate::formats::{Format, Layout};
 use crate::note::Note;
-use crate::reducing::condensing::condense;
-use crate::reducing::merging::merge_condense;
 use crate::reducing::noted_units::units;
-use crate::reducing::pruning::prune;
 use crate::tree::Tree;
 use crate::unit::Unit;
 use js_doc::{Doc, Items, Members, Memory, Text, Whole};
@@ -33,33 +30,18 @@ pub fn form(alloc: Global, tree: Tree, format: Format) -> Result<Doc, Memory>
         → IfOk result (λ doc. (end : ResultTree) → Run (pruned tree.entry) end → Normal end
         → value_of doc ≡ verbose end) }
 {
-    let tree = tree_of_format(tree, format);
+    let tree = format.tree_of(tree);
     shown(alloc, &tree, format)
-}
-
-// The tree that the format shows.
-fn tree_of_format(tree: Tree, format: Format) -> Tree
-    ensures { result ≡ tree_of_format format tree.entry }
-{
-    match format {
-        Format::Flag => tree,
-        Format::Basic => prune(tree),
-        Format::Detailed => condense(prune(tree)),
-        Format::Merged => merge_condense(prune(tree)),
-        Format::Verbose => tree,
-    }
 }
 
 // What the format shows of that tree.
 fn shown(alloc: Global, tree: &Tree, format: Format) -> Result<Doc, Memory>
     ensures { IfOk result (λ doc. value_of doc ≡ shown format tree.now) }
 {
-    match format {
-        Format::Flag => flag(alloc, tree.unit.valid),
-        Format::Basic => unit_list(alloc, tree),
-        Format::Detailed => tree_doc(alloc, tree),
-        Format::Merged => tree_doc(alloc, tree),
-        Format::Verbose => tree_doc(alloc, tree),
+    match format.layout() {
+        Layout::Verdict => flag(alloc, tree.unit.valid),
+        Layout::Units => unit_list(alloc, tree),
+        Layout::Nodes => tree_doc(alloc, tree),
     }
 }
 

@@ -9,15 +9,14 @@ ghost use Rattle.js_tree.specs.OutputUnit.{OutputUnit};
 ghost use Rattle.js_tree.specs.Result.{ResultTree};
 
 use crate::collecting::flat::{Flat, Row};
-use crate::formats::Format;
 use crate::formats::documents::{flag, node_doc, units_doc};
+use crate::formats::{Format, Layout};
 use crate::reducing::noted_rows::noted_units;
 use js_doc::{Doc, Memory};
 use std::alloc::Global;
 
-/// The JSON document of a format (Core, section 12.4), from the rows of the tree that it shows: the pruned tree for
-/// basic, the condensed one for detailed, the merged one for merged, and the whole one for flag and verbose. The rows
-/// must be those of a whole tree.
+/// The JSON document of a format (Core, section 12.4), from the rows of the tree that it shows. The rows must be those
+/// of a whole tree.
 ///
 /// # Errors
 /// `Memory` if an allocation fails.
@@ -27,12 +26,10 @@ pub fn flat_doc(alloc: Global, flat: &Flat, format: Format) -> Result<Doc, Memor
         → value_of doc ≡ shown format t) }
 {
     let rows = flat.rows();
-    match format {
-        Format::Flag => flag_doc(alloc, rows),
-        Format::Basic => unit_list_doc(alloc, rows),
-        Format::Detailed => root_doc(alloc, rows),
-        Format::Merged => root_doc(alloc, rows),
-        Format::Verbose => root_doc(alloc, rows),
+    match format.layout() {
+        Layout::Verdict => flag_doc(alloc, rows),
+        Layout::Units => unit_list_doc(alloc, rows),
+        Layout::Nodes => root_doc(alloc, rows),
     }
 }
 

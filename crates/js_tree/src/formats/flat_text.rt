@@ -13,15 +13,14 @@ ghost use Rattle.js_tree.specs.Result.{ResultTree};
 ghost use Rattle.js_tree.specs.code.PutTrees.{PutsTree};
 
 use crate::collecting::flat::{Flat, Row};
-use crate::formats::Format;
 use crate::formats::basic::put_units_start;
 use crate::formats::flag::put_flag;
 use crate::formats::node_text::{put_back, put_comma, put_front, put_leaf, put_valid};
+use crate::formats::{Format, Layout};
 use js_doc::{Out, Stopped};
 
-/// Writes the compact JSON text of a format (Core, section 12.4), from the rows of the tree that it shows: the pruned
-/// tree for basic, the condensed one for detailed, the merged one for merged, and the whole one for flag and verbose.
-/// The rows must be those of a whole tree. Allocates nothing.
+/// Writes the compact JSON text of a format (Core, section 12.4), from the rows of the tree that it shows. The rows must
+/// be those of a whole tree. Allocates nothing.
 ///
 /// # Errors
 /// `Stopped` if the output takes no more; then a prefix of the text has been written.
@@ -40,12 +39,10 @@ fn put_rows<O: Out>(rows: &[Row], format: Format, out: &mut O) -> Result<(), Sto
 {
     let row = &rows[0];
     let root = &row.unit;
-    match format {
-        Format::Flag => put_flag(root.valid, out),
-        Format::Basic => put_units(rows, out),
-        Format::Detailed => put_root(rows, out),
-        Format::Merged => put_root(rows, out),
-        Format::Verbose => put_root(rows, out),
+    match format.layout() {
+        Layout::Verdict => put_flag(root.valid, out),
+        Layout::Units => put_units(rows, out),
+        Layout::Nodes => put_root(rows, out),
     }
 }
 
