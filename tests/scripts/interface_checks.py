@@ -37,9 +37,9 @@ EDITS = {
     "another name of a refusal": ("crates/js_output/specs/Line.antt", 'codes "BadId"', 'codes "NoId"',
                                   "js_output/specs/Line.antt: the names"),
     "a sixth format": ("interface.toml", "[[status]]\nnumber = 0", SIXTH,
-                       r"jschema is stale(.|\n)*js_tree/src/formats.rt: Format(.|\n)*js_tree/src/formats.rt: named(.|\n)*"
-                       r"js_tree/src/formats.rt: numbered(.|\n)*js_tree/specs/Form.antt: format_name(.|\n)*"
-                       r"js_tree/specs/Form.antt: formats"),
+                       r"jschema is stale(.|\n)*js_tree/src/formats.rt: Format(.|\n)*js_tree/src/formats.rt: named"
+                       r"(.|\n)*js_tree/src/formats.rt: numbered(.|\n)*js_tree/specs/Form.antt: format_name"
+                       r"(.|\n)*js_tree/specs/Form.antt: formats"),
     "another form of a keyword": ("keywords.toml", 'minItems = { first = "draft-03", form = "count"',
                                   'minItems = { first = "draft-03", form = "number"',
                                   r"keyword_table.py is stale(.|\n)*keyword_table.js is stale(.|\n)*"

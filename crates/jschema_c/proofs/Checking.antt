@@ -86,7 +86,8 @@ module _ (documents : DocumentTexts) (uri : List ℕ) (number : ℕ) (s : Sessio
   there given came schemas place other is h =
       let same = some_is schemas ready.schemas (sym is.finished ∙ ready.held) in
       let at = some_is place ready.place (sym is.kept ∙ ready.kept) in
-      subst (λ f. Judges (At ready.schemas ready.place f) given came) (some_is other format (sym is.numbered ∙ numbered))
+      subst (λ f. Judges (At ready.schemas ready.place f) given came)
+      (some_is other format (sym is.numbered ∙ numbered))
       (subst (λ p. Judges (At ready.schemas p other) given came) at
       (subst (λ d. Judges (At d place other) given came) same h))
 

@@ -19,8 +19,8 @@ use crate::formats::node_text::{put_back, put_comma, put_front, put_leaf, put_va
 use crate::formats::{Format, Layout};
 use js_doc::{Out, Stopped};
 
-/// Writes the compact JSON text of a format (Core, section 12.4), from the rows of the tree that it shows. The rows must
-/// be those of a whole tree. Allocates nothing.
+/// Writes the compact JSON text of a format (Core, section 12.4), from the rows of the tree that it shows. The rows
+/// must be those of a whole tree. Allocates nothing.
 ///
 /// # Errors
 /// `Stopped` if the output takes no more; then a prefix of the text has been written.
