@@ -53,11 +53,11 @@ def usages(interface, usage):
 
 def upgrade_texts(interface, usages):
     """Where the crates have the usage texts and the dialects of jschema-upgrade."""
-    for path, pattern in (("js_upgrade_command/src/words.rt", r'b"(usage: .*)\\n"'),
-                          ("js_upgrade_command/specs/Words.antt", r'codes "(usage: .*)"')):
+    for path, pattern in (("js_upgrade_cli/src/words.rt", r'b"(usage: .*)\\n"'),
+                          ("js_upgrade_cli/specs/Words.antt", r'codes "(usage: .*)"')):
         yield path, "the usage texts", set(usages), set(found(path, pattern))
-    for path, pattern in (("js_upgrade_command/src/words.rt", r'"(.*)" => Some\(Dialect::'),
-                          ("js_upgrade_command/specs/Words.antt", r'codes "(.*)"\) then Some Draft')):
+    for path, pattern in (("js_upgrade_cli/src/words.rt", r'"(.*)" => Some\(Dialect::'),
+                          ("js_upgrade_cli/specs/Words.antt", r'codes "(.*)"\) then Some Draft')):
         yield path, "the dialects", interface["upgrade"]["dialects"], found(path, pattern)
 
 

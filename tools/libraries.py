@@ -81,13 +81,14 @@ def arguments(used):
 
 
 def check(rt, crate):
-    """The command that checks a library crate in its folder, from what it kept: `rt check`, or after `rt ci`, while no
+    """The command that checks a crate in its folder, from what it kept: `rt check`, or after `rt ci`, while no
     source below has changed, the prover itself. (rt would prove all crates below again.)"""
     used = crates()[crate]
     below = with_below(used)
     if not below or not all(map(is_of_gate, below)):
         return [rt, "check"]
-    return [f"{kit()}/bin/rattle", "check", "--crate-name", crate, "src/lib.rt", *arguments(used),
+    root = "src/lib.rt" if os.path.exists(os.path.join(CRATES, crate, "src", "lib.rt")) else "src/main.rt"
+    return [f"{kit()}/bin/rattle", "check", "--crate-name", crate, root, *arguments(used),
             "--links", f"{crate}=", "--incremental", "out/incremental"]
 
 

@@ -1,6 +1,6 @@
 //! The folders of the machine.
+use crate::folder::Folder;
 use js_output::Fault;
-use js_upgrade_command::Folder;
 use std::fs;
 
 /// Folders on the disk, reached through the runtime.

@@ -2,13 +2,25 @@
 #![tactic(auto)]
 
 mod disk_folder;
+mod documents;
+mod folder;
+mod names;
+mod numbers;
+mod outputs;
+mod program;
+mod request;
+mod sources;
+mod stop;
+mod upgraded;
+mod words;
 
 use disk_folder::DiskFolder;
 use js_command::{Disk, FAILED, program_arguments};
 use js_output::Sink;
-use js_upgrade_command::{UPGRADE_USAGE, upgrade_command};
+use program::upgrade_command;
 use std::io::BufWriter;
 use std::process::ExitCode;
+use words::UPGRADE_USAGE;
 
 fn main(rt: HostRuntime) -> ExitCode {
     ExitCode::from(status(&rt))
