@@ -9,16 +9,18 @@ use Rattle.std.proofs.lemmas.Bool.{and_parts}
 use Rattle.std.proofs.lemmas.Slice.Eq.{bytes_eq-Decides}
 use Rattle.js_doc.specs.Value.{Value, Named}
 use Rattle.js_doc.specs.Members.{has_name}
-use Rattle.js_assert.specs.Assertion.{Asserted, asserted, implies, says, says_by}
+use Rattle.js_assert.specs.Argument.{implies}
+use Rattle.js_assert.specs.Assertion.{Asserted, asserted, says, says_by}
 use Rattle.js_assert.specs.ErrorText.{error}
 use Rattle.js_assert.specs.Keyword.{NamedKeyword, assertion_keywords, row_named, keyword_named}
 use Rattle.js_assert.specs.Laws.{is_counting, IsAlikeWhateverMatches}
 use Rattle.js_assert.specs.declared.keyword.Keyword.{Keyword}
-use Rattle.js_assert.specs.declared.keyword.Keyword.TheVariants.{MaxContains, MinContains}
+use Rattle.js_assert.specs.declared.keyword.Keyword.TheVariants.{Array}
+use Rattle.js_assert.specs.declared.keyword.ArrayKeyword.TheVariants.{MaxContains, MinContains}
 
 abbrev counts : Keyword → Bool
-counts MaxContains = true
-counts MinContains = true
+counts (Array MaxContains) = true
+counts (Array MinContains) = true
 counts _ = false
 
 -- ---- each keyword that counts has one of the two names
@@ -52,15 +54,15 @@ apart false d h e = refl
 
 says_alike : (k : Keyword) (a : Value) (b : Bool) (v : Value) (m n : ℕ) → counts k ≡ false
     → says_by a b v m k ≡ says_by a b v n k
-says_alike MaxContains a b v m n h = cc
-says_alike MinContains a b v m n h = cc
+says_alike (Array MaxContains) a b v m n h = cc
+says_alike (Array MinContains) a b v m n h = cc
 says_alike _ a b v m n h = refl
 
 error_alike : (k : Keyword) (a : Value) (b : Bool) (v : Value) (m n : ℕ) → counts k ≡ false
     → error (record { keyword = k; argument = a; beside_contains = b }) v m
     ≡ error (record { keyword = k; argument = a; beside_contains = b }) v n
-error_alike MaxContains a b v m n h = cc
-error_alike MinContains a b v m n h = cc
+error_alike (Array MaxContains) a b v m n h = cc
+error_alike (Array MinContains) a b v m n h = cc
 error_alike _ a b v m n h = refl
 
 module _ (name : List ℕ) (argument : Value) (siblings : Named) (v : Value) (m n : ℕ)

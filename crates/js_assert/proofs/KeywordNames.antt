@@ -10,7 +10,8 @@ use Rattle.js_assert.specs.Shape.{IsFaultOf, IsKeywordFault}
 use Rattle.js_assert.specs.declared.fault.KeywordFault.{KeywordFault}
 use Rattle.js_assert.specs.declared.fault.KeywordFault.TheVariants.{Memory, BadKeyword, NotAPattern, PatternTooLarge}
 use Rattle.js_assert.specs.declared.keyword.Keyword.{Keyword}
-use Rattle.js_assert.specs.declared.keyword.Keyword.TheVariants.{Pattern}
+use Rattle.js_assert.specs.declared.keyword.Keyword.TheVariants.{String}
+use Rattle.js_assert.specs.declared.keyword.StringKeyword.TheVariants.{Pattern}
 
 -- ---- the name of a keyword is the one that it was named by
 
@@ -31,71 +32,10 @@ named-name_of name k e = named_in assertion_keywords name k
 
 -- ---- the keyword `pattern`
 
-pattern_in : (rows : List NamedKeyword) (name : List ℕ) → AllByRecursion (λ row. row.1 ≡ Pattern
-    → row.0 ≡ codes "pattern") rows → row_named rows name ≡ Some Pattern → name ≡ codes "pattern"
-pattern_in [] name h e = absurd (cc)
-pattern_in (row ∷ rows) name h e = at _ refl (pattern_in rows name h.1) where
-  at : (b : Bool) → bytes_eq name row.0 ≡ b → (row_named rows name ≡ Some Pattern → name ≡ codes "pattern")
-      → name ≡ codes "pattern"
-  at true is later = (bytes_eq-Decides name row.0).0 is ∙ h.0 (let f : Some row.1 ≡ Some Pattern = rw is at e in cc)
-  at false is later = later (rw is at e)
+pub pattern-named : (name : List ℕ) → keyword_named name ≡ Some (String Pattern) → name ≡ codes "pattern"
+pattern-named name e = named-name_of name (String Pattern) e
 
-pub pattern-named : (name : List ℕ) → keyword_named name ≡ Some Pattern → name ≡ codes "pattern"
-unfolding keyword_named
-pattern-named name e = pattern_in assertion_keywords name (
-  λ e. absurd (cc),
-  (
-    λ e. absurd (cc),
-    (
-      λ e. absurd (cc),
-      (
-        λ e.
-            absurd (cc),
-        (
-          λ e. absurd (cc),
-          (
-            λ e. absurd (cc),
-            (
-              λ e. absurd (cc),
-              (
-                λ e. absurd (cc),
-                (
-                  λ e. absurd (cc),
-                  (
-                    λ e. absurd (cc),
-                    (
-                      λ e. refl,
-                      (
-                        λ e. absurd (cc),
-                        (
-                          λ e. absurd (cc),
-                          (
-                            λ e. absurd (cc),
-                            (
-                              λ e. absurd (cc),
-                              (
-                                λ e.
-                                    absurd (cc),
-                                (λ e. absurd (cc), (λ e. absurd (cc), (λ e. absurd (cc), (λ e. absurd (cc), tt)))),
-                              ),
-                            ),
-                          ),
-                        ),
-                      ),
-                    ),
-                  ),
-                ),
-              ),
-            ),
-          ),
-        ),
-      ),
-    ),
-  ),
-)
-    e
-
-pub named-pattern : keyword_named (codes "pattern") ≡ Some Pattern
+pub named-pattern : keyword_named (codes "pattern") ≡ Some (String Pattern)
 unfolding keyword_named
 named-pattern = refl
 

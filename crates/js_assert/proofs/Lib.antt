@@ -9,5 +9,4 @@ pub mod Dependent
 pub mod ListedValues
 pub mod Halves
 pub mod Counting
-pub mod ErrorTexts
 pub mod Crossing

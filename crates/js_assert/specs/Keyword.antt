@@ -1,34 +1,38 @@
--- The keywords that judge a value by themselves (JSON Schema Validation, section 6), and their names.
+-- The keywords that judge a value by themselves, and their names, each with its section of JSON Schema Validation.
 use Rattle.std.specs.Prelude.{ℕ, List, [], ◌∷◌, Option, Some, None, codes, if◌then◌else◌}
 use Rattle.std.specs.Str.{bytes_eq}
 use Rattle.js_assert.specs.declared.keyword.Keyword.{Keyword}
-use Rattle.js_assert.specs.declared.keyword.Keyword.TheVariants.{«Type», Enum, Const, MultipleOf, Maximum}
-use Rattle.js_assert.specs.declared.keyword.Keyword.TheVariants.{ExclusiveMaximum, Minimum, ExclusiveMinimum, MaxLength}
-use Rattle.js_assert.specs.declared.keyword.Keyword.TheVariants.{MinLength, Pattern, MaxItems, MinItems, UniqueItems}
-use Rattle.js_assert.specs.declared.keyword.Keyword.TheVariants.{MaxContains, MinContains, MaxProperties, MinProperties}
-use Rattle.js_assert.specs.declared.keyword.Keyword.TheVariants.{Required, DependentRequired}
+use Rattle.js_assert.specs.declared.keyword.Keyword.TheVariants.{AnyType, Number, String, Array, Object}
+use Rattle.js_assert.specs.declared.keyword.AnyTypeKeyword.TheVariants.{«Type», Enum, Const}
+use Rattle.js_assert.specs.declared.keyword.NumberKeyword.TheVariants.{MultipleOf, Maximum, ExclusiveMaximum, Minimum}
+use Rattle.js_assert.specs.declared.keyword.NumberKeyword.TheVariants.{ExclusiveMinimum}
+use Rattle.js_assert.specs.declared.keyword.StringKeyword.TheVariants.{MaxLength, MinLength, Pattern}
+use Rattle.js_assert.specs.declared.keyword.ArrayKeyword.TheVariants.{MaxItems, MinItems, UniqueItems, MaxContains}
+use Rattle.js_assert.specs.declared.keyword.ArrayKeyword.TheVariants.{MinContains}
+use Rattle.js_assert.specs.declared.keyword.ObjectKeyword.TheVariants.{MaxProperties, MinProperties, Required}
+use Rattle.js_assert.specs.declared.keyword.ObjectKeyword.TheVariants.{DependentRequired}
 
 abbrev pub name_of : Keyword → List ℕ
-name_of «Type» = codes "type"
-name_of Enum = codes "enum"
-name_of Const = codes "const"
-name_of MultipleOf = codes "multipleOf"
-name_of Maximum = codes "maximum"
-name_of ExclusiveMaximum = codes "exclusiveMaximum"
-name_of Minimum = codes "minimum"
-name_of ExclusiveMinimum = codes "exclusiveMinimum"
-name_of MaxLength = codes "maxLength"
-name_of MinLength = codes "minLength"
-name_of Pattern = codes "pattern"
-name_of MaxItems = codes "maxItems"
-name_of MinItems = codes "minItems"
-name_of UniqueItems = codes "uniqueItems"
-name_of MaxContains = codes "maxContains"
-name_of MinContains = codes "minContains"
-name_of MaxProperties = codes "maxProperties"
-name_of MinProperties = codes "minProperties"
-name_of Required = codes "required"
-name_of DependentRequired = codes "dependentRequired"
+name_of (AnyType «Type») = codes "type"  -- 6.1.1
+name_of (AnyType Enum) = codes "enum"  -- 6.1.2
+name_of (AnyType Const) = codes "const"  -- 6.1.3
+name_of (Number MultipleOf) = codes "multipleOf"  -- 6.2.1
+name_of (Number Maximum) = codes "maximum"  -- 6.2.2
+name_of (Number ExclusiveMaximum) = codes "exclusiveMaximum"  -- 6.2.3
+name_of (Number Minimum) = codes "minimum"  -- 6.2.4
+name_of (Number ExclusiveMinimum) = codes "exclusiveMinimum"  -- 6.2.5
+name_of (String MaxLength) = codes "maxLength"  -- 6.3.1
+name_of (String MinLength) = codes "minLength"  -- 6.3.2
+name_of (String Pattern) = codes "pattern"  -- 6.3.3
+name_of (Array MaxItems) = codes "maxItems"  -- 6.4.1
+name_of (Array MinItems) = codes "minItems"  -- 6.4.2
+name_of (Array UniqueItems) = codes "uniqueItems"  -- 6.4.3
+name_of (Array MaxContains) = codes "maxContains"  -- 6.4.4
+name_of (Array MinContains) = codes "minContains"  -- 6.4.5
+name_of (Object MaxProperties) = codes "maxProperties"  -- 6.5.1
+name_of (Object MinProperties) = codes "minProperties"  -- 6.5.2
+name_of (Object Required) = codes "required"  -- 6.5.3
+name_of (Object DependentRequired) = codes "dependentRequired"  -- 6.5.4
 
 abbrev pub NamedKeyword : Type 0
 NamedKeyword = List ℕ × Keyword
@@ -39,11 +43,12 @@ row_for keyword = (name_of keyword, keyword)
 -- in the order of the standard
 abbrev pub assertion_keywords : List NamedKeyword
 assertion_keywords =
-    row_for «Type» ∷ row_for Enum ∷ row_for Const ∷ row_for MultipleOf ∷ row_for Maximum
-    ∷ row_for ExclusiveMaximum ∷ row_for Minimum ∷ row_for ExclusiveMinimum ∷ row_for MaxLength ∷ row_for MinLength
-    ∷ row_for Pattern ∷ row_for MaxItems ∷ row_for MinItems ∷ row_for UniqueItems ∷ row_for MaxContains
-    ∷ row_for MinContains ∷ row_for MaxProperties ∷ row_for MinProperties ∷ row_for Required
-    ∷ row_for DependentRequired ∷ []
+    row_for (AnyType «Type») ∷ row_for (AnyType Enum) ∷ row_for (AnyType Const) ∷ row_for (Number MultipleOf)
+    ∷ row_for (Number Maximum) ∷ row_for (Number ExclusiveMaximum) ∷ row_for (Number Minimum)
+    ∷ row_for (Number ExclusiveMinimum) ∷ row_for (String MaxLength) ∷ row_for (String MinLength)
+    ∷ row_for (String Pattern) ∷ row_for (Array MaxItems) ∷ row_for (Array MinItems) ∷ row_for (Array UniqueItems)
+    ∷ row_for (Array MaxContains) ∷ row_for (Array MinContains) ∷ row_for (Object MaxProperties)
+    ∷ row_for (Object MinProperties) ∷ row_for (Object Required) ∷ row_for (Object DependentRequired) ∷ []
 
 abbrev pub row_named : List NamedKeyword → List ℕ → Option Keyword
 row_named [] name = None

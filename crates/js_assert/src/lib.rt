@@ -2,10 +2,10 @@
 #![tactic(auto)]
 
 mod any_type;
+mod argument_shape;
 mod arrays;
 mod assertion;
 mod choices;
-mod error_text;
 mod fault;
 mod instance_type;
 mod keyword;
@@ -14,11 +14,10 @@ mod missing;
 mod numbers;
 mod objects;
 mod pattern;
-mod reading;
 mod searcher;
-mod shape;
 pub mod sharing_laws;
 mod strings;
+mod text_parts;
 mod unique;
 
 pub use assertion::Assertion;
