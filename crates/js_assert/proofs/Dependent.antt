@@ -10,7 +10,7 @@ use Rattle.js_assert.specs.Argument.{strings}
 use Rattle.js_assert.specs.Assertion.{has_each, implies, says_by}
 use Rattle.js_assert.specs.Dependences.{dependence_of}
 use Rattle.js_assert.specs.ErrorText.{names_needed, without, sorted_with}
-use Rattle.js_assert.specs.declared.keyword.Keyword.TheVariants.{DependentRequired}
+use Rattle.js_keyword.specs.declared.assertion_keyword.AssertionKeyword.TheVariants.{DependentRequired}
 use Rattle.js_assert.specs.declared.objects.Dependence.{Dependence}
 use Rattle.js_doc.proofs.PartLists.{member_list-members}
 use Rattle.js_assert.proofs.ListedValues.{strings_names}

@@ -6,7 +6,7 @@ use Rattle.js_doc.specs.Value.{Value, Values, truth, list, items}
 use Rattle.js_doc.specs.Equality.{same}
 use Rattle.js_assert.specs.Assertion.{is_unique, says_by}
 use Rattle.js_assert.specs.ErrorText.{first_equal, pair_or, equal_pair}
-use Rattle.js_assert.specs.declared.keyword.Keyword.TheVariants.{UniqueItems}
+use Rattle.js_keyword.specs.declared.assertion_keyword.AssertionKeyword.TheVariants.{UniqueItems}
 use Rattle.js_doc.proofs.PartLists.{item_list-items}
 
 first_at : (b : Bool) (n : ℕ) (more : Option ℕ) → is_some (if b then Some n else more) ≡ b || is_some more

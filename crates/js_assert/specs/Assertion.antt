@@ -11,25 +11,28 @@ use Rattle.js_doc.specs.Equality.{same}
 use Rattle.js_doc.specs.Members.{has_name}
 use Rattle.js_doc.specs.Parts.{items_of, members_of}
 use Rattle.js_assert.specs.Argument.{boolean, number, string, strings, on_number, on_string, on_array, on_object}
-use Rattle.js_assert.specs.Keyword.{keyword_named}
+use Rattle.js_keyword.specs.AssertionKeyword.{keyword_named}
 use Rattle.js_assert.specs.Pattern.{matches}
-use Rattle.js_assert.specs.declared.keyword.Keyword.{Keyword}
-use Rattle.js_assert.specs.declared.keyword.Keyword.TheVariants.{«Type», Enum, Const, MultipleOf, Maximum}
-use Rattle.js_assert.specs.declared.keyword.Keyword.TheVariants.{ExclusiveMaximum, Minimum, ExclusiveMinimum, MaxLength}
-use Rattle.js_assert.specs.declared.keyword.Keyword.TheVariants.{MinLength, Pattern, MaxItems, MinItems, UniqueItems}
-use Rattle.js_assert.specs.declared.keyword.Keyword.TheVariants.{MaxContains, MinContains, MaxProperties, MinProperties}
-use Rattle.js_assert.specs.declared.keyword.Keyword.TheVariants.{Required, DependentRequired}
+use Rattle.js_keyword.specs.declared.assertion_keyword.AssertionKeyword.{AssertionKeyword}
+use Rattle.js_keyword.specs.declared.assertion_keyword.AssertionKeyword.TheVariants.{«Type», Enum, Const, MultipleOf}
+use Rattle.js_keyword.specs.declared.assertion_keyword.AssertionKeyword.TheVariants.{Maximum, ExclusiveMaximum}
+use Rattle.js_keyword.specs.declared.assertion_keyword.AssertionKeyword.TheVariants.{Minimum, ExclusiveMinimum}
+use Rattle.js_keyword.specs.declared.assertion_keyword.AssertionKeyword.TheVariants.{MaxLength, MinLength, Pattern}
+use Rattle.js_keyword.specs.declared.assertion_keyword.AssertionKeyword.TheVariants.{MaxItems, MinItems, UniqueItems}
+use Rattle.js_keyword.specs.declared.assertion_keyword.AssertionKeyword.TheVariants.{MaxContains, MinContains}
+use Rattle.js_keyword.specs.declared.assertion_keyword.AssertionKeyword.TheVariants.{MaxProperties, MinProperties}
+use Rattle.js_keyword.specs.declared.assertion_keyword.AssertionKeyword.TheVariants.{Required, DependentRequired}
 
 -- a keyword, its argument, and whether `contains` stands beside it
 pub record Asserted : Type 0 where
-  pub keyword : Keyword
+  pub keyword : AssertionKeyword
   pub argument : Value
   pub beside_contains : Bool
 
 -- it is stored as its parts
-abbrev pub asserted_code : Coded Keyword → Coded Asserted
+abbrev pub asserted_code : Coded AssertionKeyword → Coded Asserted
 asserted_code keyword_code =
-    code_by (Keyword × (Value × Bool)) (coded× keyword_code (coded× value_code coded_bool))
+    code_by (AssertionKeyword × (Value × Bool)) (coded× keyword_code (coded× value_code coded_bool))
     (λ a. (a.keyword, (a.argument, a.beside_contains)))
     (λ p. record { keyword = p.0; argument = p.1.0; beside_contains = p.1.1 }) (λ _. refl)
 
@@ -74,7 +77,7 @@ implies a b = not a || b
 -- ---- and the number of its items that match the adjacent `contains`
 
 module _ (argument : Value) (beside_contains : Bool) (v : Value) (matching : ℕ) where
-  abbrev pub says_by : Keyword → Bool
+  abbrev pub says_by : AssertionKeyword → Bool
   -- values of each type
   says_by «Type» = list_any (is_type_of v) (strings argument)  -- 6.1.1
   says_by Enum = list_any (λ w. same w v) (items_of argument)  -- 6.1.2
@@ -107,7 +110,7 @@ abbrev pub says : Asserted → Value → ℕ → Bool
 says a v matching = says_by a.argument a.beside_contains v matching a.keyword
 
 -- the pattern that a string has to match, if the keyword asks for one (6.3.3)
-abbrev pub pattern_asked_by : Value → Keyword → Option (List ℕ)
+abbrev pub pattern_asked_by : Value → AssertionKeyword → Option (List ℕ)
 pattern_asked_by argument Pattern = Some (string argument)
 pattern_asked_by argument _ = None
 

@@ -11,12 +11,15 @@ use Rattle.js_doc.specs.Members.{name_cmp, has_name}
 use Rattle.js_doc.specs.Parts.{items_of, members_of}
 use Rattle.js_assert.specs.Argument.{number, string, strings}
 use Rattle.js_assert.specs.Assertion.{Asserted, says, characters}
-use Rattle.js_assert.specs.declared.keyword.Keyword.{Keyword}
-use Rattle.js_assert.specs.declared.keyword.Keyword.TheVariants.{«Type», Enum, Const, MultipleOf, Maximum}
-use Rattle.js_assert.specs.declared.keyword.Keyword.TheVariants.{ExclusiveMaximum, Minimum, ExclusiveMinimum, MaxLength}
-use Rattle.js_assert.specs.declared.keyword.Keyword.TheVariants.{MinLength, Pattern, MaxItems, MinItems, UniqueItems}
-use Rattle.js_assert.specs.declared.keyword.Keyword.TheVariants.{MaxContains, MinContains, MaxProperties, MinProperties}
-use Rattle.js_assert.specs.declared.keyword.Keyword.TheVariants.{Required, DependentRequired}
+use Rattle.js_keyword.specs.declared.assertion_keyword.AssertionKeyword.{AssertionKeyword}
+use Rattle.js_keyword.specs.declared.assertion_keyword.AssertionKeyword.TheVariants.{«Type», Enum, Const, MultipleOf}
+use Rattle.js_keyword.specs.declared.assertion_keyword.AssertionKeyword.TheVariants.{Maximum, ExclusiveMaximum}
+use Rattle.js_keyword.specs.declared.assertion_keyword.AssertionKeyword.TheVariants.{Minimum, ExclusiveMinimum}
+use Rattle.js_keyword.specs.declared.assertion_keyword.AssertionKeyword.TheVariants.{MaxLength, MinLength, Pattern}
+use Rattle.js_keyword.specs.declared.assertion_keyword.AssertionKeyword.TheVariants.{MaxItems, MinItems, UniqueItems}
+use Rattle.js_keyword.specs.declared.assertion_keyword.AssertionKeyword.TheVariants.{MaxContains, MinContains}
+use Rattle.js_keyword.specs.declared.assertion_keyword.AssertionKeyword.TheVariants.{MaxProperties, MinProperties}
+use Rattle.js_keyword.specs.declared.assertion_keyword.AssertionKeyword.TheVariants.{Required, DependentRequired}
 
 -- ---- parts of the texts
 
@@ -74,7 +77,7 @@ missing vs = codes "missing: " ++ compact (list (items vs))
 -- ---- the table
 
 module _ (argument : Value) (v : Value) (matching : ℕ) where
-  abbrev pub text_by : Keyword → List ℕ
+  abbrev pub text_by : AssertionKeyword → List ℕ
   text_by «Type» = codes "type is " ++ type_of v
   text_by Enum = codes "not a listed value"
   text_by Const = codes "not the constant"

@@ -3,8 +3,8 @@ use Rattle.std.specs.Prelude.{◌≡◌, pos, true, map}
 use Rattle.std.specs.Int.NonZero.{non_zero_u64_get}
 use Rattle.js_doc.specs.Value.{Value, truth, whole, text, list, object, items, members}
 use Rattle.js_doc.specs.Seen.{value_of}
-use Rattle.js_assert.specs.declared.keyword.Keyword.{Keyword}
-use Rattle.js_assert.specs.declared.keyword.Keyword.TheVariants as keyword
+use Rattle.js_keyword.specs.declared.assertion_keyword.AssertionKeyword.{AssertionKeyword}
+use Rattle.js_keyword.specs.declared.assertion_keyword.AssertionKeyword.TheVariants as keyword
 use Rattle.js_assert.specs.declared.assertion.Test.{Test}
 use Rattle.js_assert.specs.declared.assertion.Test.TheVariants as test
 use Rattle.js_assert.specs.Shape.{takes, IsPatternIfAny}
@@ -12,7 +12,7 @@ use Rattle.js_assert.specs.Dependences.{dependence_of}
 use Rattle.js_assert.specs.Names.{names_value}
 use Rattle.js_assert.specs.Types.{types_value}
 
-abbrev pub keyword_tested : Test → Keyword
+abbrev pub keyword_tested : Test → AssertionKeyword
 keyword_tested (test.Type types) = keyword.Type
 keyword_tested (test.Enum choices) = keyword.Enum
 keyword_tested (test.Const doc) = keyword.Const
@@ -57,7 +57,7 @@ argument_tested (test.Required names) = names_value names.items
 argument_tested (test.DependentRequired dependences) = object (members (map dependence_of dependences.items))
 
 -- the keyword with this argument is read as the test
-pub record IsTestOf (keyword : Keyword) (argument : Value) (t : Test) : Type 0 where
+pub record IsTestOf (keyword : AssertionKeyword) (argument : Value) (t : Test) : Type 0 where
   pub same_keyword : keyword_tested t ≡ keyword
   pub same_argument : argument_tested t ≡ argument
   pub shape : takes argument keyword ≡ true

@@ -8,16 +8,19 @@ use Rattle.std.specs.Str.{bytes_eq}
 use Rattle.js_doc.specs.Value.{Value, truth, whole, text, list, object}
 use Rattle.js_doc.specs.Parts.{item_list, member_list}
 use Rattle.js_assert.specs.Argument.{string}
-use Rattle.js_assert.specs.Keyword.{keyword_named}
+use Rattle.js_keyword.specs.AssertionKeyword.{keyword_named}
 use Rattle.js_assert.specs.Pattern.{is_pattern}
 use Rattle.js_assert.specs.declared.fault.KeywordFault.{KeywordFault}
 use Rattle.js_assert.specs.declared.fault.KeywordFault.TheVariants.{Memory, BadKeyword, NotAPattern, PatternTooLarge}
-use Rattle.js_assert.specs.declared.keyword.Keyword.{Keyword}
-use Rattle.js_assert.specs.declared.keyword.Keyword.TheVariants.{«Type», Enum, Const, MultipleOf, Maximum}
-use Rattle.js_assert.specs.declared.keyword.Keyword.TheVariants.{ExclusiveMaximum, Minimum, ExclusiveMinimum, MaxLength}
-use Rattle.js_assert.specs.declared.keyword.Keyword.TheVariants.{MinLength, Pattern, MaxItems, MinItems, UniqueItems}
-use Rattle.js_assert.specs.declared.keyword.Keyword.TheVariants.{MaxContains, MinContains, MaxProperties, MinProperties}
-use Rattle.js_assert.specs.declared.keyword.Keyword.TheVariants.{Required, DependentRequired}
+use Rattle.js_keyword.specs.declared.assertion_keyword.AssertionKeyword.{AssertionKeyword}
+use Rattle.js_keyword.specs.declared.assertion_keyword.AssertionKeyword.TheVariants.{«Type», Enum, Const, MultipleOf}
+use Rattle.js_keyword.specs.declared.assertion_keyword.AssertionKeyword.TheVariants.{Maximum, ExclusiveMaximum}
+use Rattle.js_keyword.specs.declared.assertion_keyword.AssertionKeyword.TheVariants.{Minimum, ExclusiveMinimum}
+use Rattle.js_keyword.specs.declared.assertion_keyword.AssertionKeyword.TheVariants.{MaxLength, MinLength, Pattern}
+use Rattle.js_keyword.specs.declared.assertion_keyword.AssertionKeyword.TheVariants.{MaxItems, MinItems, UniqueItems}
+use Rattle.js_keyword.specs.declared.assertion_keyword.AssertionKeyword.TheVariants.{MaxContains, MinContains}
+use Rattle.js_keyword.specs.declared.assertion_keyword.AssertionKeyword.TheVariants.{MaxProperties, MinProperties}
+use Rattle.js_keyword.specs.declared.assertion_keyword.AssertionKeyword.TheVariants.{Required, DependentRequired}
 
 abbrev pub is_boolean : Value → Bool
 is_boolean (truth b) = true
@@ -90,7 +93,7 @@ is_type _ = false
 -- ---- the table
 
 module _ (argument : Value) where
-  abbrev pub takes : Keyword → Bool
+  abbrev pub takes : AssertionKeyword → Bool
   takes «Type» = is_type argument  -- 6.1.1
   takes Enum = is_list argument  -- 6.1.2
   takes Const = true  -- 6.1.3
@@ -126,7 +129,7 @@ IsBadUnless taken NotAPattern = ⊥
 IsBadUnless taken PatternTooLarge = ⊥
 
 -- when a keyword's argument is refused; want of memory may come at any time
-abbrev pub IsFaultOf : Keyword → Value → KeywordFault → Type 0
+abbrev pub IsFaultOf : AssertionKeyword → Value → KeywordFault → Type 0
 IsFaultOf keyword argument Memory = Unit {0}
 IsFaultOf keyword argument BadKeyword = takes argument keyword ≡ false
 IsFaultOf keyword argument NotAPattern = (keyword ≡ Pattern) × (is_string argument ≡ true)
@@ -144,5 +147,5 @@ IsKeywordFault name argument PatternTooLarge = (name ≡ codes "pattern") × (ha
     × (is_pattern (string argument) ≡ true)
 
 -- the argument of `pattern` is one
-abbrev pub IsPatternIfAny : Keyword → Value → Type 0
+abbrev pub IsPatternIfAny : AssertionKeyword → Value → Type 0
 IsPatternIfAny keyword argument = keyword ≡ Pattern → is_pattern (string argument) ≡ true

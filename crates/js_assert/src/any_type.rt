@@ -6,12 +6,12 @@ ghost use Rattle.js_assert.specs.Assertion.{says_by};
 ghost use Rattle.js_assert.specs.ErrorText.{type_of};
 
 use crate::choices::Choices;
-use crate::keyword::Keyword;
 use js_doc::Doc;
+use js_keyword::AssertionKeyword;
 
 pub(crate) fn enumeration(choices: &Choices, value: &Doc) -> bool
     ensures { result
-        ≡ says_by (list (items choices.now)) false (value_of value.now) 0 Keyword.Enum }
+        ≡ says_by (list (items choices.now)) false (value_of value.now) 0 AssertionKeyword.Enum }
 {
     choices.contains(value)
 }

@@ -6,14 +6,14 @@ ghost use Rattle.js_doc.specs.Parts.{items_of};
 ghost use Rattle.js_assert.specs.Argument.{on_array};
 ghost use Rattle.js_assert.specs.Assertion.{implies, says_by};
 
-use crate::keyword::Keyword;
 use crate::unique::least_equal_pair;
 use js_doc::{Doc, Memory};
+use js_keyword::AssertionKeyword;
 use std::alloc::Global;
 
 #[tactic(auto, using(crate::proofs::ListedValues::array_rules))]
 pub(crate) fn max_items(limit: u64, value: &Doc) -> bool
-    ensures { result ≡ says_by (whole (pos limit)) false (value_of value.now) 0 Keyword.MaxItems }
+    ensures { result ≡ says_by (whole (pos limit)) false (value_of value.now) 0 AssertionKeyword.MaxItems }
 {
     match value {
         Doc::List(items) => items.len() as u64 <= limit,
@@ -23,7 +23,7 @@ pub(crate) fn max_items(limit: u64, value: &Doc) -> bool
 
 #[tactic(auto, using(crate::proofs::ListedValues::array_rules))]
 pub(crate) fn min_items(limit: u64, value: &Doc) -> bool
-    ensures { result ≡ says_by (whole (pos limit)) false (value_of value.now) 0 Keyword.MinItems }
+    ensures { result ≡ says_by (whole (pos limit)) false (value_of value.now) 0 AssertionKeyword.MinItems }
 {
     match value {
         Doc::List(items) => limit <= items.len() as u64,
@@ -32,7 +32,7 @@ pub(crate) fn min_items(limit: u64, value: &Doc) -> bool
 }
 
 pub(crate) fn unique_items(alloc: Global, asked: bool, value: &Doc) -> Result<bool, Memory>
-    ensures { IfOk result (λ b. b ≡ says_by (truth asked) false (value_of value.now) 0 Keyword.UniqueItems) }
+    ensures { IfOk result (λ b. b ≡ says_by (truth asked) false (value_of value.now) 0 AssertionKeyword.UniqueItems) }
 {
     match value {
         Doc::List(items) if asked => Ok(least_equal_pair(alloc, items.as_slice())?.is_none()),
@@ -42,14 +42,14 @@ pub(crate) fn unique_items(alloc: Global, asked: bool, value: &Doc) -> Result<bo
 
 pub(crate) fn max_contains(limit: u64, beside_contains: bool, value: &Doc, matching: u64) -> bool
     ensures { result
-        ≡ says_by (whole (pos limit)) beside_contains (value_of value.now) matching Keyword.MaxContains }
+        ≡ says_by (whole (pos limit)) beside_contains (value_of value.now) matching AssertionKeyword.MaxContains }
 {
     has_right_count(value, beside_contains, matching <= limit)
 }
 
 pub(crate) fn min_contains(limit: u64, beside_contains: bool, value: &Doc, matching: u64) -> bool
     ensures { result
-        ≡ says_by (whole (pos limit)) beside_contains (value_of value.now) matching Keyword.MinContains }
+        ≡ says_by (whole (pos limit)) beside_contains (value_of value.now) matching AssertionKeyword.MinContains }
 {
     has_right_count(value, beside_contains, limit <= matching)
 }

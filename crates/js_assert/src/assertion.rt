@@ -4,12 +4,12 @@ use crate::choices::Choices;
 use crate::error_text::error_text;
 use crate::fault::KeywordFault;
 use crate::instance_type::Types;
-use crate::keyword::Keyword;
 use crate::objects::Dependence;
 use crate::pattern::Pattern;
 use crate::reading::test_of;
 use crate::{any_type, arrays, numbers, objects, strings};
 use js_doc::{Doc, Members, Memory, Text, Whole};
+use js_keyword::{AssertionKeyword, Keyword};
 use std::alloc::Global;
 use std::fmt::{self, Debug, Formatter};
 use std::marker::Model;
@@ -61,7 +61,7 @@ impl Drop for Assertion {
 
 impl Model for Assertion {
     ghost use Rattle.js_assert.specs.Assertion.{Asserted, asserted_code};
-    ghost use Rattle.js_assert.specs.contracts.keyword.Keyword.{the_row};
+    ghost use Rattle.js_keyword.specs.contracts.assertion_keyword.AssertionKeyword.{the_row};
 
     ghost Value = { Asserted };
 
@@ -83,7 +83,7 @@ impl Assertion {
     ghost use Rattle.js_assert.specs.Assertion.{asserted, pattern_asked, says};
     ghost use Rattle.js_assert.specs.ErrorText.{error, error_text};
     ghost use Rattle.js_assert.specs.Shape.{has_shape, IsKeywordFault};
-    ghost use Rattle.js_assert.specs.Keyword.{name_of};
+    ghost use Rattle.js_keyword.specs.AssertionKeyword.{name_of};
     ghost use Rattle.js_assert.specs.Pattern.{is_pattern, matches};
 
     /// The assertion that the keyword of this name makes with this argument, among these members of its schema;
@@ -105,11 +105,11 @@ impl Assertion {
             keyword.now ≡ codes "pattern" → is_pattern (string (value_of argument.now)) ≡ true) }
         ensures refused { IfErr result (IsKeywordFault keyword.now (value_of argument.now)) }
     {
-        let Some(keyword) = Keyword::keyword_named(keyword) else {
+        let Some(keyword) = AssertionKeyword::named(keyword) else {
             return Ok(None);
         };
         let test = test_of(alloc, keyword, argument)?;
-        let beside_contains = siblings.get("contains").is_some();
+        let beside_contains = siblings.get(Keyword::Contains.name()).is_some();
         Ok(Some(Assertion {
             test,
             beside_contains,
@@ -120,27 +120,33 @@ impl Assertion {
     pub fn keyword(&self) -> &'static str
         ensures { result.now ≡ name_of self.now.keyword }
     {
+        self.which_keyword().name()
+    }
+
+    fn which_keyword(&self) -> AssertionKeyword
+        ensures { result ≡ self.now.keyword }
+    {
         match &self.test {
-            Test::Type(_) => "type",
-            Test::Enum(_) => "enum",
-            Test::Const(_) => "const",
-            Test::MultipleOf(_) => "multipleOf",
-            Test::Maximum(_) => "maximum",
-            Test::ExclusiveMaximum(_) => "exclusiveMaximum",
-            Test::Minimum(_) => "minimum",
-            Test::ExclusiveMinimum(_) => "exclusiveMinimum",
-            Test::MaxLength(_) => "maxLength",
-            Test::MinLength(_) => "minLength",
-            Test::Pattern(_) => "pattern",
-            Test::MaxItems(_) => "maxItems",
-            Test::MinItems(_) => "minItems",
-            Test::UniqueItems(_) => "uniqueItems",
-            Test::MaxContains(_) => "maxContains",
-            Test::MinContains(_) => "minContains",
-            Test::MaxProperties(_) => "maxProperties",
-            Test::MinProperties(_) => "minProperties",
-            Test::Required(_) => "required",
-            Test::DependentRequired(_) => "dependentRequired",
+            Test::Type(_) => AssertionKeyword::Type,
+            Test::Enum(_) => AssertionKeyword::Enum,
+            Test::Const(_) => AssertionKeyword::Const,
+            Test::MultipleOf(_) => AssertionKeyword::MultipleOf,
+            Test::Maximum(_) => AssertionKeyword::Maximum,
+            Test::ExclusiveMaximum(_) => AssertionKeyword::ExclusiveMaximum,
+            Test::Minimum(_) => AssertionKeyword::Minimum,
+            Test::ExclusiveMinimum(_) => AssertionKeyword::ExclusiveMinimum,
+            Test::MaxLength(_) => AssertionKeyword::MaxLength,
+            Test::MinLength(_) => AssertionKeyword::MinLength,
+            Test::Pattern(_) => AssertionKeyword::Pattern,
+            Test::MaxItems(_) => AssertionKeyword::MaxItems,
+            Test::MinItems(_) => AssertionKeyword::MinItems,
+            Test::UniqueItems(_) => AssertionKeyword::UniqueItems,
+            Test::MaxContains(_) => AssertionKeyword::MaxContains,
+            Test::MinContains(_) => AssertionKeyword::MinContains,
+            Test::MaxProperties(_) => AssertionKeyword::MaxProperties,
+            Test::MinProperties(_) => AssertionKeyword::MinProperties,
+            Test::Required(_) => AssertionKeyword::Required,
+            Test::DependentRequired(_) => AssertionKeyword::DependentRequired,
         }
     }
 

@@ -8,7 +8,6 @@ mod choices;
 mod error_text;
 mod fault;
 mod instance_type;
-mod keyword;
 pub mod laws;
 mod missing;
 mod numbers;
@@ -23,6 +22,5 @@ mod unique;
 
 pub use assertion::Assertion;
 pub use fault::KeywordFault;
-pub use keyword::is_assertion;
 pub use pattern::{Pattern, PatternFault};
 pub use searcher::Searcher;

@@ -5,13 +5,13 @@ ghost use Rattle.js_doc.specs.Seen.{value_of};
 ghost use Rattle.js_doc.specs.Value.{whole};
 ghost use Rattle.js_assert.specs.Assertion.{says_by};
 
-use crate::keyword::Keyword;
 use js_doc::{Doc, Whole};
+use js_keyword::AssertionKeyword;
 use std::num::NonZeroU64;
 
 pub(crate) fn multiple_of(divisor: NonZeroU64, value: &Doc) -> bool
     ensures { result
-        ≡ says_by (whole (pos (non_zero_u64_get divisor))) false (value_of value.now) 0 Keyword.MultipleOf }
+        ≡ says_by (whole (pos (non_zero_u64_get divisor))) false (value_of value.now) 0 AssertionKeyword.MultipleOf }
 {
     match value {
         Doc::Whole(number) => number.value().unsigned_abs() % u128::from(divisor.get()) == 0,
@@ -20,7 +20,7 @@ pub(crate) fn multiple_of(divisor: NonZeroU64, value: &Doc) -> bool
 }
 
 pub(crate) fn maximum(limit: Whole, value: &Doc) -> bool
-    ensures { result ≡ says_by (whole limit) false (value_of value.now) 0 Keyword.Maximum }
+    ensures { result ≡ says_by (whole limit) false (value_of value.now) 0 AssertionKeyword.Maximum }
 {
     match value {
         Doc::Whole(number) => number.value() <= limit.value(),
@@ -29,7 +29,7 @@ pub(crate) fn maximum(limit: Whole, value: &Doc) -> bool
 }
 
 pub(crate) fn exclusive_maximum(limit: Whole, value: &Doc) -> bool
-    ensures { result ≡ says_by (whole limit) false (value_of value.now) 0 Keyword.ExclusiveMaximum }
+    ensures { result ≡ says_by (whole limit) false (value_of value.now) 0 AssertionKeyword.ExclusiveMaximum }
 {
     match value {
         Doc::Whole(number) => number.value() < limit.value(),
@@ -38,7 +38,7 @@ pub(crate) fn exclusive_maximum(limit: Whole, value: &Doc) -> bool
 }
 
 pub(crate) fn minimum(limit: Whole, value: &Doc) -> bool
-    ensures { result ≡ says_by (whole limit) false (value_of value.now) 0 Keyword.Minimum }
+    ensures { result ≡ says_by (whole limit) false (value_of value.now) 0 AssertionKeyword.Minimum }
 {
     match value {
         Doc::Whole(number) => number.value() >= limit.value(),
@@ -47,7 +47,7 @@ pub(crate) fn minimum(limit: Whole, value: &Doc) -> bool
 }
 
 pub(crate) fn exclusive_minimum(limit: Whole, value: &Doc) -> bool
-    ensures { result ≡ says_by (whole limit) false (value_of value.now) 0 Keyword.ExclusiveMinimum }
+    ensures { result ≡ says_by (whole limit) false (value_of value.now) 0 AssertionKeyword.ExclusiveMinimum }
 {
     match value {
         Doc::Whole(number) => number.value() > limit.value(),

@@ -11,8 +11,8 @@ ghost use Rattle.js_assert.specs.Assertion.{has_each, implies, says_by};
 ghost use Rattle.js_assert.specs.Dependences.{dependence_of};
 ghost use Rattle.js_assert.specs.Names.{names_value};
 
-use crate::keyword::Keyword;
 use js_doc::{Doc, Members, Text};
+use js_keyword::AssertionKeyword;
 
 /// A member's name, and the names that must be there if it is.
 #[derive(Drop)]
@@ -22,7 +22,7 @@ pub(crate) struct Dependence {
 }
 
 pub(crate) fn max_properties(limit: u64, value: &Doc) -> bool
-    ensures { result ≡ says_by (whole (pos limit)) false (value_of value.now) 0 Keyword.MaxProperties }
+    ensures { result ≡ says_by (whole (pos limit)) false (value_of value.now) 0 AssertionKeyword.MaxProperties }
 {
     match value {
         Doc::Members(members) => members.len() as u64 <= limit,
@@ -31,7 +31,7 @@ pub(crate) fn max_properties(limit: u64, value: &Doc) -> bool
 }
 
 pub(crate) fn min_properties(limit: u64, value: &Doc) -> bool
-    ensures { result ≡ says_by (whole (pos limit)) false (value_of value.now) 0 Keyword.MinProperties }
+    ensures { result ≡ says_by (whole (pos limit)) false (value_of value.now) 0 AssertionKeyword.MinProperties }
 {
     match value {
         Doc::Members(members) => limit <= members.len() as u64,
@@ -40,7 +40,7 @@ pub(crate) fn min_properties(limit: u64, value: &Doc) -> bool
 }
 
 pub(crate) fn required(names: &[Text], value: &Doc) -> bool
-    ensures { result ≡ says_by (names_value names.now) false (value_of value.now) 0 Keyword.Required }
+    ensures { result ≡ says_by (names_value names.now) false (value_of value.now) 0 AssertionKeyword.Required }
 {
     match value {
         Doc::Members(members) => has_all(members, names),
@@ -50,7 +50,7 @@ pub(crate) fn required(names: &[Text], value: &Doc) -> bool
 
 pub(crate) fn dependent_required(dependences: &[Dependence], value: &Doc) -> bool
     ensures { result ≡ says_by (object (members (map dependence_of dependences.now))) false
-        (value_of value.now) 0 Keyword.DependentRequired }
+        (value_of value.now) 0 AssertionKeyword.DependentRequired }
 {
     match value {
         Doc::Members(members) => meets_all(members, dependences),

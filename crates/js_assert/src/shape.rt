@@ -15,10 +15,10 @@ ghost use Rattle.js_assert.specs.Pattern.{is_pattern};
 use crate::choices::Choices;
 use crate::fault::KeywordFault;
 use crate::instance_type::{InstanceType, Types};
-use crate::keyword::Keyword;
 use crate::objects::Dependence;
 use crate::pattern::{Pattern, PatternFault};
 use js_doc::{Doc, Members, Memory, Text, Whole};
+use js_keyword::AssertionKeyword;
 use std::alloc::Global;
 use std::collections::BTreeSet;
 use std::num::NonZeroU64;
@@ -108,7 +108,7 @@ pub(crate) fn constant(alloc: Global, argument: &Doc) -> Result<Box<Doc>, Keywor
 pub(crate) fn pattern_argument(alloc: Global, argument: &Doc) -> Result<Pattern, KeywordFault>
     ensures ok { IfOk result (λ p. value_of argument.now ≡ text p) }
     ensures read { IfOk result (λ p. is_pattern p ≡ true) }
-    ensures refused { IfErr result (IsFaultOf Keyword.Pattern (value_of argument.now)) }
+    ensures refused { IfErr result (IsFaultOf AssertionKeyword.Pattern (value_of argument.now)) }
 {
     let Doc::Text(text) = argument else {
         return Err(KeywordFault::BadKeyword);

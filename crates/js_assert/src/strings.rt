@@ -5,13 +5,13 @@ ghost use Rattle.js_doc.specs.Value.{text, whole};
 ghost use Rattle.js_assert.specs.Argument.{string};
 ghost use Rattle.js_assert.specs.Assertion.{characters, says_by};
 
-use crate::keyword::Keyword;
 use crate::pattern::Pattern;
 use js_doc::{Doc, Memory, character_count};
+use js_keyword::AssertionKeyword;
 use std::alloc::Global;
 
 pub(crate) fn max_length(limit: u64, value: &Doc) -> bool
-    ensures { result ≡ says_by (whole (pos limit)) false (value_of value.now) 0 Keyword.MaxLength }
+    ensures { result ≡ says_by (whole (pos limit)) false (value_of value.now) 0 AssertionKeyword.MaxLength }
 {
     match value {
         Doc::Text(text) => character_count(text.as_str()) <= limit,
@@ -20,7 +20,7 @@ pub(crate) fn max_length(limit: u64, value: &Doc) -> bool
 }
 
 pub(crate) fn min_length(limit: u64, value: &Doc) -> bool
-    ensures { result ≡ says_by (whole (pos limit)) false (value_of value.now) 0 Keyword.MinLength }
+    ensures { result ≡ says_by (whole (pos limit)) false (value_of value.now) 0 AssertionKeyword.MinLength }
 {
     match value {
         Doc::Text(text) => limit <= character_count(text.as_str()),
@@ -29,7 +29,7 @@ pub(crate) fn min_length(limit: u64, value: &Doc) -> bool
 }
 
 pub(crate) fn has_match(alloc: Global, pattern: &Pattern, value: &Doc) -> Result<bool, Memory>
-    ensures { IfOk result (λ b. b ≡ says_by (text pattern.now) false (value_of value.now) 0 Keyword.Pattern) }
+    ensures { IfOk result (λ b. b ≡ says_by (text pattern.now) false (value_of value.now) 0 AssertionKeyword.Pattern) }
 {
     match value {
         Doc::Text(text) => pattern.holds(alloc, text.as_str()),

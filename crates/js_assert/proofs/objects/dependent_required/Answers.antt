@@ -3,7 +3,7 @@ use Rattle.js_doc.specs.Seen.{value_of}
 use Rattle.js_doc.specs.Value.{object, members}
 use Rattle.js_assert.specs.Assertion.{says_by}
 use Rattle.js_assert.specs.Dependences.{dependence_of}
-use Rattle.js_assert.specs.declared.keyword.Keyword.TheVariants.{DependentRequired}
+use Rattle.js_keyword.specs.declared.assertion_keyword.AssertionKeyword.TheVariants.{DependentRequired}
 use Rattle.js_assert.proofs.Dependent.{all_met}
 use Rattle.js_assert.proofs.objects.dependent_required.Goals as goal
 
