@@ -9,7 +9,7 @@ use Rattle.js_doc.specs.Members.{has_name}
 use Rattle.js_assert.specs.Argument.{implies, strings}
 use Rattle.js_assert.specs.Dependences.{dependence_of, dependences_value}
 use Rattle.js_assert.specs.Objects.{has_each, names_needed, object_says, without, sorted_with}
-use Rattle.js_assert.specs.declared.keyword.ObjectKeyword.TheVariants.{DependentRequired}
+use Rattle.js_keyword.specs.declared.assertion_keyword.ObjectKeyword.TheVariants.{DependentRequired}
 use Rattle.js_assert.specs.declared.objects.Dependence.{Dependence}
 use Rattle.js_doc.proofs.PartLists.{member_list-members}
 use Rattle.js_assert.proofs.ListedValues.{strings_names}

@@ -1,4 +1,4 @@
-pub mod KeywordNames
+pub mod KeywordFaults
 pub mod Names
 pub mod Repeated
 pub mod Sorted

@@ -11,8 +11,8 @@ use Rattle.js_assert.specs.Argument.{strings}
 use Rattle.js_assert.specs.ArgumentShape.{is_type, is_list}
 use Rattle.js_assert.specs.Names.{names_value}
 use Rattle.js_assert.specs.Types.{type_name}
-use Rattle.js_assert.specs.declared.keyword.AnyTypeKeyword.{AnyTypeKeyword}
-use Rattle.js_assert.specs.declared.keyword.AnyTypeKeyword.TheVariants.{«Type», Enum, Const}
+use Rattle.js_keyword.specs.declared.assertion_keyword.AnyTypeKeyword.{AnyTypeKeyword}
+use Rattle.js_keyword.specs.declared.assertion_keyword.AnyTypeKeyword.TheVariants.{«Type», Enum, Const}
 use Rattle.js_assert.specs.declared.any_type.AnyTypeTest.{AnyTypeTest}
 use Rattle.js_assert.specs.declared.any_type.AnyTypeTest.TheVariants as test
 

@@ -8,10 +8,11 @@ use Rattle.js_doc.specs.Equality.{same}
 use Rattle.js_doc.specs.Parts.{items_of}
 use Rattle.js_assert.specs.Argument.{boolean, number, implies}
 use Rattle.js_assert.specs.ArgumentShape.{is_boolean, is_count}
-use Rattle.js_assert.specs.TextParts.{counted}
-use Rattle.js_assert.specs.declared.keyword.ArrayKeyword.{ArrayKeyword}
-use Rattle.js_assert.specs.declared.keyword.ArrayKeyword.TheVariants.{MaxItems, MinItems, UniqueItems, MaxContains}
-use Rattle.js_assert.specs.declared.keyword.ArrayKeyword.TheVariants.{MinContains}
+use Rattle.js_assert.specs.TextParts.{at_most, at_least}
+use Rattle.js_keyword.specs.declared.assertion_keyword.ArrayKeyword.{ArrayKeyword}
+use Rattle.js_keyword.specs.declared.assertion_keyword.ArrayKeyword.TheVariants.{MaxItems, MinItems, UniqueItems}
+use Rattle.js_keyword.specs.declared.assertion_keyword.ArrayKeyword.TheVariants.{MaxContains}
+use Rattle.js_keyword.specs.declared.assertion_keyword.ArrayKeyword.TheVariants.{MinContains}
 use Rattle.js_assert.specs.declared.arrays.ArrayTest.{ArrayTest}
 use Rattle.js_assert.specs.declared.arrays.ArrayTest.TheVariants as test
 
@@ -61,11 +62,11 @@ module _ (argument : Value) (beside_contains : Bool) (matching : ℕ) where
 -- the text of the error that v makes, `matching` of whose items match the adjacent `contains`
 module _ (argument : Value) (v : Value) (matching : ℕ) where
   abbrev pub array_text : ArrayKeyword → List ℕ
-  array_text MaxItems = counted (length (items_of v)) (codes " items, at most ") (number argument)
-  array_text MinItems = counted (length (items_of v)) (codes " items, at least ") (number argument)
+  array_text MaxItems = at_most (length (items_of v)) (codes " items") (number argument)
+  array_text MinItems = at_least (length (items_of v)) (codes " items") (number argument)
   array_text UniqueItems = pair_text (equal_pair 0 (items_of v))
-  array_text MaxContains = counted matching (codes " matching items, at most ") (number argument)
-  array_text MinContains = counted matching (codes " matching items, at least ") (number argument)
+  array_text MaxContains = at_most matching (codes " matching items") (number argument)
+  array_text MinContains = at_least matching (codes " matching items") (number argument)
 
 -- ---- what a test of the code stands for
 

@@ -7,11 +7,12 @@ use Rattle.js_assert.specs.Assertion.{Asserted, says}
 use Rattle.js_assert.specs.Numbers.{number_text}
 use Rattle.js_assert.specs.Objects.{object_text}
 use Rattle.js_assert.specs.Strings.{string_text}
-use Rattle.js_assert.specs.declared.keyword.Keyword.{Keyword}
-use Rattle.js_assert.specs.declared.keyword.Keyword.TheVariants.{AnyType, Number, String, Array, Object}
+use Rattle.js_keyword.specs.declared.assertion_keyword.AssertionKeyword.{AssertionKeyword}
+use Rattle.js_keyword.specs.declared.assertion_keyword.AssertionKeyword.TheVariants.{AnyType, Number, String, Array}
+use Rattle.js_keyword.specs.declared.assertion_keyword.AssertionKeyword.TheVariants.{Object}
 
 module _ (argument : Value) (v : Value) (matching : ℕ) where
-  abbrev pub text_by : Keyword → List ℕ
+  abbrev pub text_by : AssertionKeyword → List ℕ
   text_by (AnyType keyword) = any_type_text v keyword
   text_by (Number keyword) = number_text argument keyword
   text_by (String keyword) = string_text argument v keyword

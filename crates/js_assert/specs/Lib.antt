@@ -1,4 +1,3 @@
-pub mod Keyword
 pub mod Argument
 pub mod ArgumentShape
 pub mod Pattern

@@ -6,9 +6,10 @@ use Rattle.js_doc.specs.Value.{Value, whole}
 use Rattle.js_assert.specs.Argument.{number}
 use Rattle.js_assert.specs.ArgumentShape.{is_number, is_number_above}
 use Rattle.js_assert.specs.TextParts.{before_number}
-use Rattle.js_assert.specs.declared.keyword.NumberKeyword.{NumberKeyword}
-use Rattle.js_assert.specs.declared.keyword.NumberKeyword.TheVariants.{MultipleOf, Maximum, ExclusiveMaximum, Minimum}
-use Rattle.js_assert.specs.declared.keyword.NumberKeyword.TheVariants.{ExclusiveMinimum}
+use Rattle.js_keyword.specs.declared.assertion_keyword.NumberKeyword.{NumberKeyword}
+use Rattle.js_keyword.specs.declared.assertion_keyword.NumberKeyword.TheVariants.{MultipleOf, Maximum}
+use Rattle.js_keyword.specs.declared.assertion_keyword.NumberKeyword.TheVariants.{ExclusiveMaximum, Minimum}
+use Rattle.js_keyword.specs.declared.assertion_keyword.NumberKeyword.TheVariants.{ExclusiveMinimum}
 use Rattle.js_assert.specs.declared.numbers.NumberTest.{NumberTest}
 use Rattle.js_assert.specs.declared.numbers.NumberTest.TheVariants as test
 

@@ -1,6 +1,7 @@
 -- The assertions on objects (JSON Schema Validation, section 6.5). The texts of their errors are this project's own
 -- choice, since the standard leaves them open.
-use Rattle.std.specs.Prelude.{ℕ, pos, List, [], ◌∷◌, ◌++◌, Bool, not, map, filter, codes, length, int_le, if◌then◌else◌}
+use Rattle.std.specs.Prelude.{ℕ, pos, List, [], ◌∷◌, ◌++◌, Bool, not, map, filter, codes, length, int_le}
+use Rattle.std.specs.Prelude.{if◌then◌else◌}
 use Rattle.std.specs.BTreeSet.{insert_key}
 use Rattle.std.specs.List.{flat_map, list_all}
 use Rattle.js_doc.specs.Value.{Value, whole, text, list, Named, items}
@@ -11,10 +12,11 @@ use Rattle.js_assert.specs.Argument.{number, strings, implies}
 use Rattle.js_assert.specs.ArgumentShape.{is_count, is_list_of_names, is_object_of_names}
 use Rattle.js_assert.specs.Dependences.{dependences_value}
 use Rattle.js_assert.specs.Names.{names_value}
-use Rattle.js_assert.specs.TextParts.{counted}
-use Rattle.js_assert.specs.declared.keyword.ObjectKeyword.{ObjectKeyword}
-use Rattle.js_assert.specs.declared.keyword.ObjectKeyword.TheVariants.{MaxProperties, MinProperties, Required}
-use Rattle.js_assert.specs.declared.keyword.ObjectKeyword.TheVariants.{DependentRequired}
+use Rattle.js_assert.specs.TextParts.{at_most, at_least}
+use Rattle.js_keyword.specs.declared.assertion_keyword.ObjectKeyword.{ObjectKeyword}
+use Rattle.js_keyword.specs.declared.assertion_keyword.ObjectKeyword.TheVariants.{MaxProperties, MinProperties}
+use Rattle.js_keyword.specs.declared.assertion_keyword.ObjectKeyword.TheVariants.{Required}
+use Rattle.js_keyword.specs.declared.assertion_keyword.ObjectKeyword.TheVariants.{DependentRequired}
 use Rattle.js_assert.specs.declared.objects.ObjectTest.{ObjectTest}
 use Rattle.js_assert.specs.declared.objects.ObjectTest.TheVariants as test
 
@@ -58,8 +60,8 @@ object_says argument DependentRequired ms =  -- 6.5.4
 
 -- the text of the error that v makes
 abbrev pub object_text : Value → Value → ObjectKeyword → List ℕ
-object_text argument v MaxProperties = counted (length (members_of v)) (codes " members, at most ") (number argument)
-object_text argument v MinProperties = counted (length (members_of v)) (codes " members, at least ") (number argument)
+object_text argument v MaxProperties = at_most (length (members_of v)) (codes " members") (number argument)
+object_text argument v MinProperties = at_least (length (members_of v)) (codes " members") (number argument)
 object_text argument v Required = missing (map text (without (members_of v) (strings argument)))
 object_text argument v DependentRequired =
     missing (map text (sorted_with [] (without (members_of v) (names_needed (members_of v) (members_of argument)))))

@@ -9,10 +9,10 @@ use Rattle.js_assert.specs.Strings.{string_keyword, string_argument}
 use Rattle.js_assert.specs.Shape.{takes, IsPatternIfAny}
 use Rattle.js_assert.specs.declared.assertion.Test.{Test}
 use Rattle.js_assert.specs.declared.assertion.Test.TheVariants as test
-use Rattle.js_assert.specs.declared.keyword.Keyword.{Keyword}
-use Rattle.js_assert.specs.declared.keyword.Keyword.TheVariants as keyword
+use Rattle.js_keyword.specs.declared.assertion_keyword.AssertionKeyword.{AssertionKeyword}
+use Rattle.js_keyword.specs.declared.assertion_keyword.AssertionKeyword.TheVariants as keyword
 
-abbrev pub keyword_tested : Test → Keyword
+abbrev pub keyword_tested : Test → AssertionKeyword
 keyword_tested (test.AnyType t) = keyword.AnyType (any_type_keyword t)
 keyword_tested (test.Number t) = keyword.Number (number_keyword t)
 keyword_tested (test.String t) = keyword.String (string_keyword t)
@@ -27,7 +27,7 @@ argument_tested (test.Array t) = array_argument t
 argument_tested (test.Object t) = object_argument t
 
 -- the keyword with this argument is read as the test
-pub record IsTestOf (keyword : Keyword) (argument : Value) (t : Test) : Type 0 where
+pub record IsTestOf (keyword : AssertionKeyword) (argument : Value) (t : Test) : Type 0 where
   pub same_keyword : keyword_tested t ≡ keyword
   pub same_argument : argument_tested t ≡ argument
   pub shape : takes argument keyword ≡ true

@@ -6,18 +6,19 @@ use Rattle.js_assert.specs.AnyType.{any_type_takes}
 use Rattle.js_assert.specs.Argument.{string}
 pub use Rattle.js_assert.specs.ArgumentShape.{is_boolean, is_string}
 use Rattle.js_assert.specs.Arrays.{array_takes}
-use Rattle.js_assert.specs.Keyword.{keyword_named}
+use Rattle.js_keyword.specs.AssertionKeyword.{keyword_named}
 use Rattle.js_assert.specs.Numbers.{number_takes}
 use Rattle.js_assert.specs.Objects.{object_takes}
 use Rattle.js_assert.specs.Pattern.{is_pattern}
 use Rattle.js_assert.specs.Strings.{string_takes}
 use Rattle.js_assert.specs.declared.fault.KeywordFault.{KeywordFault}
 use Rattle.js_assert.specs.declared.fault.KeywordFault.TheVariants.{Memory, BadKeyword, NotAPattern, PatternTooLarge}
-use Rattle.js_assert.specs.declared.keyword.Keyword.{Keyword}
-use Rattle.js_assert.specs.declared.keyword.Keyword.TheVariants.{AnyType, Number, String, Array, Object}
-use Rattle.js_assert.specs.declared.keyword.StringKeyword.TheVariants.{Pattern}
+use Rattle.js_keyword.specs.declared.assertion_keyword.AssertionKeyword.{AssertionKeyword}
+use Rattle.js_keyword.specs.declared.assertion_keyword.AssertionKeyword.TheVariants.{AnyType, Number, String, Array}
+use Rattle.js_keyword.specs.declared.assertion_keyword.AssertionKeyword.TheVariants.{Object}
+use Rattle.js_keyword.specs.declared.assertion_keyword.StringKeyword.TheVariants.{Pattern}
 
-abbrev pub takes : Value → Keyword → Bool
+abbrev pub takes : Value → AssertionKeyword → Bool
 takes argument (AnyType keyword) = any_type_takes argument keyword  -- 6.1
 takes argument (Number keyword) = number_takes argument keyword  -- 6.2
 takes argument (String keyword) = string_takes argument keyword  -- 6.3
@@ -38,7 +39,7 @@ IsBadUnless taken NotAPattern = ⊥
 IsBadUnless taken PatternTooLarge = ⊥
 
 -- when a keyword's argument is refused; want of memory may come at any time
-abbrev pub IsFaultOf : Keyword → Value → KeywordFault → Type 0
+abbrev pub IsFaultOf : AssertionKeyword → Value → KeywordFault → Type 0
 IsFaultOf keyword argument Memory = Unit {0}
 IsFaultOf keyword argument BadKeyword = takes argument keyword ≡ false
 IsFaultOf keyword argument NotAPattern = (keyword ≡ String Pattern) × (is_string argument ≡ true)
@@ -56,5 +57,5 @@ IsKeywordFault name argument PatternTooLarge = (name ≡ codes "pattern") × (ha
     × (is_pattern (string argument) ≡ true)
 
 -- the argument of `pattern` is one
-abbrev pub IsPatternIfAny : Keyword → Value → Type 0
+abbrev pub IsPatternIfAny : AssertionKeyword → Value → Type 0
 IsPatternIfAny keyword argument = keyword ≡ String Pattern → is_pattern (string argument) ≡ true

@@ -5,9 +5,9 @@ use Rattle.js_doc.specs.Value.{Value, whole, text}
 use Rattle.js_assert.specs.Argument.{number, string}
 use Rattle.js_assert.specs.ArgumentShape.{is_count, is_string}
 use Rattle.js_assert.specs.Pattern.{matches}
-use Rattle.js_assert.specs.TextParts.{counted}
-use Rattle.js_assert.specs.declared.keyword.StringKeyword.{StringKeyword}
-use Rattle.js_assert.specs.declared.keyword.StringKeyword.TheVariants.{MaxLength, MinLength, Pattern}
+use Rattle.js_assert.specs.TextParts.{at_most, at_least}
+use Rattle.js_keyword.specs.declared.assertion_keyword.StringKeyword.{StringKeyword}
+use Rattle.js_keyword.specs.declared.assertion_keyword.StringKeyword.TheVariants.{MaxLength, MinLength, Pattern}
 use Rattle.js_assert.specs.declared.strings.StringTest.{StringTest}
 use Rattle.js_assert.specs.declared.strings.StringTest.TheVariants as test
 
@@ -30,8 +30,8 @@ string_says argument Pattern s = matches (string argument) s  -- 6.3.3
 
 -- the text of the error that v makes
 abbrev pub string_text : Value → Value → StringKeyword → List ℕ
-string_text argument v MaxLength = counted (characters (string v)) (codes " characters, at most ") (number argument)
-string_text argument v MinLength = counted (characters (string v)) (codes " characters, at least ") (number argument)
+string_text argument v MaxLength = at_most (characters (string v)) (codes " characters") (number argument)
+string_text argument v MinLength = at_least (characters (string v)) (codes " characters") (number argument)
 string_text argument v Pattern = codes "no match"
 
 -- ---- what a test of the code stands for

@@ -11,9 +11,9 @@ use crate::assertion::Test;
 use crate::choices::Choices;
 use crate::fault::KeywordFault;
 use crate::instance_type::{InstanceType, is_of_any};
-use crate::keyword::{AnyTypeKeyword, Keyword};
 use crate::text_parts::words;
 use js_doc::{Doc, Memory};
+use js_keyword::{AnyTypeKeyword, AssertionKeyword};
 use std::alloc::Global;
 
 /// What a keyword tests, with its argument read. `type` names one type, or a list of them. What is larger than a list's
@@ -32,8 +32,8 @@ impl AnyTypeTest {
         keyword: AnyTypeKeyword,
         argument: &Doc,
     ) -> Result<AnyTypeTest, KeywordFault>
-        ensures ok { IfOk result (λ t. IsTestOf (Keyword.AnyType keyword) (value_of argument.now) (Test.AnyType t)) }
-        ensures refused { IfErr result (IsFaultOf (Keyword.AnyType keyword) (value_of argument.now)) }
+        ensures ok { IfOk result (λ t. IsTestOf (AssertionKeyword.AnyType keyword) (value_of argument.now) (Test.AnyType t)) }
+        ensures refused { IfErr result (IsFaultOf (AssertionKeyword.AnyType keyword) (value_of argument.now)) }
     {
         match keyword {
             AnyTypeKeyword::Type => Ok(types(alloc, argument)?),

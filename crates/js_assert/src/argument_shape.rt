@@ -18,10 +18,10 @@ use crate::any_type::AnyTypeTest;
 use crate::choices::Choices;
 use crate::fault::KeywordFault;
 use crate::instance_type::InstanceType;
-use crate::keyword::{AnyTypeKeyword, Keyword, StringKeyword};
 use crate::objects::Dependence;
 use crate::pattern::{Pattern, PatternFault};
 use js_doc::{Doc, Members, Memory, Text, Whole};
+use js_keyword::{AnyTypeKeyword, AssertionKeyword, StringKeyword};
 use std::alloc::Global;
 use std::collections::BTreeSet;
 use std::num::NonZeroU64;
@@ -111,7 +111,7 @@ pub(crate) fn constant(alloc: Global, argument: &Doc) -> Result<Box<Doc>, Keywor
 pub(crate) fn pattern_argument(alloc: Global, argument: &Doc) -> Result<Pattern, KeywordFault>
     ensures ok { IfOk result (λ p. value_of argument.now ≡ text p) }
     ensures read { IfOk result (λ p. is_pattern p ≡ true) }
-    ensures refused { IfErr result (IsFaultOf (Keyword.String StringKeyword.Pattern) (value_of argument.now)) }
+    ensures refused { IfErr result (IsFaultOf (AssertionKeyword.String StringKeyword.Pattern) (value_of argument.now)) }
 {
     let Doc::Text(text) = argument else {
         return Err(KeywordFault::BadKeyword);

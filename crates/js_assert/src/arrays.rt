@@ -12,10 +12,10 @@ ghost use Rattle.js_assert.specs.Shape.{IsFaultOf};
 use crate::argument_shape::{boolean, count};
 use crate::assertion::Test;
 use crate::fault::KeywordFault;
-use crate::keyword::{ArrayKeyword, Keyword};
-use crate::text_parts::counted;
+use crate::text_parts::{at_least, at_most};
 use crate::unique::{equal_items, least_equal_pair};
 use js_doc::{Doc, Memory};
+use js_keyword::{ArrayKeyword, AssertionKeyword};
 use std::alloc::Global;
 
 /// What a keyword tests, with its argument read.
@@ -30,8 +30,8 @@ pub(crate) enum ArrayTest {
 
 impl ArrayTest {
     pub(crate) fn read(keyword: ArrayKeyword, argument: &Doc) -> Result<ArrayTest, KeywordFault>
-        ensures ok { IfOk result (λ t. IsTestOf (Keyword.Array keyword) (value_of argument.now) (Test.Array t)) }
-        ensures refused { IfErr result (IsFaultOf (Keyword.Array keyword) (value_of argument.now)) }
+        ensures ok { IfOk result (λ t. IsTestOf (AssertionKeyword.Array keyword) (value_of argument.now) (Test.Array t)) }
+        ensures refused { IfErr result (IsFaultOf (AssertionKeyword.Array keyword) (value_of argument.now)) }
     {
         match keyword {
             ArrayKeyword::MaxItems => Ok(ArrayTest::MaxItems(count(argument)?)),
@@ -100,17 +100,17 @@ impl ArrayTest {
     {
         match self {
             ArrayTest::MaxItems(limit) => {
-                counted(alloc, array_length(value), " items, at most ", *limit)
+                at_most(alloc, array_length(value), " items", *limit)
             }
             ArrayTest::MinItems(limit) => {
-                counted(alloc, array_length(value), " items, at least ", *limit)
+                at_least(alloc, array_length(value), " items", *limit)
             }
             ArrayTest::UniqueItems(_) => equal_items(alloc, value),
             ArrayTest::MaxContains(limit) => {
-                counted(alloc, matching, " matching items, at most ", *limit)
+                at_most(alloc, matching, " matching items", *limit)
             }
             ArrayTest::MinContains(limit) => {
-                counted(alloc, matching, " matching items, at least ", *limit)
+                at_least(alloc, matching, " matching items", *limit)
             }
         }
     }

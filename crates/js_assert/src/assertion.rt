@@ -6,12 +6,12 @@ ghost use Rattle.js_assert.specs.Shape.{IsFaultOf};
 use crate::any_type::AnyTypeTest;
 use crate::arrays::ArrayTest;
 use crate::fault::KeywordFault;
-use crate::keyword::Keyword;
 use crate::numbers::NumberTest;
 use crate::objects::ObjectTest;
 use crate::pattern::Pattern;
 use crate::strings::StringTest;
 use js_doc::{Doc, Members, Memory};
+use js_keyword::{AssertionKeyword, Keyword};
 use std::alloc::Global;
 use std::fmt::{self, Debug, Formatter};
 use std::marker::Model;
@@ -27,30 +27,30 @@ pub(crate) enum Test {
 }
 
 impl Test {
-    fn read(alloc: Global, keyword: Keyword, argument: &Doc) -> Result<Test, KeywordFault>
+    fn read(alloc: Global, keyword: AssertionKeyword, argument: &Doc) -> Result<Test, KeywordFault>
         ensures ok { IfOk result (IsTestOf keyword (value_of argument.now)) }
         ensures refused { IfErr result (IsFaultOf keyword (value_of argument.now)) }
     {
         match keyword {
-            Keyword::AnyType(which) => {
+            AssertionKeyword::AnyType(which) => {
                 Ok(Test::AnyType(AnyTypeTest::read(alloc, which, argument)?))
             }
-            Keyword::Number(which) => Ok(Test::Number(NumberTest::read(alloc, which, argument)?)),
-            Keyword::String(which) => Ok(Test::String(StringTest::read(alloc, which, argument)?)),
-            Keyword::Array(which) => Ok(Test::Array(ArrayTest::read(which, argument)?)),
-            Keyword::Object(which) => Ok(Test::Object(ObjectTest::read(alloc, which, argument)?)),
+            AssertionKeyword::Number(which) => Ok(Test::Number(NumberTest::read(alloc, which, argument)?)),
+            AssertionKeyword::String(which) => Ok(Test::String(StringTest::read(alloc, which, argument)?)),
+            AssertionKeyword::Array(which) => Ok(Test::Array(ArrayTest::read(which, argument)?)),
+            AssertionKeyword::Object(which) => Ok(Test::Object(ObjectTest::read(alloc, which, argument)?)),
         }
     }
 
-    fn keyword(&self) -> Keyword
+    fn keyword(&self) -> AssertionKeyword
         ensures { result ≡ keyword_tested self.now }
     {
         match self {
-            Test::AnyType(test) => Keyword::AnyType(test.keyword()),
-            Test::Number(test) => Keyword::Number(test.keyword()),
-            Test::String(test) => Keyword::String(test.keyword()),
-            Test::Array(test) => Keyword::Array(test.keyword()),
-            Test::Object(test) => Keyword::Object(test.keyword()),
+            Test::AnyType(test) => AssertionKeyword::AnyType(test.keyword()),
+            Test::Number(test) => AssertionKeyword::Number(test.keyword()),
+            Test::String(test) => AssertionKeyword::String(test.keyword()),
+            Test::Array(test) => AssertionKeyword::Array(test.keyword()),
+            Test::Object(test) => AssertionKeyword::Object(test.keyword()),
         }
     }
 }
@@ -75,7 +75,7 @@ impl Drop for Assertion {
 
 impl Model for Assertion {
     ghost use Rattle.js_assert.specs.Assertion.{Asserted, asserted_code};
-    ghost use Rattle.js_assert.specs.contracts.keyword.Keyword.{the_row};
+    ghost use Rattle.js_keyword.specs.contracts.assertion_keyword.AssertionKeyword.{the_row};
 
     ghost Value = { Asserted };
 
@@ -96,7 +96,7 @@ impl Assertion {
     ghost use Rattle.js_assert.specs.Assertion.{asserted, pattern_asked, says};
     ghost use Rattle.js_assert.specs.ErrorText.{error, error_text};
     ghost use Rattle.js_assert.specs.Shape.{has_shape, IsKeywordFault};
-    ghost use Rattle.js_assert.specs.Keyword.{name_of};
+    ghost use Rattle.js_keyword.specs.AssertionKeyword.{name_of};
     ghost use Rattle.js_assert.specs.Pattern.{is_pattern, matches};
 
     /// The assertion that the keyword of this name makes with this argument, among these members of its schema;
@@ -118,11 +118,11 @@ impl Assertion {
             keyword.now ≡ codes "pattern" → is_pattern (string (value_of argument.now)) ≡ true) }
         ensures refused { IfErr result (IsKeywordFault keyword.now (value_of argument.now)) }
     {
-        let Some(keyword) = Keyword::keyword_named(keyword) else {
+        let Some(keyword) = AssertionKeyword::named(keyword) else {
             return Ok(None);
         };
         let test = Test::read(alloc, keyword, argument)?;
-        let beside_contains = siblings.get("contains").is_some();
+        let beside_contains = siblings.get(Keyword::Contains.name()).is_some();
         Ok(Some(Assertion {
             test,
             beside_contains,

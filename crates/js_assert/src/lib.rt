@@ -8,7 +8,6 @@ mod assertion;
 mod choices;
 mod fault;
 mod instance_type;
-mod keyword;
 pub mod laws;
 mod missing;
 mod numbers;
@@ -22,6 +21,5 @@ mod unique;
 
 pub use assertion::Assertion;
 pub use fault::KeywordFault;
-pub use keyword::is_assertion;
 pub use pattern::{Pattern, PatternFault};
 pub use searcher::Searcher;

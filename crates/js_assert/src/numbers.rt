@@ -9,9 +9,9 @@ ghost use Rattle.js_assert.specs.Shape.{IsFaultOf};
 use crate::argument_shape::{divisor, limit};
 use crate::assertion::Test;
 use crate::fault::KeywordFault;
-use crate::keyword::{Keyword, NumberKeyword};
 use crate::text_parts::before_number;
 use js_doc::{Doc, Memory, Whole};
+use js_keyword::{AssertionKeyword, NumberKeyword};
 use std::alloc::Global;
 use std::num::NonZeroU64;
 
@@ -31,8 +31,8 @@ impl NumberTest {
         keyword: NumberKeyword,
         argument: &Doc,
     ) -> Result<NumberTest, KeywordFault>
-        ensures ok { IfOk result (λ t. IsTestOf (Keyword.Number keyword) (value_of argument.now) (Test.Number t)) }
-        ensures refused { IfErr result (IsFaultOf (Keyword.Number keyword) (value_of argument.now)) }
+        ensures ok { IfOk result (λ t. IsTestOf (AssertionKeyword.Number keyword) (value_of argument.now) (Test.Number t)) }
+        ensures refused { IfErr result (IsFaultOf (AssertionKeyword.Number keyword) (value_of argument.now)) }
     {
         match keyword {
             NumberKeyword::MultipleOf => Ok(NumberTest::MultipleOf(divisor(argument)?)),

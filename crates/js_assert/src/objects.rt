@@ -15,10 +15,10 @@ ghost use Rattle.js_assert.specs.Shape.{IsFaultOf};
 use crate::argument_shape::{count, dependences, name_list};
 use crate::assertion::Test;
 use crate::fault::KeywordFault;
-use crate::keyword::{Keyword, ObjectKeyword};
 use crate::missing::{missing_of, missing_of_all};
-use crate::text_parts::counted;
+use crate::text_parts::{at_least, at_most};
 use js_doc::{Doc, Members, Memory, Text};
+use js_keyword::{AssertionKeyword, ObjectKeyword};
 use std::alloc::Global;
 
 /// A member's name, and the names that must be there if it is.
@@ -43,8 +43,8 @@ impl ObjectTest {
         keyword: ObjectKeyword,
         argument: &Doc,
     ) -> Result<ObjectTest, KeywordFault>
-        ensures ok { IfOk result (λ t. IsTestOf (Keyword.Object keyword) (value_of argument.now) (Test.Object t)) }
-        ensures refused { IfErr result (IsFaultOf (Keyword.Object keyword) (value_of argument.now)) }
+        ensures ok { IfOk result (λ t. IsTestOf (AssertionKeyword.Object keyword) (value_of argument.now) (Test.Object t)) }
+        ensures refused { IfErr result (IsFaultOf (AssertionKeyword.Object keyword) (value_of argument.now)) }
     {
         match keyword {
             ObjectKeyword::MaxProperties => Ok(ObjectTest::MaxProperties(count(argument)?)),
@@ -98,10 +98,10 @@ impl ObjectTest {
     {
         match self {
             ObjectTest::MaxProperties(limit) => {
-                counted(alloc, member_count(value), " members, at most ", *limit)
+                at_most(alloc, member_count(value), " members", *limit)
             }
             ObjectTest::MinProperties(limit) => {
-                counted(alloc, member_count(value), " members, at least ", *limit)
+                at_least(alloc, member_count(value), " members", *limit)
             }
             ObjectTest::Required(names) => missing_of(alloc, names.as_slice(), value),
             ObjectTest::DependentRequired(dependences) => {

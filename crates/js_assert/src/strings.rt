@@ -9,10 +9,10 @@ ghost use Rattle.js_assert.specs.Strings.{characters, string_argument, string_ke
 use crate::argument_shape::{count, pattern_argument};
 use crate::assertion::Test;
 use crate::fault::KeywordFault;
-use crate::keyword::{Keyword, StringKeyword};
 use crate::pattern::Pattern;
-use crate::text_parts::{counted, words};
+use crate::text_parts::{at_least, at_most, words};
 use js_doc::{Doc, Memory, character_count};
+use js_keyword::{AssertionKeyword, StringKeyword};
 use std::alloc::Global;
 
 /// What a keyword tests, with its argument read.
@@ -29,8 +29,8 @@ impl StringTest {
         keyword: StringKeyword,
         argument: &Doc,
     ) -> Result<StringTest, KeywordFault>
-        ensures ok { IfOk result (λ t. IsTestOf (Keyword.String keyword) (value_of argument.now) (Test.String t)) }
-        ensures refused { IfErr result (IsFaultOf (Keyword.String keyword) (value_of argument.now)) }
+        ensures ok { IfOk result (λ t. IsTestOf (AssertionKeyword.String keyword) (value_of argument.now) (Test.String t)) }
+        ensures refused { IfErr result (IsFaultOf (AssertionKeyword.String keyword) (value_of argument.now)) }
     {
         match keyword {
             StringKeyword::MaxLength => Ok(StringTest::MaxLength(count(argument)?)),
@@ -81,10 +81,10 @@ impl StringTest {
     {
         match self {
             StringTest::MaxLength(limit) => {
-                counted(alloc, length(value), " characters, at most ", *limit)
+                at_most(alloc, length(value), " characters", *limit)
             }
             StringTest::MinLength(limit) => {
-                counted(alloc, length(value), " characters, at least ", *limit)
+                at_least(alloc, length(value), " characters", *limit)
             }
             StringTest::Pattern(_) => words(alloc, "no match"),
         }

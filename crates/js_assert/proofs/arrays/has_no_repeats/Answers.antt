@@ -1,5 +1,5 @@
-use Rattle.std.proofs.Common.{◌≡◌, Bool, true, false, not, Option, Some, None, is_some, is_none, refl, ap, ◌∙◌}
-use Rattle.js_assert.specs.Arrays.{equal_pair}
+use Rattle.std.proofs.Common.{◌≡◌, Bool, true, false, not, Option, Some, None, is_some, is_none, map, refl, ◌∙◌, rules}
+use Rattle.js_doc.specs.Seen.{value_of}
 use Rattle.js_assert.proofs.EqualPairs.{unique_is}
 use Rattle.js_assert.proofs.arrays.has_no_repeats.Goals as goal
 
@@ -9,8 +9,9 @@ turned None false e = absurd (cc)
 turned (Some x) true e = absurd (cc)
 turned (Some x) false e = refl
 
-pub returns-in_ok-least_equal_pair-in-List : goal.returns-in_ok-least_equal_pair-in-List
-returns-in_ok-least_equal_pair-in-List c =
-    let o = c.in_ok-least_equal_pair-in-List.field-0 in
-    let found = c.in_ok-least_equal_pair-in-List.ensures ∙ ap (equal_pair 0) c.as_slice.ensures in
-    rw (c.in-List.is, c.if-asked.true) (turned o c.is_none.result c.is_none.ensures ∙ unique_is c.in-List.items o found)
+pub returns : goal.returns
+returns c =
+    let o = c.in_ok-least_equal_pair.field-0 in
+    let vs = map value_of c.args.items.now in
+    let asked : c.args.asked ≡ true = search rules in
+    rw asked (turned o c.is_none.result c.is_none.ensures ∙ unique_is vs o c.in_ok-least_equal_pair.ensures)
