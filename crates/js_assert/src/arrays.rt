@@ -94,24 +94,21 @@ impl ArrayTest {
     }
 
     /// The text of the error for a value that doesn't meet the test.
-    pub(crate) fn error_text(&self, alloc: Global, value: &Doc, matching: u64) -> Result<String, Memory>
+    pub(crate) fn error_text(
+        &self,
+        alloc: Global,
+        value: &Doc,
+        matching: u64,
+    ) -> Result<String, Memory>
         ensures { IfOk result (λ s. string_bytes s
             ≡ array_text (array_argument self.now) (value_of value.now) matching (array_keyword self.now)) }
     {
         match self {
-            ArrayTest::MaxItems(limit) => {
-                at_most(alloc, array_length(value), " items", *limit)
-            }
-            ArrayTest::MinItems(limit) => {
-                at_least(alloc, array_length(value), " items", *limit)
-            }
+            ArrayTest::MaxItems(limit) => at_most(alloc, array_length(value), " items", *limit),
+            ArrayTest::MinItems(limit) => at_least(alloc, array_length(value), " items", *limit),
             ArrayTest::UniqueItems(_) => equal_items(alloc, value),
-            ArrayTest::MaxContains(limit) => {
-                at_most(alloc, matching, " matching items", *limit)
-            }
-            ArrayTest::MinContains(limit) => {
-                at_least(alloc, matching, " matching items", *limit)
-            }
+            ArrayTest::MaxContains(limit) => at_most(alloc, matching, " matching items", *limit),
+            ArrayTest::MinContains(limit) => at_least(alloc, matching, " matching items", *limit),
         }
     }
 }

@@ -35,10 +35,16 @@ impl Test {
             AssertionKeyword::AnyType(which) => {
                 Ok(Test::AnyType(AnyTypeTest::read(alloc, which, argument)?))
             }
-            AssertionKeyword::Number(which) => Ok(Test::Number(NumberTest::read(alloc, which, argument)?)),
-            AssertionKeyword::String(which) => Ok(Test::String(StringTest::read(alloc, which, argument)?)),
+            AssertionKeyword::Number(which) => Ok(Test::Number(NumberTest::read(
+                alloc, which, argument,
+            )?)),
+            AssertionKeyword::String(which) => Ok(Test::String(StringTest::read(
+                alloc, which, argument,
+            )?)),
             AssertionKeyword::Array(which) => Ok(Test::Array(ArrayTest::read(which, argument)?)),
-            AssertionKeyword::Object(which) => Ok(Test::Object(ObjectTest::read(alloc, which, argument)?)),
+            AssertionKeyword::Object(which) => Ok(Test::Object(ObjectTest::read(
+                alloc, which, argument,
+            )?)),
         }
     }
 

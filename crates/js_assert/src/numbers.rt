@@ -1,8 +1,9 @@
 //! The assertions on numbers (JSON Schema Validation, section 6.2). A value of another type passes.
-ghost use Rattle.std.specs.Prelude.{◌≡◌, IfOk, IfErr, string_bytes};
+ghost use Rattle.std.specs.Prelude.{◌≡◌, pos, IfOk, IfErr, string_bytes};
+ghost use Rattle.std.specs.Int.NonZero.{non_zero_u64_get};
 ghost use Rattle.js_doc.specs.Seen.{value_of};
 ghost use Rattle.js_assert.specs.Argument.{on_number};
-ghost use Rattle.js_assert.specs.Numbers.{number_argument, number_keyword, number_says, number_text};
+ghost use Rattle.js_assert.specs.Numbers.{divides, number_argument, number_keyword, number_says, number_text};
 ghost use Rattle.js_assert.specs.Seen.{IsTestOf};
 ghost use Rattle.js_assert.specs.Shape.{IsFaultOf};
 
@@ -74,7 +75,7 @@ impl NumberTest {
         ensures { result ≡ number_says (number_argument self.now) (number_keyword self.now) number }
     {
         match self {
-            NumberTest::MultipleOf(divisor) => number.unsigned_abs() % u128::from(divisor.get()) == 0,
+            NumberTest::MultipleOf(divisor) => is_multiple(number, *divisor),
             NumberTest::Maximum(limit) => number <= limit.value(),
             NumberTest::ExclusiveMaximum(limit) => number < limit.value(),
             NumberTest::Minimum(limit) => number >= limit.value(),
@@ -101,4 +102,10 @@ impl NumberTest {
             }
         }
     }
+}
+
+fn is_multiple(number: i128, divisor: NonZeroU64) -> bool
+    ensures { result ≡ divides (pos (non_zero_u64_get divisor)) number }
+{
+    number.unsigned_abs() % u128::from(divisor.get()) == 0
 }

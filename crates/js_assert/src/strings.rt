@@ -80,12 +80,8 @@ impl StringTest {
             ≡ string_text (string_argument self.now) (value_of value.now) (string_keyword self.now)) }
     {
         match self {
-            StringTest::MaxLength(limit) => {
-                at_most(alloc, length(value), " characters", *limit)
-            }
-            StringTest::MinLength(limit) => {
-                at_least(alloc, length(value), " characters", *limit)
-            }
+            StringTest::MaxLength(limit) => at_most(alloc, length(value), " characters", *limit),
+            StringTest::MinLength(limit) => at_least(alloc, length(value), " characters", *limit),
             StringTest::Pattern(_) => words(alloc, "no match"),
         }
     }

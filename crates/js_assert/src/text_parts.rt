@@ -22,12 +22,7 @@ pub(crate) fn before_number(alloc: Global, words: &str, number: i128) -> Result<
 }
 
 /// How many things there are, and how many there may be, as `3 items, at most 2`. The things begin with a space.
-pub(crate) fn at_most(
-    alloc: Global,
-    count: u64,
-    things: &str,
-    limit: u64,
-) -> Result<String, Memory>
+pub(crate) fn at_most(alloc: Global, count: u64, things: &str, limit: u64) -> Result<String, Memory>
     ensures { IfOk result (λ s. string_bytes s ≡ at_most count things.now (pos limit)) }
 {
     counted(alloc, count, things, ", at most ", limit)

@@ -7,7 +7,8 @@ mod keyword;
 mod other_keyword;
 
 pub use argument_form::{ArgumentForm, Holding};
-pub use assertion_keyword::{AnyTypeKeyword, ArrayKeyword, AssertionKeyword, NumberKeyword, ObjectKeyword};
-pub use assertion_keyword::StringKeyword;
+pub use assertion_keyword::{
+    AnyTypeKeyword, ArrayKeyword, AssertionKeyword, NumberKeyword, ObjectKeyword, StringKeyword,
+};
 pub use keyword::Keyword;
 pub use other_keyword::OtherKeyword;
