@@ -32,7 +32,8 @@ impl AnyTypeTest {
         keyword: AnyTypeKeyword,
         argument: &Doc,
     ) -> Result<AnyTypeTest, KeywordFault>
-        ensures ok { IfOk result (λ t. IsTestOf (AssertionKeyword.AnyType keyword) (value_of argument.now) (Test.AnyType t)) }
+        ensures ok { IfOk result
+            (λ t. IsTestOf (AssertionKeyword.AnyType keyword) (value_of argument.now) (Test.AnyType t)) }
         ensures refused { IfErr result (IsFaultOf (AssertionKeyword.AnyType keyword) (value_of argument.now)) }
     {
         match keyword {

@@ -30,7 +30,8 @@ pub(crate) enum ArrayTest {
 
 impl ArrayTest {
     pub(crate) fn read(keyword: ArrayKeyword, argument: &Doc) -> Result<ArrayTest, KeywordFault>
-        ensures ok { IfOk result (λ t. IsTestOf (AssertionKeyword.Array keyword) (value_of argument.now) (Test.Array t)) }
+        ensures ok { IfOk result
+            (λ t. IsTestOf (AssertionKeyword.Array keyword) (value_of argument.now) (Test.Array t)) }
         ensures refused { IfErr result (IsFaultOf (AssertionKeyword.Array keyword) (value_of argument.now)) }
     {
         match keyword {

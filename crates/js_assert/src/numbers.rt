@@ -32,7 +32,8 @@ impl NumberTest {
         keyword: NumberKeyword,
         argument: &Doc,
     ) -> Result<NumberTest, KeywordFault>
-        ensures ok { IfOk result (λ t. IsTestOf (AssertionKeyword.Number keyword) (value_of argument.now) (Test.Number t)) }
+        ensures ok { IfOk result
+            (λ t. IsTestOf (AssertionKeyword.Number keyword) (value_of argument.now) (Test.Number t)) }
         ensures refused { IfErr result (IsFaultOf (AssertionKeyword.Number keyword) (value_of argument.now)) }
     {
         match keyword {

@@ -43,7 +43,8 @@ impl ObjectTest {
         keyword: ObjectKeyword,
         argument: &Doc,
     ) -> Result<ObjectTest, KeywordFault>
-        ensures ok { IfOk result (λ t. IsTestOf (AssertionKeyword.Object keyword) (value_of argument.now) (Test.Object t)) }
+        ensures ok { IfOk result
+            (λ t. IsTestOf (AssertionKeyword.Object keyword) (value_of argument.now) (Test.Object t)) }
         ensures refused { IfErr result (IsFaultOf (AssertionKeyword.Object keyword) (value_of argument.now)) }
     {
         match keyword {

@@ -29,7 +29,8 @@ impl StringTest {
         keyword: StringKeyword,
         argument: &Doc,
     ) -> Result<StringTest, KeywordFault>
-        ensures ok { IfOk result (λ t. IsTestOf (AssertionKeyword.String keyword) (value_of argument.now) (Test.String t)) }
+        ensures ok { IfOk result
+            (λ t. IsTestOf (AssertionKeyword.String keyword) (value_of argument.now) (Test.String t)) }
         ensures refused { IfErr result (IsFaultOf (AssertionKeyword.String keyword) (value_of argument.now)) }
     {
         match keyword {

@@ -10,7 +10,8 @@ use Rattle.js_assert.proofs.assertion.Assertion.read.Goals as goal
 
 pub returns-in_default-clause-pattern : goal.returns-in_default-clause-pattern
 returns-in_default-clause-pattern c = λ e.
-    let known : keyword_named c.args.keyword.now ≡ Some (String Pattern) = ap keyword_named e ∙ named_by_name (String Pattern) in
+    let known : keyword_named c.args.keyword.now ≡ Some (String Pattern) =
+    ap keyword_named e ∙ named_by_name (String Pattern) in
     absurd (cc (known, c.named.ensures, c.in_default.is))
 
 pub returns-in_err-test-clause-refused : goal.returns-in_err-test-clause-refused
@@ -21,6 +22,7 @@ returns-in_err-test-clause-refused c =
 
 pub returns-clause-pattern : goal.returns-clause-pattern
 returns-clause-pattern c = λ e.
-    let known : keyword_named c.args.keyword.now ≡ Some (String Pattern) = ap keyword_named e ∙ named_by_name (String Pattern) in
+    let known : keyword_named c.args.keyword.now ≡ Some (String Pattern) =
+    ap keyword_named e ∙ named_by_name (String Pattern) in
     let is : c.in-Some.keyword ≡ String Pattern = cc (known, c.in-Some.ensures) in
     c.in_ok-test.ensures.ok.pattern is
