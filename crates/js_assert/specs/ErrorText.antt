@@ -1,4 +1,5 @@
--- The texts of the errors. The standard leaves them open: they are this project's own choice.
+-- The texts of the errors, from the tables of the families. The standard leaves them open: they are this project's own
+-- choice.
 use Rattle.std.specs.Prelude.{ℕ, List, Option, Some, None, if◌then◌else◌}
 use Rattle.js_doc.specs.Value.{Value}
 use Rattle.js_assert.specs.AnyType.{any_type_text}

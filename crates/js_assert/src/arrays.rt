@@ -70,12 +70,12 @@ impl ArrayTest {
             (array_says (array_argument self.now) beside_contains matching (array_keyword self.now))) }
     {
         match value {
-            Doc::List(items) => self.takes(alloc, beside_contains, items.as_slice(), matching),
+            Doc::List(items) => self.is_met_by(alloc, beside_contains, items.as_slice(), matching),
             _ => Ok(true),
         }
     }
 
-    fn takes(
+    fn is_met_by(
         &self,
         alloc: Global,
         beside_contains: bool,

@@ -67,12 +67,12 @@ impl NumberTest {
             ≡ on_number (value_of value.now) (number_says (number_argument self.now) (number_keyword self.now)) }
     {
         match value {
-            Doc::Whole(number) => self.takes(number.value()),
+            Doc::Whole(number) => self.is_met_by(number.value()),
             _ => true,
         }
     }
 
-    fn takes(&self, number: i128) -> bool
+    fn is_met_by(&self, number: i128) -> bool
         ensures { result ≡ number_says (number_argument self.now) (number_keyword self.now) number }
     {
         match self {

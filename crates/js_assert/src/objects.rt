@@ -74,12 +74,12 @@ impl ObjectTest {
             ≡ on_object (value_of value.now) (object_says (object_argument self.now) (object_keyword self.now)) }
     {
         match value {
-            Doc::Members(members) => self.takes(members),
+            Doc::Members(members) => self.is_met_by(members),
             _ => true,
         }
     }
 
-    fn takes(&self, members: &Members) -> bool
+    fn is_met_by(&self, members: &Members) -> bool
         ensures { result ≡ object_says (object_argument self.now) (object_keyword self.now) members.now }
     {
         match self {

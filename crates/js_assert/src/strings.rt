@@ -59,12 +59,12 @@ impl StringTest {
             ≡ on_string (value_of value.now) (string_says (string_argument self.now) (string_keyword self.now))) }
     {
         match value {
-            Doc::Text(text) => self.takes(alloc, text.as_str()),
+            Doc::Text(text) => self.is_met_by(alloc, text.as_str()),
             _ => Ok(true),
         }
     }
 
-    fn takes(&self, alloc: Global, text: &str) -> Result<bool, Memory>
+    fn is_met_by(&self, alloc: Global, text: &str) -> Result<bool, Memory>
         ensures { IfOk result (λ b. b
             ≡ string_says (string_argument self.now) (string_keyword self.now) text.now) }
     {
