@@ -367,6 +367,13 @@ def page_keywords(interface):
     return table(("keyword", "its value must be"), shown)
 
 
+def page_errors(interface):
+    rows = [(f"`{name}`" if name in interface["keywords"]["keyword"] else name,
+             *(f"`{it[part]}`" for part in ("schema", "instance", "text")), it["says"])
+            for name, it in interface["keywords"]["error"].items()]
+    return table(("keyword", "schema", "instance", "text", "meaning"), rows)
+
+
 # For each file its marks, and what writes the text between each and the next `interface: end`.
 TEXTS = {
     "jschema": {"version": launcher_version, "usage": launcher_usages, "help": launcher_help,
@@ -389,6 +396,7 @@ TEXTS = {
     "bindings/javascript/src/interface.js": {"tables": javascript_tables},
     "README.md": {"commands": page_commands, "statuses": page_statuses},
     "docs/COMMAND.md": {"rewriting": page_rewriting},
+    "docs/ERRORS.md": {"error texts": page_errors},
     "docs/REFUSALS.md": {"limits": page_limits, "lines": page_lines, **{kind: page_checks(kind) for kind in
                                                  ("document", "schema", "keyword", "reference", "entry")},
                          "keyword values": page_keywords,

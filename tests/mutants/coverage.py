@@ -4,7 +4,10 @@ import re
 # Of a crate: a file of definitions, the definition that has a row for each keyword, and how the name of an edit that is
 # refused by that row begins.
 TABLES = {
-    "js_assert": (("specs/Assertion.antt", "says_by", "{}-(?!text-)"), ("specs/ErrorText.antt", "text_by", "{}-text-")),
+    "js_assert": [(f"specs/{file}.antt", f"{family}_{word}", begin)
+                  for file, family in (("AnyType", "any_type"), ("Numbers", "number"), ("Strings", "string"),
+                                       ("Arrays", "array"), ("Objects", "object"))
+                  for word, begin in (("says", "{}-(?!text-)"), ("text", "{}-text-"))],
 }
 
 
@@ -17,7 +20,7 @@ def rows(crate, folder):
     """Each row of the crate's tables: how a failure names it, and how the names of its edits begin."""
     for file, definition, name in TABLES.get(crate, ()):
         text = (folder / file).read_text() if (folder / file).is_file() else ""
-        keywords = re.findall(rf"^ *{definition} «?(\w+)»? *=", text, re.M)
+        keywords = re.findall(rf"^ *{definition}(?: [a-z]\w*)* «?([A-Z]\w*)»?(?: [a-z]\w*)* *=", text, re.M)
         for keyword in keywords or ["(no row)"]:
             yield f"{definition} {keyword} of {file}", name.format(in_words(keyword))
 

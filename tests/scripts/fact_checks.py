@@ -31,10 +31,10 @@ FAULTS = [
      "js_doc/specs/Escapes.antt begins with no comment"),
     ("tools/page-facts --check", "crates.txt", "js_doc: serde_json", "js_doc: other serde_json",
      "the trusted libraries are `other`, `serde_json`"),
-    ("tools/page-facts --check", "CONTRIBUTING.md", "`crates/js_assert/src/keyword.rt`",
+    ("tools/page-facts --check", "CONTRIBUTING.md", "`crates/js_keyword/src/assertion_keyword.rt`",
      "`crates/js_assert/src/lib.rt`",
-     "A new assertion lacks crates/js_assert/src/keyword.rt"),
-    ("tools/page-facts --check", "CONTRIBUTING.md", "`crates/js_assert/src/keyword.rt`",
+     "A new assertion lacks crates/js_keyword/src/assertion_keyword.rt"),
+    ("tools/page-facts --check", "CONTRIBUTING.md", "`crates/js_keyword/src/assertion_keyword.rt`",
      "`crates/js_assert/src/none.rt`",
      "there is no crates/js_assert/src/none.rt"),
     # (Not in one word here, which would be a source that has it.)

@@ -212,19 +212,21 @@ def of_rows(room):
     write_source(home, "js_assert", "ends.rt", "fn first() {\n    right_first\n}\n")
     env = {"RT": room.executable("rt/refuses each of js_assert", (FAKE_RT % REFUSES).replace("js_doc", "js_assert"))}
     write_edit(home, "js_assert", "max-items-is-wrong", "ends.rt", ("right_first", "wrong_first"))
-    yield Check(f"{SCRIPT}, no table", [SCRIPT, "--together"], r"after says_by \(no row\)", home, env)
-    home = room.copied(home, "mutants of two rows")
-    for file, definition in (("Assertion", "says_by"), ("ErrorText", "text_by")):
-        Path(home, f"crates/js_assert/specs/{file}.antt").write_text(f"  {definition} MaxItems = 1\n")
+    yield Check(f"{SCRIPT}, no table", [SCRIPT, "--together"], r"after any_type_says \(no row\)", home, env)
+    home = room.copied(home, "mutants of two rows a file")
+    for file, family in (("AnyType", "any_type"), ("Numbers", "number"), ("Strings", "string"), ("Arrays", "array"),
+                         ("Objects", "object")):
+        rows = f"  {family}_says MaxItems v = 1\n{family}_text argument MaxItems = 1\n"
+        Path(home, f"crates/js_assert/specs/{file}.antt").write_text(rows)
     words = [SCRIPT, "--together"]
-    yield Check(f"{SCRIPT}, a row without an edit", words, "named after text_by MaxItems of", home, env)
+    yield Check(f"{SCRIPT}, a row without an edit", words, "named after any_type_text MaxItems of", home, env)
     home = room.copied(home, "a mutant of each row")
     write_edit(home, "js_assert", "max-items-text-is-wrong", "ends.rt", ("right_first", "wrong_first"))
-    yield Check(f"{SCRIPT}, a mutant of each row", words, "", home, env, prints="2 rows of its tables")
+    yield Check(f"{SCRIPT}, a mutant of each row", words, "", home, env, prints="10 rows of its tables")
     home = room.copied(home, "a mutant of one row")
     Path(home, "tests/mutants/js_assert/max-items-is-wrong.edit").unlink()
-    yield Check(f"{SCRIPT}, a row that another one's edit begins like", words, "named after says_by MaxItems of", home,
-                env)
+    yield Check(f"{SCRIPT}, a row that another one's edit begins like", words,
+                "named after any_type_says MaxItems of", home, env)
 
 
 def of_listed(room):

@@ -1,16 +1,15 @@
 -- Dependences between members, one dependence further.
-use Rattle.std.proofs.Common.{◌≡◌, ℕ, ◌+◌, ◌<◌, List, [], ◌∷◌, ◌++◌, Bool, true, false, ◌&&◌, cond}
+use Rattle.std.proofs.Common.{◌≡◌, ℕ, ◌+◌, ◌<◌, List, [], ◌∷◌, ◌++◌, Bool, true, ◌&&◌, cond}
 use Rattle.std.proofs.Common.{map, length, get_or, drop, refl, sym, ap, ap₂, ◌∙◌}
 use Rattle.std.proofs.lemmas.List.{drop_more}
 use Rattle.std.proofs.lemmas.List.Elements.{filter-append}
 use Rattle.std.specs.List.{list_all}
-use Rattle.js_doc.specs.Value.{Value, Named, object, members}
+use Rattle.js_doc.specs.Value.{Value, Named}
 use Rattle.js_doc.specs.Members.{has_name}
-use Rattle.js_assert.specs.Argument.{strings}
-use Rattle.js_assert.specs.Assertion.{has_each, implies, says_by}
-use Rattle.js_assert.specs.Dependences.{dependence_of}
-use Rattle.js_assert.specs.ErrorText.{names_needed, without, sorted_with}
-use Rattle.js_assert.specs.declared.keyword.Keyword.TheVariants.{DependentRequired}
+use Rattle.js_assert.specs.Argument.{implies, strings}
+use Rattle.js_assert.specs.Dependences.{dependence_of, dependences_value}
+use Rattle.js_assert.specs.Objects.{has_each, names_needed, object_says, without, sorted_with}
+use Rattle.js_keyword.specs.declared.assertion_keyword.ObjectKeyword.TheVariants.{DependentRequired}
 use Rattle.js_assert.specs.declared.objects.Dependence.{Dependence}
 use Rattle.js_doc.proofs.PartLists.{member_list-members}
 use Rattle.js_assert.proofs.ListedValues.{strings_names}
@@ -30,9 +29,9 @@ met_each ms [] = refl
 met_each ms (d ∷ ds) = ap₂ (λ a b. a && b) (same_met ms d) (met_each ms ds)
 
 pub all_met : (ms : Named) (ds : List Dependence) (b : Bool) → b ≡ list_all (meets ms) ds
-    → b ≡ says_by (object (members (map dependence_of ds))) false (object (members ms)) 0 DependentRequired
-all_met ms ds b e = e ∙ (sym (met_each ms ds) ∙ sym
-    (ap₂ (λ ns xs. list_all (is_met ns) xs) (member_list-members ms) (member_list-members (map dependence_of ds))))
+    → b ≡ object_says (dependences_value ds) DependentRequired ms
+all_met ms ds b e = e ∙ (sym (met_each ms ds)
+    ∙ sym (ap (list_all (is_met ms)) (member_list-members (map dependence_of ds))))
 
 -- a dependence whose name is a member's asks for its names
 pub asked_more : (ms : Named) (ds : List Dependence) (i : ℕ) (d : Dependence) (old new : List (List ℕ)) → i < length ds

@@ -2,12 +2,9 @@
 use Rattle.std.proofs.Common.{◌≡◌, ℕ, ◌+◌, Bool, true, false, not, ◌&&◌, ◌||◌, if◌then◌else◌, [], ◌∷◌, Option}
 use Rattle.std.proofs.Common.{Some, None, is_some, is_none, refl, sym, ap, ap₂, ◌∙◌}
 use Rattle.std.specs.List.{list_any}
-use Rattle.js_doc.specs.Value.{Value, Values, truth, list, items}
+use Rattle.js_doc.specs.Value.{Value, Values}
 use Rattle.js_doc.specs.Equality.{same}
-use Rattle.js_assert.specs.Assertion.{is_unique, says_by}
-use Rattle.js_assert.specs.ErrorText.{first_equal, pair_or, equal_pair}
-use Rattle.js_assert.specs.declared.keyword.Keyword.TheVariants.{UniqueItems}
-use Rattle.js_doc.proofs.PartLists.{item_list-items}
+use Rattle.js_assert.specs.Arrays.{is_unique, first_equal, pair_or, equal_pair}
 
 first_at : (b : Bool) (n : ℕ) (more : Option ℕ) → is_some (if b then Some n else more) ≡ b || is_some more
 first_at true n more = refl
@@ -30,5 +27,5 @@ unique_pair n (v ∷ vs) =
     ∙ sym (pair_here n (first_equal v (n + 1) vs) (equal_pair (n + 1) vs))
 
 pub unique_is : (vs : Values) (o : Option (ℕ × ℕ)) → o ≡ equal_pair 0 vs
-    → is_none o ≡ says_by (truth true) false (list (items vs)) 0 UniqueItems
-unique_is vs o e = ap is_none e ∙ (sym (unique_pair 0 vs) ∙ ap is_unique (sym (item_list-items vs)))
+    → is_none o ≡ is_unique vs
+unique_is vs o e = ap is_none e ∙ sym (unique_pair 0 vs)

@@ -1,4 +1,4 @@
-pub mod KeywordNames
+pub mod KeywordFaults
 pub mod Names
 pub mod Repeated
 pub mod Sorted
@@ -9,5 +9,4 @@ pub mod Dependent
 pub mod ListedValues
 pub mod Halves
 pub mod Counting
-pub mod ErrorTexts
 pub mod Crossing

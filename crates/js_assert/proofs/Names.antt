@@ -10,7 +10,7 @@ use Rattle.std.specs.Str.{bytes_eq}
 use Rattle.js_doc.specs.Seen.{value_of}
 use Rattle.js_doc.specs.Value.{Value, text}
 use Rattle.js_doc.specs.declared.doc.Doc.{Doc}
-use Rattle.js_assert.specs.Shape.{are_new_names}
+use Rattle.js_assert.specs.ArgumentShape.{are_new_names}
 
 abbrev pub Texts : Type 0
 Texts = List (Bor (List ℕ))

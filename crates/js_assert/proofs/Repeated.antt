@@ -11,7 +11,7 @@ use Rattle.js_doc.specs.Equality.{same, same-sound}
 use Rattle.js_doc.specs.Seen.{value_of}
 use Rattle.js_doc.specs.Value.{Value}
 use Rattle.js_doc.specs.declared.doc.Doc.{Doc}
-use Rattle.js_assert.specs.ErrorText.{first_equal, pair_or, equal_pair}
+use Rattle.js_assert.specs.Arrays.{first_equal, pair_or, equal_pair}
 
 abbrev pub Keys : Type 0
 Keys = List (String Global)

@@ -9,7 +9,7 @@ use Rattle.std.specs.declared.cmp.Ordering.{Ordering}
 use Rattle.std.specs.declared.cmp.Ordering.TheVariants.{Less, Equal, Greater}
 use Rattle.js_doc.specs.Members.{name_cmp, has_name}
 use Rattle.js_doc.specs.Value.{Named}
-use Rattle.js_assert.specs.ErrorText.{without, sorted_with}
+use Rattle.js_assert.specs.Objects.{without, sorted_with}
 use Rattle.js_assert.specs.Names.{names_seen}
 
 abbrev Keys : Type 0

@@ -8,7 +8,7 @@ use Rattle.js_doc.specs.Seen.{value_of}
 use Rattle.js_doc.proofs.PartLists.{item_list-items}
 use Rattle.js_doc.specs.Value.{Value, Values, text, list, items}
 use Rattle.js_doc.specs.declared.doc.Doc.{Doc}
-use Rattle.js_assert.specs.Shape.{are_new_types, is_empty_list, is_type, is_type_name}
+use Rattle.js_assert.specs.ArgumentShape.{are_new_types, is_empty_list, is_type, is_type_name}
 use Rattle.js_assert.specs.Types.{type_name}
 use Rattle.js_assert.specs.declared.instance_type.InstanceType.{InstanceType}
 use Rattle.js_assert.proofs.ListedValues.{list_any-map}

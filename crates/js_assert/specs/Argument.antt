@@ -1,5 +1,5 @@
 -- The parts of a keyword's argument, and of the value that it judges.
-use Rattle.std.specs.Prelude.{ℕ, ℤ, pos, List, [], ◌∷◌, Bool, true, false, map}
+use Rattle.std.specs.Prelude.{ℕ, ℤ, pos, List, [], ◌∷◌, Bool, true, false, not, ◌||◌, map}
 use Rattle.js_doc.specs.Parts.{item_list, member_list}
 use Rattle.js_doc.specs.Value.{Value, truth, whole, text, list, object, Named}
 -- until each crate above cites these where they stand
@@ -43,3 +43,8 @@ on_array _ p = true
 abbrev pub on_object : Value → (Named → Bool) → Bool
 on_object (object ms) p = p (member_list ms)
 on_object _ p = true
+
+-- ---- of two tests
+
+abbrev pub implies : Bool → Bool → Bool
+implies a b = not a || b

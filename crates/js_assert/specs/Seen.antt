@@ -1,63 +1,33 @@
 -- What an assertion of the code stands for.
-use Rattle.std.specs.Prelude.{◌≡◌, pos, true, map}
-use Rattle.std.specs.Int.NonZero.{non_zero_u64_get}
-use Rattle.js_doc.specs.Value.{Value, truth, whole, text, list, object, items, members}
-use Rattle.js_doc.specs.Seen.{value_of}
-use Rattle.js_assert.specs.declared.keyword.Keyword.{Keyword}
-use Rattle.js_assert.specs.declared.keyword.Keyword.TheVariants as keyword
+use Rattle.std.specs.Prelude.{◌≡◌, true}
+use Rattle.js_doc.specs.Value.{Value}
+use Rattle.js_assert.specs.AnyType.{any_type_keyword, any_type_argument}
+use Rattle.js_assert.specs.Arrays.{array_keyword, array_argument}
+use Rattle.js_assert.specs.Numbers.{number_keyword, number_argument}
+use Rattle.js_assert.specs.Objects.{object_keyword, object_argument}
+use Rattle.js_assert.specs.Strings.{string_keyword, string_argument}
+use Rattle.js_assert.specs.Shape.{takes, IsPatternIfAny}
 use Rattle.js_assert.specs.declared.assertion.Test.{Test}
 use Rattle.js_assert.specs.declared.assertion.Test.TheVariants as test
-use Rattle.js_assert.specs.Shape.{takes, IsPatternIfAny}
-use Rattle.js_assert.specs.Dependences.{dependence_of}
-use Rattle.js_assert.specs.Names.{names_value}
-use Rattle.js_assert.specs.Types.{types_value}
+use Rattle.js_keyword.specs.declared.assertion_keyword.AssertionKeyword.{AssertionKeyword}
+use Rattle.js_keyword.specs.declared.assertion_keyword.AssertionKeyword.TheVariants as keyword
 
-abbrev pub keyword_tested : Test → Keyword
-keyword_tested (test.Type types) = keyword.Type
-keyword_tested (test.Enum choices) = keyword.Enum
-keyword_tested (test.Const doc) = keyword.Const
-keyword_tested (test.MultipleOf divisor) = keyword.MultipleOf
-keyword_tested (test.Maximum limit) = keyword.Maximum
-keyword_tested (test.ExclusiveMaximum limit) = keyword.ExclusiveMaximum
-keyword_tested (test.Minimum limit) = keyword.Minimum
-keyword_tested (test.ExclusiveMinimum limit) = keyword.ExclusiveMinimum
-keyword_tested (test.MaxLength limit) = keyword.MaxLength
-keyword_tested (test.MinLength limit) = keyword.MinLength
-keyword_tested (test.Pattern pattern) = keyword.Pattern
-keyword_tested (test.MaxItems limit) = keyword.MaxItems
-keyword_tested (test.MinItems limit) = keyword.MinItems
-keyword_tested (test.UniqueItems asked) = keyword.UniqueItems
-keyword_tested (test.MaxContains limit) = keyword.MaxContains
-keyword_tested (test.MinContains limit) = keyword.MinContains
-keyword_tested (test.MaxProperties limit) = keyword.MaxProperties
-keyword_tested (test.MinProperties limit) = keyword.MinProperties
-keyword_tested (test.Required names) = keyword.Required
-keyword_tested (test.DependentRequired dependences) = keyword.DependentRequired
+abbrev pub keyword_tested : Test → AssertionKeyword
+keyword_tested (test.AnyType t) = keyword.AnyType (any_type_keyword t)
+keyword_tested (test.Number t) = keyword.Number (number_keyword t)
+keyword_tested (test.String t) = keyword.String (string_keyword t)
+keyword_tested (test.Array t) = keyword.Array (array_keyword t)
+keyword_tested (test.Object t) = keyword.Object (object_keyword t)
 
 abbrev pub argument_tested : Test → Value
-argument_tested (test.Type types) = types_value types
-argument_tested (test.Enum choices) = list (items choices.value)
-argument_tested (test.Const doc) = value_of doc.value
-argument_tested (test.MultipleOf divisor) = whole (pos (non_zero_u64_get divisor))
-argument_tested (test.Maximum limit) = whole limit.value
-argument_tested (test.ExclusiveMaximum limit) = whole limit.value
-argument_tested (test.Minimum limit) = whole limit.value
-argument_tested (test.ExclusiveMinimum limit) = whole limit.value
-argument_tested (test.MaxLength limit) = whole (pos limit)
-argument_tested (test.MinLength limit) = whole (pos limit)
-argument_tested (test.Pattern pattern) = text pattern
-argument_tested (test.MaxItems limit) = whole (pos limit)
-argument_tested (test.MinItems limit) = whole (pos limit)
-argument_tested (test.UniqueItems asked) = truth asked
-argument_tested (test.MaxContains limit) = whole (pos limit)
-argument_tested (test.MinContains limit) = whole (pos limit)
-argument_tested (test.MaxProperties limit) = whole (pos limit)
-argument_tested (test.MinProperties limit) = whole (pos limit)
-argument_tested (test.Required names) = names_value names.items
-argument_tested (test.DependentRequired dependences) = object (members (map dependence_of dependences.items))
+argument_tested (test.AnyType t) = any_type_argument t
+argument_tested (test.Number t) = number_argument t
+argument_tested (test.String t) = string_argument t
+argument_tested (test.Array t) = array_argument t
+argument_tested (test.Object t) = object_argument t
 
 -- the keyword with this argument is read as the test
-pub record IsTestOf (keyword : Keyword) (argument : Value) (t : Test) : Type 0 where
+pub record IsTestOf (keyword : AssertionKeyword) (argument : Value) (t : Test) : Type 0 where
   pub same_keyword : keyword_tested t ≡ keyword
   pub same_argument : argument_tested t ≡ argument
   pub shape : takes argument keyword ≡ true

@@ -1,44 +1,64 @@
 ghost use Rattle.std.specs.Prelude.{◌≡◌, ℕ, IfOk, IfErr, MatchOption, true, codes, option_map, string_bytes};
+ghost use Rattle.js_doc.specs.Seen.{value_of};
+ghost use Rattle.js_assert.specs.Seen.{keyword_tested, IsTestOf};
+ghost use Rattle.js_assert.specs.Shape.{IsFaultOf};
 
-use crate::choices::Choices;
-use crate::error_text::error_text;
+use crate::any_type::AnyTypeTest;
+use crate::arrays::ArrayTest;
 use crate::fault::KeywordFault;
-use crate::instance_type::Types;
-use crate::keyword::Keyword;
-use crate::objects::Dependence;
+use crate::numbers::NumberTest;
+use crate::objects::ObjectTest;
 use crate::pattern::Pattern;
-use crate::reading::test_of;
-use crate::{any_type, arrays, numbers, objects, strings};
-use js_doc::{Doc, Members, Memory, Text, Whole};
+use crate::strings::StringTest;
+use js_doc::{Doc, Members, Memory};
+use js_keyword::{AssertionKeyword, Keyword};
 use std::alloc::Global;
 use std::fmt::{self, Debug, Formatter};
 use std::marker::Model;
-use std::num::NonZeroU64;
 
 /// What a keyword tests, with its argument read.
 #[derive(Drop)]
 pub(crate) enum Test {
-    Type(Types),
-    // What is larger than a list's head, or aligned as a number of 128 bits, is boxed: most keywords hold less.
-    Enum(Box<Choices>),
-    Const(Box<Doc>),
-    MultipleOf(NonZeroU64),
-    Maximum(Box<Whole>),
-    ExclusiveMaximum(Box<Whole>),
-    Minimum(Box<Whole>),
-    ExclusiveMinimum(Box<Whole>),
-    MaxLength(u64),
-    MinLength(u64),
-    Pattern(Pattern),
-    MaxItems(u64),
-    MinItems(u64),
-    UniqueItems(bool),
-    MaxContains(u64),
-    MinContains(u64),
-    MaxProperties(u64),
-    MinProperties(u64),
-    Required(Vec<Text>),
-    DependentRequired(Vec<Dependence>),
+    AnyType(AnyTypeTest),
+    Number(NumberTest),
+    String(StringTest),
+    Array(ArrayTest),
+    Object(ObjectTest),
+}
+
+impl Test {
+    fn read(alloc: Global, keyword: AssertionKeyword, argument: &Doc) -> Result<Test, KeywordFault>
+        ensures ok { IfOk result (IsTestOf keyword (value_of argument.now)) }
+        ensures refused { IfErr result (IsFaultOf keyword (value_of argument.now)) }
+    {
+        match keyword {
+            AssertionKeyword::AnyType(which) => {
+                Ok(Test::AnyType(AnyTypeTest::read(alloc, which, argument)?))
+            }
+            AssertionKeyword::Number(which) => Ok(Test::Number(NumberTest::read(
+                alloc, which, argument,
+            )?)),
+            AssertionKeyword::String(which) => Ok(Test::String(StringTest::read(
+                alloc, which, argument,
+            )?)),
+            AssertionKeyword::Array(which) => Ok(Test::Array(ArrayTest::read(which, argument)?)),
+            AssertionKeyword::Object(which) => Ok(Test::Object(ObjectTest::read(
+                alloc, which, argument,
+            )?)),
+        }
+    }
+
+    fn keyword(&self) -> AssertionKeyword
+        ensures { result ≡ keyword_tested self.now }
+    {
+        match self {
+            Test::AnyType(test) => AssertionKeyword::AnyType(test.keyword()),
+            Test::Number(test) => AssertionKeyword::Number(test.keyword()),
+            Test::String(test) => AssertionKeyword::String(test.keyword()),
+            Test::Array(test) => AssertionKeyword::Array(test.keyword()),
+            Test::Object(test) => AssertionKeyword::Object(test.keyword()),
+        }
+    }
 }
 
 /// A keyword that judges a value by itself, with its argument (JSON Schema Validation, section 6). Contracts see it
@@ -61,7 +81,7 @@ impl Drop for Assertion {
 
 impl Model for Assertion {
     ghost use Rattle.js_assert.specs.Assertion.{Asserted, asserted_code};
-    ghost use Rattle.js_assert.specs.contracts.keyword.Keyword.{the_row};
+    ghost use Rattle.js_keyword.specs.contracts.assertion_keyword.AssertionKeyword.{the_row};
 
     ghost Value = { Asserted };
 
@@ -77,13 +97,12 @@ impl Model for Assertion {
 }
 
 impl Assertion {
-    ghost use Rattle.js_doc.specs.Seen.{value_of};
     ghost use Rattle.js_doc.specs.Value.{Value};
     ghost use Rattle.js_assert.specs.Argument.{on_string, string};
     ghost use Rattle.js_assert.specs.Assertion.{asserted, pattern_asked, says};
     ghost use Rattle.js_assert.specs.ErrorText.{error, error_text};
     ghost use Rattle.js_assert.specs.Shape.{has_shape, IsKeywordFault};
-    ghost use Rattle.js_assert.specs.Keyword.{name_of};
+    ghost use Rattle.js_keyword.specs.AssertionKeyword.{name_of};
     ghost use Rattle.js_assert.specs.Pattern.{is_pattern, matches};
 
     /// The assertion that the keyword of this name makes with this argument, among these members of its schema;
@@ -105,11 +124,11 @@ impl Assertion {
             keyword.now ≡ codes "pattern" → is_pattern (string (value_of argument.now)) ≡ true) }
         ensures refused { IfErr result (IsKeywordFault keyword.now (value_of argument.now)) }
     {
-        let Some(keyword) = Keyword::keyword_named(keyword) else {
+        let Some(keyword) = AssertionKeyword::named(keyword) else {
             return Ok(None);
         };
-        let test = test_of(alloc, keyword, argument)?;
-        let beside_contains = siblings.get("contains").is_some();
+        let test = Test::read(alloc, keyword, argument)?;
+        let beside_contains = siblings.get(Keyword::Contains.name()).is_some();
         Ok(Some(Assertion {
             test,
             beside_contains,
@@ -120,28 +139,7 @@ impl Assertion {
     pub fn keyword(&self) -> &'static str
         ensures { result.now ≡ name_of self.now.keyword }
     {
-        match &self.test {
-            Test::Type(_) => "type",
-            Test::Enum(_) => "enum",
-            Test::Const(_) => "const",
-            Test::MultipleOf(_) => "multipleOf",
-            Test::Maximum(_) => "maximum",
-            Test::ExclusiveMaximum(_) => "exclusiveMaximum",
-            Test::Minimum(_) => "minimum",
-            Test::ExclusiveMinimum(_) => "exclusiveMinimum",
-            Test::MaxLength(_) => "maxLength",
-            Test::MinLength(_) => "minLength",
-            Test::Pattern(_) => "pattern",
-            Test::MaxItems(_) => "maxItems",
-            Test::MinItems(_) => "minItems",
-            Test::UniqueItems(_) => "uniqueItems",
-            Test::MaxContains(_) => "maxContains",
-            Test::MinContains(_) => "minContains",
-            Test::MaxProperties(_) => "maxProperties",
-            Test::MinProperties(_) => "minProperties",
-            Test::Required(_) => "required",
-            Test::DependentRequired(_) => "dependentRequired",
-        }
+        self.test.keyword().name()
     }
 
     /// The pattern that a string has to match (JSON Schema Validation, section 6.3.3), where the keyword is `pattern`.
@@ -152,7 +150,7 @@ impl Assertion {
             → says self.now v matching ≡ on_string v (λ s. matches p.now s)) }
     {
         match &self.test {
-            Test::Pattern(pattern) => Some(pattern),
+            Test::String(StringTest::Pattern(pattern)) => Some(pattern),
             _ => None,
         }
     }
@@ -165,30 +163,12 @@ impl Assertion {
     pub fn holds(&self, alloc: Global, value: &Doc, matching: u64) -> Result<bool, Memory>
         ensures { IfOk result (λ b. b ≡ says self.now (value_of value.now) matching) }
     {
-        let beside = self.beside_contains;
         match &self.test {
-            Test::Type(types) => Ok(types.take(value)),
-            Test::Enum(choices) => Ok(any_type::enumeration(choices, value)),
-            Test::Const(doc) => Ok(**doc == *value),
-            Test::MultipleOf(divisor) => Ok(numbers::multiple_of(*divisor, value)),
-            Test::Maximum(limit) => Ok(numbers::maximum(**limit, value)),
-            Test::ExclusiveMaximum(limit) => Ok(numbers::exclusive_maximum(**limit, value)),
-            Test::Minimum(limit) => Ok(numbers::minimum(**limit, value)),
-            Test::ExclusiveMinimum(limit) => Ok(numbers::exclusive_minimum(**limit, value)),
-            Test::MaxLength(limit) => Ok(strings::max_length(*limit, value)),
-            Test::MinLength(limit) => Ok(strings::min_length(*limit, value)),
-            Test::Pattern(pattern) => strings::has_match(alloc, pattern, value),
-            Test::MaxItems(limit) => Ok(arrays::max_items(*limit, value)),
-            Test::MinItems(limit) => Ok(arrays::min_items(*limit, value)),
-            Test::UniqueItems(asked) => arrays::unique_items(alloc, *asked, value),
-            Test::MaxContains(limit) => Ok(arrays::max_contains(*limit, beside, value, matching)),
-            Test::MinContains(limit) => Ok(arrays::min_contains(*limit, beside, value, matching)),
-            Test::MaxProperties(limit) => Ok(objects::max_properties(*limit, value)),
-            Test::MinProperties(limit) => Ok(objects::min_properties(*limit, value)),
-            Test::Required(names) => Ok(objects::required(names.as_slice(), value)),
-            Test::DependentRequired(dependences) => {
-                Ok(objects::dependent_required(dependences.as_slice(), value))
-            }
+            Test::AnyType(test) => Ok(test.holds(value)),
+            Test::Number(test) => Ok(test.holds(value)),
+            Test::String(test) => test.holds(alloc, value),
+            Test::Array(test) => test.holds(alloc, self.beside_contains, value, matching),
+            Test::Object(test) => Ok(test.holds(value)),
         }
     }
 
@@ -199,7 +179,13 @@ impl Assertion {
     pub fn error(&self, alloc: Global, value: &Doc, matching: u64) -> Result<String, Memory>
         ensures { IfOk result (λ s. string_bytes s ≡ error_text self.now (value_of value.now) matching) }
     {
-        error_text(alloc, &self.test, value, matching)
+        match &self.test {
+            Test::AnyType(test) => test.error_text(alloc, value),
+            Test::Number(test) => test.error_text(alloc),
+            Test::String(test) => test.error_text(alloc, value),
+            Test::Array(test) => test.error_text(alloc, value, matching),
+            Test::Object(test) => test.error_text(alloc, value),
+        }
     }
 
     /// The error's text, or None where the value meets the assertion.

@@ -1,11 +1,10 @@
 //! The types that `type` can name (JSON Schema Validation, section 6.1.1).
 ghost use Rattle.std.specs.Prelude.{◌≡◌, IfSome, is_some};
-ghost use Rattle.js_assert.specs.Shape.{is_type_name};
+ghost use Rattle.js_assert.specs.ArgumentShape.{is_type_name};
 ghost use Rattle.std.specs.List.{list_any};
-ghost use Rattle.js_assert.specs.Argument.{strings};
 ghost use Rattle.js_doc.specs.Seen.{value_of};
-ghost use Rattle.js_assert.specs.Assertion.{is_type_of};
-ghost use Rattle.js_assert.specs.Types.{type_name, types_value};
+ghost use Rattle.js_assert.specs.AnyType.{is_type_of};
+ghost use Rattle.js_assert.specs.Types.{type_name};
 
 use js_doc::Doc;
 
@@ -18,13 +17,6 @@ pub(crate) enum InstanceType {
     Number,
     Text,
     Integer,
-}
-
-/// What `type` names: one type, or several of them.
-#[derive(Drop)]
-pub(crate) enum Types {
-    One(InstanceType),
-    Several(Vec<InstanceType>),
 }
 
 impl InstanceType {
@@ -61,19 +53,8 @@ impl InstanceType {
     }
 }
 
-impl Types {
-    /// Whether the value is of one of the types.
-    pub(crate) fn take(&self, value: &Doc) -> bool
-        ensures { result ≡ list_any (is_type_of (value_of value.now)) (strings (types_value self.now)) }
-    {
-        match self {
-            Types::One(one) => one.takes(value),
-            Types::Several(several) => is_of_any(several.as_slice(), value),
-        }
-    }
-}
-
-fn is_of_any(types: &[InstanceType], value: &Doc) -> bool
+/// Whether the value is of one of the types.
+pub(crate) fn is_of_any(types: &[InstanceType], value: &Doc) -> bool
     ensures { result ≡ list_any (λ t. is_type_of (value_of value.now) (type_name t)) types.now }
 {
     types.iter().any(|one| one.takes(value))

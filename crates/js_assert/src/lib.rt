@@ -2,27 +2,24 @@
 #![tactic(auto)]
 
 mod any_type;
+mod argument_shape;
 mod arrays;
 mod assertion;
 mod choices;
-mod error_text;
 mod fault;
 mod instance_type;
-mod keyword;
 pub mod laws;
 mod missing;
 mod numbers;
 mod objects;
 mod pattern;
-mod reading;
 mod searcher;
-mod shape;
 pub mod sharing_laws;
 mod strings;
+mod text_parts;
 mod unique;
 
 pub use assertion::Assertion;
 pub use fault::KeywordFault;
-pub use keyword::is_assertion;
 pub use pattern::{Pattern, PatternFault};
 pub use searcher::Searcher;

@@ -5,7 +5,7 @@ ghost use Rattle.js_doc.specs.Seen.{value_of};
 ghost use Rattle.js_doc.specs.Value.{text};
 ghost use Rattle.js_doc.specs.Parts.{members_of};
 ghost use Rattle.js_assert.specs.Dependences.{dependence_of};
-ghost use Rattle.js_assert.specs.ErrorText.{names_needed, missing, sorted_with, without};
+ghost use Rattle.js_assert.specs.Objects.{names_needed, missing, sorted_with, without};
 ghost use Rattle.js_assert.specs.Names.{names_seen};
 
 use crate::objects::{Dependence, is_member};

@@ -1,18 +1,25 @@
 //! The assertions on objects (JSON Schema Validation, section 6.5). A value of another type passes.
 #![tactic(auto, using(crate::proofs::ListedValues::object_rules))]
 
-ghost use Rattle.std.specs.Prelude.{◌≡◌, false, pos, map, length};
-ghost use Rattle.js_doc.specs.Seen.{value_of};
+ghost use Rattle.std.specs.Prelude.{◌≡◌, IfOk, IfErr, length, string_bytes};
 ghost use Rattle.std.specs.List.{list_all};
-ghost use Rattle.js_doc.specs.Value.{whole, object, members};
+ghost use Rattle.js_doc.specs.Seen.{value_of};
 ghost use Rattle.js_doc.specs.Members.{has_name};
 ghost use Rattle.js_doc.specs.Parts.{members_of};
-ghost use Rattle.js_assert.specs.Assertion.{has_each, implies, says_by};
-ghost use Rattle.js_assert.specs.Dependences.{dependence_of};
-ghost use Rattle.js_assert.specs.Names.{names_value};
+ghost use Rattle.js_assert.specs.Argument.{implies, on_object};
+ghost use Rattle.js_assert.specs.Dependences.{dependences_value};
+ghost use Rattle.js_assert.specs.Objects.{has_each, object_argument, object_keyword, object_says, object_text};
+ghost use Rattle.js_assert.specs.Seen.{IsTestOf};
+ghost use Rattle.js_assert.specs.Shape.{IsFaultOf};
 
-use crate::keyword::Keyword;
-use js_doc::{Doc, Members, Text};
+use crate::argument_shape::{count, dependences, name_list};
+use crate::assertion::Test;
+use crate::fault::KeywordFault;
+use crate::missing::{missing_of, missing_of_all};
+use crate::text_parts::{at_least, at_most};
+use js_doc::{Doc, Members, Memory, Text};
+use js_keyword::{AssertionKeyword, ObjectKeyword};
+use std::alloc::Global;
 
 /// A member's name, and the names that must be there if it is.
 #[derive(Drop)]
@@ -21,41 +28,95 @@ pub(crate) struct Dependence {
     pub(crate) needs: Vec<Text>,
 }
 
-pub(crate) fn max_properties(limit: u64, value: &Doc) -> bool
-    ensures { result ≡ says_by (whole (pos limit)) false (value_of value.now) 0 Keyword.MaxProperties }
-{
-    match value {
-        Doc::Members(members) => members.len() as u64 <= limit,
-        _ => true,
+/// What a keyword tests, with its argument read.
+#[derive(Drop)]
+pub(crate) enum ObjectTest {
+    MaxProperties(u64),
+    MinProperties(u64),
+    Required(Vec<Text>),
+    DependentRequired(Vec<Dependence>),
+}
+
+impl ObjectTest {
+    pub(crate) fn read(
+        alloc: Global,
+        keyword: ObjectKeyword,
+        argument: &Doc,
+    ) -> Result<ObjectTest, KeywordFault>
+        ensures ok { IfOk result
+            (λ t. IsTestOf (AssertionKeyword.Object keyword) (value_of argument.now) (Test.Object t)) }
+        ensures refused { IfErr result (IsFaultOf (AssertionKeyword.Object keyword) (value_of argument.now)) }
+    {
+        match keyword {
+            ObjectKeyword::MaxProperties => Ok(ObjectTest::MaxProperties(count(argument)?)),
+            ObjectKeyword::MinProperties => Ok(ObjectTest::MinProperties(count(argument)?)),
+            ObjectKeyword::Required => Ok(ObjectTest::Required(name_list(alloc, argument)?)),
+            ObjectKeyword::DependentRequired => {
+                Ok(ObjectTest::DependentRequired(dependences(alloc, argument)?))
+            }
+        }
+    }
+
+    pub(crate) fn keyword(&self) -> ObjectKeyword
+        ensures { result ≡ object_keyword self.now }
+    {
+        match self {
+            ObjectTest::MaxProperties(_) => ObjectKeyword::MaxProperties,
+            ObjectTest::MinProperties(_) => ObjectKeyword::MinProperties,
+            ObjectTest::Required(_) => ObjectKeyword::Required,
+            ObjectTest::DependentRequired(_) => ObjectKeyword::DependentRequired,
+        }
+    }
+
+    /// Whether the value meets the test.
+    pub(crate) fn holds(&self, value: &Doc) -> bool
+        ensures { result
+            ≡ on_object (value_of value.now) (object_says (object_argument self.now) (object_keyword self.now)) }
+    {
+        match value {
+            Doc::Members(members) => self.is_met_by(members),
+            _ => true,
+        }
+    }
+
+    fn is_met_by(&self, members: &Members) -> bool
+        ensures { result ≡ object_says (object_argument self.now) (object_keyword self.now) members.now }
+    {
+        match self {
+            ObjectTest::MaxProperties(limit) => members.len() as u64 <= *limit,
+            ObjectTest::MinProperties(limit) => *limit <= members.len() as u64,
+            ObjectTest::Required(names) => has_all(members, names.as_slice()),
+            ObjectTest::DependentRequired(dependences) => {
+                dependent_required(members, dependences.as_slice())
+            }
+        }
+    }
+
+    /// The text of the error for a value that doesn't meet the test.
+    pub(crate) fn error_text(&self, alloc: Global, value: &Doc) -> Result<String, Memory>
+        ensures { IfOk result (λ s. string_bytes s
+            ≡ object_text (object_argument self.now) (value_of value.now) (object_keyword self.now)) }
+    {
+        match self {
+            ObjectTest::MaxProperties(limit) => {
+                at_most(alloc, member_count(value), " members", *limit)
+            }
+            ObjectTest::MinProperties(limit) => {
+                at_least(alloc, member_count(value), " members", *limit)
+            }
+            ObjectTest::Required(names) => missing_of(alloc, names.as_slice(), value),
+            ObjectTest::DependentRequired(dependences) => {
+                missing_of_all(alloc, dependences.as_slice(), value)
+            }
+        }
     }
 }
 
-pub(crate) fn min_properties(limit: u64, value: &Doc) -> bool
-    ensures { result ≡ says_by (whole (pos limit)) false (value_of value.now) 0 Keyword.MinProperties }
+fn dependent_required(members: &Members, dependences: &[Dependence]) -> bool
+    ensures { result
+        ≡ object_says (dependences_value dependences.now) ObjectKeyword.DependentRequired members.now }
 {
-    match value {
-        Doc::Members(members) => limit <= members.len() as u64,
-        _ => true,
-    }
-}
-
-pub(crate) fn required(names: &[Text], value: &Doc) -> bool
-    ensures { result ≡ says_by (names_value names.now) false (value_of value.now) 0 Keyword.Required }
-{
-    match value {
-        Doc::Members(members) => has_all(members, names),
-        _ => true,
-    }
-}
-
-pub(crate) fn dependent_required(dependences: &[Dependence], value: &Doc) -> bool
-    ensures { result ≡ says_by (object (members (map dependence_of dependences.now))) false
-        (value_of value.now) 0 Keyword.DependentRequired }
-{
-    match value {
-        Doc::Members(members) => meets_all(members, dependences),
-        _ => true,
-    }
+    meets_all(members, dependences)
 }
 
 fn meets_all(members: &Members, dependences: &[Dependence]) -> bool
@@ -96,8 +157,8 @@ pub(crate) fn is_member(value: &Doc, name: &Text) -> bool
     }
 }
 
-/// How many members the value has, if it is an object.
-pub(crate) fn member_count(value: &Doc) -> u64
+// How many members the value has, if it is an object.
+fn member_count(value: &Doc) -> u64
     ensures { result ≡ length (members_of (value_of value.now)) }
 {
     match value {

@@ -4,7 +4,7 @@ ghost use Rattle.js_assert.specs.contracts.pattern.Pattern as Patterns;
 ghost use Rattle.js_assert.specs.contracts.assertion.Assertion as Assertions;
 
 use crate::choices::Choices;
-use crate::instance_type::Types;
+use crate::instance_type::InstanceType;
 use crate::objects::Dependence;
 use js_doc::{Doc, Text, Whole};
 use regex_dfa::Dfa;
@@ -37,7 +37,7 @@ pub fn assertions_cross()
     ensures sync { IsSync Assertions.the_row }
 {
     patterns_cross();
-    crosses::<Types>();
+    crosses::<InstanceType>();
     crosses::<Choices>();
     crosses::<Doc>();
     crosses::<NonZeroU64>();

@@ -1,8 +1,10 @@
 //! The least pair of equal items (JSON Schema Validation, section 6.4.3).
-ghost use Rattle.std.specs.Prelude.{◌≡◌, ◌≤◌, IfOk, map, drop, length};
+ghost use Rattle.std.specs.Prelude.{◌≡◌, ◌≤◌, IfOk, Some, map, drop, length, string_bytes};
 ghost use Rattle.js_doc.specs.Seen.{value_of};
-ghost use Rattle.js_assert.specs.ErrorText.{first_equal, equal_pair};
+ghost use Rattle.js_doc.specs.Parts.{items_of};
+ghost use Rattle.js_assert.specs.Arrays.{first_equal, equal_pair, pair_text};
 
+use crate::text_parts::put_number;
 use js_doc::{Doc, Memory};
 use std::alloc::Global;
 use std::collections::BTreeSet;
@@ -58,4 +60,28 @@ fn first_equal_from(docs: &[Doc], start: usize, doc: &Doc) -> Option<usize>
         }
     }
     None
+}
+
+/// The least pair of equal items, by their positions.
+pub(crate) fn equal_items(alloc: Global, value: &Doc) -> Result<String, Memory>
+    ensures { IfOk result (λ s. string_bytes s ≡ pair_text (equal_pair 0 (items_of (value_of value.now)))) }
+{
+    let Doc::List(items) = value else {
+        return Ok(String::new(alloc));
+    };
+    match least_equal_pair(alloc, items.as_slice())? {
+        Some(pair) => equal_text(alloc, pair),
+        None => Ok(String::new(alloc)),
+    }
+}
+
+fn equal_text(alloc: Global, pair: (usize, usize)) -> Result<String, Memory>
+    ensures { IfOk result (λ s. string_bytes s ≡ pair_text (Some pair)) }
+{
+    let mut text = String::from_str(alloc, "items ")?;
+    put_number(&mut text, pair.0)?;
+    text.push_str(" and ")?;
+    put_number(&mut text, pair.1)?;
+    text.push_str(" are equal")?;
+    Ok(text)
 }

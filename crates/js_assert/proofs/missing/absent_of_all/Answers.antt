@@ -1,7 +1,7 @@
 use Rattle.std.proofs.Common.{sym, ap, ◌∙◌}
 use Rattle.js_doc.specs.Seen.{value_of}
 use Rattle.js_doc.specs.Parts.{members_of}
-use Rattle.js_assert.specs.ErrorText.{without, sorted_with}
+use Rattle.js_assert.specs.Objects.{without, sorted_with}
 use Rattle.js_assert.specs.Names.{names_seen}
 use Rattle.js_assert.proofs.Dependent.{asked_more}
 use Rattle.js_assert.proofs.missing.absent_of_all.Goals as goal

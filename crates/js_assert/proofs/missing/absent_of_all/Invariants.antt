@@ -2,7 +2,7 @@ use Rattle.std.proofs.Common.{◌≡◌, [], map, drop}
 use Rattle.js_doc.specs.Seen.{value_of}
 use Rattle.js_doc.specs.Parts.{members_of}
 use Rattle.js_assert.specs.Dependences.{dependence_of}
-use Rattle.js_assert.specs.ErrorText.{without, names_needed, sorted_with}
+use Rattle.js_assert.specs.Objects.{without, names_needed, sorted_with}
 use Rattle.js_assert.specs.Names.{names_seen}
 use Rattle.js_assert.proofs.missing.absent_of_all.Given as goal
 

@@ -3,7 +3,7 @@ use Rattle.js_doc.specs.Compact.{compact_items}
 use Rattle.js_doc.specs.Seen.{value_of}
 use Rattle.js_doc.specs.Value.{items, text}
 use Rattle.js_doc.specs.Parts.{members_of}
-use Rattle.js_assert.specs.ErrorText.{without, missing}
+use Rattle.js_assert.specs.Objects.{without, missing}
 use Rattle.js_assert.proofs.missing.missing_of.Given as goal
 
 abbrev pub invariant-loop-name : goal.invariant-loop-name

@@ -4,7 +4,7 @@ use Rattle.js_doc.specs.Seen.{value_of}
 use Rattle.js_doc.specs.Value.{items, text}
 use Rattle.js_doc.specs.Parts.{members_of}
 use Rattle.js_assert.specs.Dependences.{dependence_of}
-use Rattle.js_assert.specs.ErrorText.{names_needed, missing, sorted_with, without}
+use Rattle.js_assert.specs.Objects.{names_needed, missing, sorted_with, without}
 use Rattle.js_assert.specs.Names.{names_seen}
 use Rattle.js_assert.proofs.missing.missing_of_all.Given as goal
 

@@ -1,6 +1,6 @@
 use Rattle.std.proofs.Common.{◌≡◌, map, drop}
 use Rattle.js_doc.specs.Seen.{value_of}
-use Rattle.js_assert.specs.ErrorText.{first_equal}
+use Rattle.js_assert.specs.Arrays.{first_equal}
 use Rattle.js_assert.proofs.unique.first_equal_from.Given as goal
 
 abbrev pub invariant-loop-j : goal.invariant-loop-j

@@ -1,6 +1,6 @@
 use Rattle.std.proofs.Common.{◌≡◌, ◌≤◌, map, drop, length}
 use Rattle.js_doc.specs.Seen.{value_of}
-use Rattle.js_assert.specs.ErrorText.{equal_pair}
+use Rattle.js_assert.specs.Arrays.{equal_pair}
 use Rattle.js_assert.proofs.Repeated.{HasTexts}
 use Rattle.js_assert.proofs.unique.first_repeated.Given as goal
 

@@ -1,5 +1,0 @@
-use Rattle.js_doc.proofs.PartLists.{item_list-items}
-use Rattle.js_assert.proofs.any_type.enumeration.Goals as goal
-
-pub returns : goal.returns
-returns c = rw (item_list-items c.args.choices.now) c.contains.ensures

@@ -1,0 +1,2 @@
+pub mod AssertionKeyword
+pub mod Keyword
