@@ -229,11 +229,11 @@ def of_place(place, number):
 
 
 def word(keyword):
-    """The variant of `KeywordName` of this keyword."""
+    """The variant of `Keyword` of this keyword."""
     name = keyword.removeprefix("$")
     variant = name[0].upper() + name[1:]
     if keyword in SHAPES:
-        return "Assertion"
+        return f"Assertion({variant})"
     if keyword in OTHERS:
         return f"Other({variant})"
     return variant if keyword in STANDARD else "Other(Unknown)"

@@ -1,5 +1,4 @@
 pub mod MemberLoops
-pub mod NameTables
 pub mod Standing
 pub mod Listing
 pub mod Indexing

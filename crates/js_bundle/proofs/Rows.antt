@@ -7,7 +7,7 @@ use Rattle.url.specs.Parser.{parse_url}
 use Rattle.url.specs.Parts.{Parts}
 use Rattle.js_doc.specs.Pointer.{Tokens}
 use Rattle.js_doc.specs.Value.{Value, truth, text, list, object, items, members, whole}
-use Rattle.js_assert.specs.Keyword.{keyword_named}
+use Rattle.js_keyword.specs.AssertionKeyword.{keyword_named}
 use Rattle.js_bundle.specs.declared.refusal.Refusal.{Refusal}
 use Rattle.js_bundle.specs.declared.refusal.RefusalKind.{RefusalKind}
 use Rattle.js_bundle.specs.declared.refusal.RefusalKind.TheVariants.{BadKeyword, NotASchema, BadId, BadAnchor}
@@ -16,6 +16,7 @@ use Rattle.js_bundle.specs.declared.refusal.RefusalKind.TheVariants.{Unresolved,
 use Rattle.js_bundle.specs.Document.{Documents}
 use Rattle.js_bundle.specs.Keyword.{Text}
 use Rattle.js_bundle.specs.Url.{printed, without_fragment, parsed}
+use Rattle.js_keyword.specs.Keyword.{which_keyword}
 use Rattle.js_bundle.specs.Place.{holding}
 use Rattle.js_bundle.specs.Resource.{Site, sites}
 use Rattle.js_bundle.specs.Names.{named}
@@ -130,7 +131,7 @@ passed_over =
 -- a resource within a resource: where the schemas stand
 pub embedded_locations : locations embedded ≡ codes "https://a.example/x#" ∷ codes "https://a.example/y#"
     ∷ codes "https://a.example/y#/not" ∷ codes "https://a.example/x#/allOf/0" ∷ []
-unfolding url_on_literals holding printed without_fragment
+unfolding url_on_literals holding which_keyword printed without_fragment
 embedded_locations = refl
 
 -- URIs, and the location of what each names in these documents
@@ -149,7 +150,7 @@ named_rows =
     []
 
 pub names_are : map (λ row. location_of embedded row.0) named_rows ≡ map (λ row. row.1) named_rows
-unfolding url_on_literals holding printed without_fragment
+unfolding url_on_literals holding which_keyword printed without_fragment
 names_are = refl
 
 -- documents, a path in them, and where the dynamic reference of its last place leads
@@ -193,13 +194,13 @@ dynamic_rows =
     []
 
 pub dynamic_targets_are : map (λ row. dynamic_location row.0 row.1) dynamic_rows ≡ map (λ row. Some row.2) dynamic_rows
-unfolding url_on_literals holding printed without_fragment
+unfolding url_on_literals holding which_keyword printed without_fragment
 dynamic_targets_are = refl
 
 -- `$ref` leads to one place
 pub target_of_ref : option_and_then (λ place. option_map (λ t. absolute_location t []) (ref_target (sites trees) place))
     (at_location trees (codes "https://example.com/strict-tree")) ≡ Some (codes "https://example.com/tree#")
-unfolding url_on_literals holding printed without_fragment
+unfolding url_on_literals holding which_keyword printed without_fragment
 target_of_ref = refl
 
 -- ---- refusals
@@ -336,5 +337,5 @@ refusal_rows =
     []
 
 pub refusals_are : map (λ row. first_refusal row.0) refusal_rows ≡ map (λ row. row.1) refusal_rows
-unfolding url_on_literals holding printed without_fragment keyword_named
+unfolding url_on_literals holding which_keyword printed without_fragment keyword_named
 refusals_are = refl

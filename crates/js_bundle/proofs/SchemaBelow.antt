@@ -9,8 +9,8 @@ use Rattle.std.proofs.lemmas.Option.{slice_get-get_or, slice_get-map, slice_get_
 use Rattle.js_doc.specs.Seen.{value_of}
 use Rattle.js_doc.specs.Value.{Value, Values, items}
 use Rattle.js_doc.specs.declared.doc.Doc.{Doc}
-use Rattle.js_bundle.specs.declared.scan.holding.Holding.{Holding}
-use Rattle.js_bundle.specs.declared.scan.holding.Holding.TheVariants.{One, Listed, Named, Nothing}
+use Rattle.js_keyword.specs.declared.argument_form.Holding.{Holding}
+use Rattle.js_keyword.specs.declared.argument_form.Holding.TheVariants.{One, Listed, Named, Nothing}
 use Rattle.js_bundle.specs.Document.{Documents}
 use Rattle.js_bundle.specs.Keyword.{Text, argument}
 use Rattle.js_bundle.specs.Place.{holding, values}

@@ -13,8 +13,8 @@ use Rattle.js_doc.specs.Value.{Value, null, truth, whole, text, list, object, It
 use Rattle.js_doc.specs.Value.{no_items, item, Members, no_members, member}
 use Rattle.js_doc.specs.Parts.{member_list, members_of}
 use Rattle.js_doc.proofs.TokenLookup.{is_text-refl, is_text-sound}
-use Rattle.js_bundle.specs.declared.scan.holding.Holding.{Holding}
-use Rattle.js_bundle.specs.declared.scan.holding.Holding.TheVariants.{One, Listed, Named, Nothing}
+use Rattle.js_keyword.specs.declared.argument_form.Holding.{Holding}
+use Rattle.js_keyword.specs.declared.argument_form.Holding.TheVariants.{One, Listed, Named, Nothing}
 use Rattle.js_bundle.specs.Document.{Document, Documents}
 use Rattle.js_bundle.specs.Keyword.{Text}
 use Rattle.js_bundle.specs.Place.{holding, values, items_in, IsPlace, at_root, in_keyword, in_list, in_object, Located}

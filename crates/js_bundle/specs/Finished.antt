@@ -12,7 +12,7 @@ use Rattle.js_bundle.specs.Finding.{dynamic_at, number_of_target}
 use Rattle.js_bundle.specs.code.PlaceNumbers.{under_number}
 use Rattle.js_bundle.specs.code.PartsByPlace.{ArePartsByPlace}
 use Rattle.js_bundle.specs.code.Index.{IsIndexOf}
-use Rattle.js_bundle.specs.KeywordName.{member_keywords}
+use Rattle.js_bundle.specs.MemberKeywords.{member_keywords}
 use Rattle.js_bundle.specs.Refusals.{candidates}
 use Rattle.js_bundle.specs.Resource.{sites}
 use Rattle.js_bundle.specs.ResourceTable.{IsResourceTable}

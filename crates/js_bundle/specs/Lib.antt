@@ -4,7 +4,7 @@ pub mod Place
 pub mod PlaceLaws
 pub mod Url
 pub mod Resource
-pub mod KeywordName
+pub mod MemberKeywords
 pub mod Location
 pub mod Names
 pub mod Target

@@ -1,41 +1,20 @@
 -- Where schemas stand: the places of a document (JSON Schema Core, sections 4.3.5, 8.2.4, 10 and 11).
 -- A document's root is a place, and so is each schema that a keyword of a place holds; nothing else is one.
-use Rattle.std.specs.Prelude.{◌≡◌, ℕ, suc, List, [], ◌∷◌, ◌++◌, Some, decimal, codes}
-use Rattle.std.specs.Prelude.{bytes_eq, slice_get, if◌then◌else◌}
-use Rattle.std.specs.List.{list_any, IsAmong}
+use Rattle.std.specs.Prelude.{◌≡◌, ℕ, suc, List, [], ◌∷◌, ◌++◌, Some, decimal, slice_get}
+use Rattle.std.specs.List.{IsAmong}
 use Rattle.url.specs.Parts.{Parts}
 use Rattle.js_doc.specs.Pointer.{Tokens}
 use Rattle.js_doc.specs.Value.{Value, list, object, Values, Items, no_items, item, Members, no_members, member}
 use Rattle.js_doc.specs.Parts.{members_of}
-use Rattle.js_bundle.specs.declared.scan.holding.Holding.{Holding}
-use Rattle.js_bundle.specs.declared.scan.holding.Holding.TheVariants.{One, Listed, Named, Nothing}
+use Rattle.js_keyword.specs.declared.argument_form.Holding.{Holding}
+use Rattle.js_keyword.specs.declared.argument_form.Holding.TheVariants.{One, Listed, Named, Nothing}
+use Rattle.js_keyword.specs.Keyword.{subschemas, which_keyword}
 use Rattle.js_bundle.specs.Document.{Documents}
 use Rattle.js_bundle.specs.Keyword.{Text}
 
--- ---- which keywords hold schemas
-
--- the argument is a schema (sections 10.2.1.4, 10.2.2.1 to 10.2.2.3, 10.3.1.2, 10.3.1.3, 10.3.2.3, 10.3.2.4, 11.2,
--- 11.3)
-abbrev pub one_schema : List Text
-one_schema =
-    codes "not" ∷ codes "if" ∷ codes "then" ∷ codes "else" ∷ codes "items" ∷ codes "contains"
-    ∷ codes "additionalProperties" ∷ codes "propertyNames"
-    ∷ codes "unevaluatedItems" ∷ codes "unevaluatedProperties" ∷ []
-
--- its items are schemas (sections 10.2.1.1 to 10.2.1.3, 10.3.1.1)
-abbrev pub list_of_schemas : List Text
-list_of_schemas = codes "allOf" ∷ codes "anyOf" ∷ codes "oneOf" ∷ codes "prefixItems" ∷ []
-
--- its members are schemas (sections 8.2.4, 10.2.2.4, 10.3.2.1, 10.3.2.2; `definitions` is taken as `$defs`)
-abbrev pub object_of_schemas : List Text
-object_of_schemas = codes "$defs" ∷ codes "definitions" ∷ codes "properties" ∷ codes "patternProperties"
-    ∷ codes "dependentSchemas" ∷ []
-
+-- how the argument of the keyword with this name holds schemas
 unfoldable pub holding : Text → Holding
-holding keyword =
-    if list_any (bytes_eq keyword) one_schema then One
-    else (if list_any (bytes_eq keyword) list_of_schemas then Listed
-    else (if list_any (bytes_eq keyword) object_of_schemas then Named else Nothing))
+holding name = subschemas (which_keyword name)
 
 -- ---- the least set
 

@@ -8,6 +8,10 @@ use Rattle.url.specs.Parser.{Parsed, parse_url}
 use Rattle.js_doc.specs.Pointer.{Tokens}
 use Rattle.js_doc.specs.Value.{Value, text}
 use Rattle.js_doc.specs.Parts.{members_of}
+use Rattle.js_keyword.specs.declared.keyword.Keyword.{Keyword}
+use Rattle.js_keyword.specs.declared.keyword.Keyword.TheVariants.{Other}
+use Rattle.js_keyword.specs.declared.other_keyword.OtherKeyword.TheVariants.{Schema, Id, Anchor, DynamicAnchor}
+use Rattle.js_keyword.specs.Keyword.{which_keyword}
 use Rattle.js_assert.specs.Shape as assertion
 use Rattle.js_assert.specs.Pattern.{is_in_grammar, nests_too_deep}
 use Rattle.js_bundle.specs.declared.refusal.Refusal.{Refusal}
@@ -111,13 +115,16 @@ assertion_rules place k argument =
     when (not (assertion.has_shape k argument)) (decided place (k ∷ []) BadKeyword)
     ++ (if is k (codes "pattern") then on_text (at_pattern place (k ∷ [])) argument else [])
 
--- of a text argument, by its keyword's name
+-- of a text argument, by its keyword
+abbrev pub rules_of_text : List Site → Site → Tokens → Text → Keyword → List Candidate
+rules_of_text before place further t (Other Schema) = at_dialect place further t
+rules_of_text before place further t (Other Id) = at_id before place further t
+rules_of_text before place further t (Other Anchor) = at_anchor before place further t
+rules_of_text before place further t (Other DynamicAnchor) = at_anchor before place further t
+rules_of_text before place further t _ = []
+
 abbrev pub text_rules : List Site → Site → Text → Text → List Candidate
-text_rules before place k t =
-    if is k (codes "$schema") then at_dialect place (k ∷ []) t
-    else (if is k (codes "$id") then at_id before place (k ∷ []) t
-    else (if is k (codes "$anchor") then at_anchor before place (k ∷ []) t
-    else (if is k (codes "$dynamicAnchor") then at_anchor before place (k ∷ []) t else [])))
+text_rules before place k t = rules_of_text before place (k ∷ []) t (which_keyword k)
 
 -- of `patternProperties`: its names are patterns (section 10.3.2.2)
 abbrev pub name_rules : Site → Text → Value → List Candidate

@@ -1,10 +1,11 @@
 -- The shape of each argument that isn't an assertion's (JSON Schema Core, sections 8, 10 and 11).
-use Rattle.std.specs.Prelude.{List, [], ◌∷◌, Bool, true, false, ◌||◌, codes, bytes_eq, if◌then◌else◌}
-use Rattle.std.specs.List.{list_any}
+use Rattle.std.specs.Prelude.{Bool, true, false, ◌||◌}
 use Rattle.js_doc.specs.Value.{Value, list, object, item}
+use Rattle.js_keyword.specs.declared.argument_form.ArgumentForm.{ArgumentForm}
+use Rattle.js_keyword.specs.declared.argument_form.ArgumentForm.TheVariants as form
+use Rattle.js_keyword.specs.Keyword.{row_of, which_keyword}
 use Rattle.js_assert.specs.Shape.{is_boolean, is_string}
 use Rattle.js_bundle.specs.Keyword.{Text}
-use Rattle.js_bundle.specs.Place.{list_of_schemas, object_of_schemas}
 
 abbrev pub is_filled_list : Value → Bool
 is_filled_list (list (item v vs)) = true
@@ -18,15 +19,14 @@ is_object _ = false
 abbrev pub is_schema : Value → Bool
 is_schema v = is_object v || is_boolean v
 
--- sections 8.1.1, 8.2.1, 8.2.3 and 8.2.2
-abbrev pub text_keywords : List Text
-text_keywords = codes "$schema" ∷ codes "$id" ∷ codes "$ref" ∷ codes "$dynamicRef" ∷ codes "$anchor"
-    ∷ codes "$dynamicAnchor" ∷ []
-
 -- The lists of schemas aren't empty. What holds one schema takes any value here: whether it is a schema is asked of the
--- place. `$comment`, `$vocabulary` and unknown keywords take any value.
+-- place.
+abbrev pub has_form : ArgumentForm → Value → Bool
+has_form form.Text argument = is_string argument
+has_form form.ListedSchemas argument = is_filled_list argument
+has_form form.NamedSchemas argument = is_object argument
+has_form form.OneSchema argument = true
+has_form form.Anything argument = true
+
 abbrev pub is_shaped : Text → Value → Bool
-is_shaped keyword argument =
-    if list_any (bytes_eq keyword) text_keywords then is_string argument
-    else (if list_any (bytes_eq keyword) list_of_schemas then is_filled_list argument
-    else (if list_any (bytes_eq keyword) object_of_schemas then is_object argument else true))
+is_shaped name argument = has_form (row_of (which_keyword name)).form argument

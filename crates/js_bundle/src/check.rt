@@ -10,7 +10,7 @@ ghost use Rattle.js_bundle.specs.code.PlaceNumbers.{under_number};
 ghost use Rattle.js_bundle.specs.code.PartsByPlace.{ArePartsByPlace};
 ghost use Rattle.js_bundle.specs.code.Index.{IsIndexOf};
 ghost use Rattle.js_bundle.specs.code.Positions.{ArePositionsOf};
-ghost use Rattle.js_bundle.specs.KeywordName.{member_keywords};
+ghost use Rattle.js_bundle.specs.MemberKeywords.{member_keywords};
 ghost use Rattle.js_bundle.specs.Refusals.{candidates, second_pass};
 ghost use Rattle.js_bundle.specs.Resource.{sites};
 ghost use Rattle.js_bundle.specs.ResourceTable.{AreRooted, IsResourceTable};

@@ -24,6 +24,7 @@ use crate::keyword::text_argument;
 use crate::scan::site::Site;
 use crate::uri;
 use js_doc::Memory;
+use js_keyword::OtherKeyword;
 use std::alloc::Global;
 
 /// The numbers of places in scan order, under their keys. Of the places with one key the first is found.
@@ -129,6 +130,12 @@ fn insert_names(
 ) -> Result<(), Memory>
     ensures { OnOk result (AreInserted names.old (name_keys (site_of site.now)) number names.new) }
 {
-    insert_name(alloc, names, site, "$anchor", number)?;
-    insert_name(alloc, names, site, "$dynamicAnchor", number)
+    insert_name(alloc, names, site, OtherKeyword::Anchor.name(), number)?;
+    insert_name(
+        alloc,
+        names,
+        site,
+        OtherKeyword::DynamicAnchor.name(),
+        number,
+    )
 }

@@ -12,7 +12,6 @@ mod document;
 mod finished;
 mod index;
 mod keyword;
-mod keyword_name;
 pub mod laws;
 mod place;
 pub mod place_laws;
@@ -24,7 +23,6 @@ pub mod uri;
 
 pub use bundle::Bundle;
 pub use document::Document;
-pub use keyword_name::{KeywordName, OtherName};
 pub use place::{Place, Step};
 pub use refusal::{EntryFault, Refusal, RefusalKind};
 pub use schemas::Schemas;

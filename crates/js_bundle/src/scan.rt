@@ -14,10 +14,11 @@ pub(crate) mod site;
 
 use crate::document::Document;
 use crate::scan::base_scope::{BaseScope, BaseScopes, base_scopes_at};
-use crate::scan::holding::{Holding, Role, holding_as};
+use crate::scan::holding::{Role, holding_as};
 use crate::scan::pointers::shared_further;
 use crate::scan::site::Site;
 use js_doc::{Doc, Members, Memory, Pointer};
+use js_keyword::Holding;
 use std::alloc::Global;
 use std::sync::Arc;
 

@@ -10,15 +10,15 @@ use Rattle.js_doc.specs.Value.{Value, Named}
 use Rattle.js_doc.specs.Members.{get}
 use Rattle.js_assert.specs.Argument.{entries}
 use Rattle.js_eval.specs.Applications.{Application, application, asks_of}
-use Rattle.js_eval.specs.Keywords.{Keyword, keywords, keywords_that, comes_before_else, comes_after_else, is_else}
-use Rattle.js_bundle.specs.KeywordName.{keyword_name}
+use Rattle.js_eval.specs.Keywords.{Member, keywords, keywords_that, comes_before_else, comes_after_else, is_else}
+use Rattle.js_keyword.specs.Keyword.{which_keyword}
 use Rattle.js_eval.specs.Unevaluated.{is_unevaluated}
 use Rattle.js_eval.specs.SchemaSet.{Text, SchemaSet, Alone}
 use Rattle.js_eval.specs.Verdict as verdict
 use Rattle.js_eval.specs.Verdict.{Known, with_one_more, nothing, within}
-use Rattle.js_bundle.specs.declared.keyword_name.KeywordName.{KeywordName}
-use Rattle.js_bundle.specs.declared.keyword_name.KeywordName.TheVariants.{UnevaluatedItems}
-use Rattle.js_bundle.specs.declared.keyword_name.KeywordName.TheVariants.{UnevaluatedProperties, Contains}
+use Rattle.js_keyword.specs.declared.keyword.Keyword.{Keyword}
+use Rattle.js_keyword.specs.declared.keyword.Keyword.TheVariants.{UnevaluatedItems}
+use Rattle.js_keyword.specs.declared.keyword.Keyword.TheVariants.{UnevaluatedProperties, Contains}
 use Rattle.js_eval.proofs.Lists.{and_same, all_more, all_same, map_same, filter_same}
 use Rattle.js_eval.proofs.Lists.{flat_map_same, all_filtered, found}
 
@@ -34,7 +34,7 @@ pub record Agrees {Place : Type 0} (w x : Known Place) : Type 0 where
       → w.indexes above place v ≡ x.indexes above place v
 
 -- a keyword that is found is among those that have a node
-pub found_keyword : (f : Keyword → Bool) (schema : Value) (name : Text) (y : Value) → get name (entries schema) ≡ Some y
+pub found_keyword : (f : Member → Bool) (schema : Value) (name : Text) (y : Value) → get name (entries schema) ≡ Some y
     → comes_before_else name ≡ true → list_all f (keywords schema) ≡ true → f (name, y) ≡ true
 found_keyword f schema name y e t h =
     let p = and_parts _ _ (sym (list_all-append f (keywords_that comes_before_else schema)
@@ -43,7 +43,7 @@ found_keyword f schema name y e t h =
 
 -- what another keyword asks for doesn't look at what is evaluated
 pub plain : {Place : Type 0} (S : SchemaSet Place) (path : List Place) (place : Place) (siblings : Named) (v : Value)
-    (c : Option Bool) (ns : List Text) (is : List ℕ) (k : Keyword) (κ : KeywordName) → is_unevaluated κ ≡ false
+    (c : Option Bool) (ns : List Text) (is : List ℕ) (k : Member) (κ : Keyword) → is_unevaluated κ ≡ false
     → asks_of S path place siblings v c ns is k κ ≡ asks_of S path place siblings v c [] [] k κ
 plain S path place siblings v c ns is k UnevaluatedItems h = cc
 plain S path place siblings v c ns is k UnevaluatedProperties h = cc
@@ -99,17 +99,17 @@ module _ {Place : Type 0} (S : SchemaSet Place) (w x : Known Place) (agree : Agr
 
   -- ---- a keyword, of what it asks for
 
-  passes_alike : (m n : ℕ) (k : Keyword) (apps apps' : List (Application Place)) → m ≡ n → apps ≡ apps' → list_all done
+  passes_alike : (m n : ℕ) (k : Member) (apps apps' : List (Application Place)) → m ≡ n → apps ≡ apps' → list_all done
       apps ≡ true → verdict.passes_by S w above place v m k apps ≡ verdict.passes_by S x above place v n k apps'
   passes_alike m n k apps apps' e f h =
       let g = apps_holds apps h in cc
 
-  names_alike : (m n : ℕ) (k : Keyword) (apps apps' : List (Application Place)) → m ≡ n → apps ≡ apps' → list_all done
+  names_alike : (m n : ℕ) (k : Member) (apps apps' : List (Application Place)) → m ≡ n → apps ≡ apps' → list_all done
       apps ≡ true → verdict.names_by S w above place v m k apps ≡ verdict.names_by S x above place v n k apps'
   names_alike m n k apps apps' e f h =
       let p = passes_alike m n k apps apps' e f h in let q = holding_same apps h in let r = names_below apps h in cc
 
-  indexes_alike : (m n : ℕ) (k : Keyword) (apps apps' : List (Application Place)) → m ≡ n → apps ≡ apps' → list_all done
+  indexes_alike : (m n : ℕ) (k : Member) (apps apps' : List (Application Place)) → m ≡ n → apps ≡ apps' → list_all done
       apps ≡ true → verdict.indexes_by S w above place v m k apps ≡ verdict.indexes_by S x above place v n k apps'
   indexes_alike m n k apps apps' e f h =
       let p = passes_alike m n k apps apps' e f h in let q = holding_same apps h in let r = indexes_below apps h in cc
@@ -125,7 +125,7 @@ module _ {Place : Type 0} (S : SchemaSet Place) (w x : Known Place) (agree : Agr
 
   condition_at : (o : Option Value) → get (codes "if") (entries (S.schema place)) ≡ o → KeywordsSettled
       → condition_by w o ≡ condition_by x o
-  unfolding keyword_name
+  unfolding which_keyword
   condition_at None e h = refl
   condition_at (Some y) e h =
       let s = and_parts _ _ (found_keyword (verdict.keyword_settled S w above place v) (S.schema place)
@@ -146,7 +146,7 @@ module _ {Place : Type 0} (S : SchemaSet Place) (w x : Known Place) (agree : Agr
 
   matching_at : (o : Option Value) → get (codes "contains") (entries (S.schema place)) ≡ o → KeywordsSettled
       → matching_by w o ≡ matching_by x o
-  unfolding keyword_name
+  unfolding which_keyword
   matching_at None e h = refl
   matching_at (Some y) e h =
       ap length (holding_same (under_contains w y)
@@ -157,29 +157,29 @@ module _ {Place : Type 0} (S : SchemaSet Place) (w x : Known Place) (agree : Agr
   matching_same h = matching_at (get (codes "contains") (entries (S.schema place))) refl h
 
   -- what another keyword asks for is settled
-  other_settled : (k : Keyword) → verdict.keyword_settled S w above place v k ≡ true
-      → is_unevaluated (keyword_name k.0) ≡ false
+  other_settled : (k : Member) → verdict.keyword_settled S w above place v k ≡ true
+      → is_unevaluated (which_keyword k.0) ≡ false
       → list_all done (verdict.others_ask S w above place v k) ≡ true
   other_settled k h e =
       ap (list_all done) (sym (plain S path place (entries (S.schema place)) v (verdict.condition S w above place v)
-      (verdict.evaluated_names S w above place v) (verdict.evaluated_indexes S w above place v) k (keyword_name k.0)
+      (verdict.evaluated_names S w above place v) (verdict.evaluated_indexes S w above place v) k (which_keyword k.0)
       e)) ∙ h
 
-  others_ask_same : KeywordsSettled → (k : Keyword)
+  others_ask_same : KeywordsSettled → (k : Member)
       → verdict.others_ask S w above place v k ≡ verdict.others_ask S x above place v k
   others_ask_same h k = ap
-      (λ c. asks_of S path place (entries (S.schema place)) v c [] [] k (keyword_name k.0)) (condition_same h)
+      (λ c. asks_of S path place (entries (S.schema place)) v c [] [] k (which_keyword k.0)) (condition_same h)
 
-  abbrev is_other : Keyword → Bool
-  is_other k = not (is_unevaluated (keyword_name k.0))
+  abbrev is_other : Member → Bool
+  is_other k = not (is_unevaluated (which_keyword k.0))
 
   others_settled : KeywordsSettled → list_all (λ k. verdict.keyword_settled S w above place v k && is_other k)
       (verdict.other_keywords S w above place v) ≡ true
   others_settled h = all_filtered (verdict.keyword_settled S w above place v) is_other (keywords (S.schema place)) h
 
   -- what they have evaluated, if each of them has evaluated alike
-  evaluated_same : {A : Type 0} (f g : ℕ → Keyword → List (Application Place) → List A)
-      → ((m n : ℕ) (k : Keyword) (apps apps' : List (Application Place)) → m ≡ n → apps ≡ apps'
+  evaluated_same : {A : Type 0} (f g : ℕ → Member → List (Application Place) → List A)
+      → ((m n : ℕ) (k : Member) (apps apps' : List (Application Place)) → m ≡ n → apps ≡ apps'
       → list_all done apps ≡ true → f m k apps ≡ g n k apps') → KeywordsSettled
       → flat_map (λ k. f (verdict.matching S w above place v) k (verdict.others_ask S w above place v k))
       (verdict.other_keywords S w above place v)
@@ -192,7 +192,7 @@ module _ {Place : Type 0} (S : SchemaSet Place) (w x : Known Place) (agree : Agr
       (λ k s. let p = and_parts _ _ s in
       alike (verdict.matching S w above place v) (verdict.matching S x above place v) k
       (verdict.others_ask S w above place v k) (verdict.others_ask S x above place v k)
-      (matching_same h) (others_ask_same h k) (other_settled k p.0 (not_true (is_unevaluated (keyword_name k.0)) p.1)))
+      (matching_same h) (others_ask_same h k) (other_settled k p.0 (not_true (is_unevaluated (which_keyword k.0)) p.1)))
       (verdict.other_keywords S w above place v) (others_settled h)
 
   evaluated_names_same : KeywordsSettled
@@ -208,33 +208,33 @@ module _ {Place : Type 0} (S : SchemaSet Place) (w x : Known Place) (agree : Agr
   -- ---- every keyword
 
   -- the keywords of a settled schema ask for the same
-  pub asks_same : KeywordsSettled → (k : Keyword) → verdict.asks S w above place v k ≡ verdict.asks S x above place v k
+  pub asks_same : KeywordsSettled → (k : Member) → verdict.asks S w above place v k ≡ verdict.asks S x above place v k
   asks_same h k =
       let c = condition_same h in
       let e = evaluated_names_same h in
       let f = evaluated_indexes_same h in
       cc
 
-  pub passes_same : KeywordsSettled → (k : Keyword) → verdict.keyword_settled S w above place v k ≡ true
+  pub passes_same : KeywordsSettled → (k : Member) → verdict.keyword_settled S w above place v k ≡ true
       → verdict.passes S w above place v k ≡ verdict.passes S x above place v k
   passes_same h k s =
       passes_alike (verdict.matching S w above place v) (verdict.matching S x above place v) k
       (verdict.asks S w above place v k) (verdict.asks S x above place v k) (matching_same h) (asks_same h k) s
 
-  gives_names_same : KeywordsSettled → (k : Keyword) → verdict.keyword_settled S w above place v k ≡ true
+  gives_names_same : KeywordsSettled → (k : Member) → verdict.keyword_settled S w above place v k ≡ true
       → verdict.gives_names S w above place v k ≡ verdict.gives_names S x above place v k
   gives_names_same h k s =
       names_alike (verdict.matching S w above place v) (verdict.matching S x above place v) k
       (verdict.asks S w above place v k) (verdict.asks S x above place v k) (matching_same h) (asks_same h k) s
 
-  gives_indexes_same : KeywordsSettled → (k : Keyword) → verdict.keyword_settled S w above place v k ≡ true
+  gives_indexes_same : KeywordsSettled → (k : Member) → verdict.keyword_settled S w above place v k ≡ true
       → verdict.gives_indexes S w above place v k ≡ verdict.gives_indexes S x above place v k
   gives_indexes_same h k s =
       indexes_alike (verdict.matching S w above place v) (verdict.matching S x above place v) k
       (verdict.asks S w above place v k) (verdict.asks S x above place v k) (matching_same h) (asks_same h k) s
 
   -- what a keyword asks for is settled in the other as well
-  pub settled_same : KeywordsSettled → (k : Keyword) → verdict.keyword_settled S w above place v k ≡ true
+  pub settled_same : KeywordsSettled → (k : Member) → verdict.keyword_settled S w above place v k ≡ true
       → verdict.keyword_settled S x above place v k ≡ true
   settled_same h k s =
       ap (list_all (verdict.application_settled S x above place v)) (sym (asks_same h k))

@@ -6,11 +6,13 @@ use Rattle.std.proofs.Common.{get_or, sym, ◌∙◌, ap, ap₂}
 use Rattle.std.proofs.lemmas.List.{drop_more}
 use Rattle.std.proofs.lemmas.List.Elements.{filter-append}
 use Rattle.std.proofs.lemmas.Option.{get_or_from_slice_get, slice_get-map, slice_get_read, slice_get_within}
-use Rattle.js_bundle.specs.KeywordName.{keyword_name}
-use Rattle.js_bundle.specs.declared.keyword_name.KeywordName.{KeywordName}
+use Rattle.js_keyword.specs.Keyword.{applies, which_keyword}
+use Rattle.js_keyword.specs.declared.keyword.Keyword.TheVariants.{Assertion, Other}
+use Rattle.js_keyword.specs.declared.other_keyword.OtherKeyword.TheVariants.{Schema}
+use Rattle.js_keyword.specs.declared.keyword.Keyword.{Keyword}
 use Rattle.js_doc.specs.Value.{Named}
 use Rattle.js_doc.specs.Members.{name_cmp, IsBelowHead, IsAscending}
-use Rattle.js_eval.specs.Keywords.{Keyword, comes_before_else, is_else, comes_after_else}
+use Rattle.js_eval.specs.Keywords.{Member, comes_before_else, is_else, comes_after_else}
 use Rattle.js_eval.specs.Walk.Visited.{may_apply, is_visited}
 use Rattle.js_eval.specs.code.Applicator.{applicators_from, has_applicator}
 use Rattle.js_eval.specs.code.Standard.{keyword_names_of}
@@ -26,11 +28,16 @@ all_visited (m ∷ ms) = ap (λ xs. m ∷ xs) (all_visited ms)
 
 -- ---- a member that applies schemas is visited
 
-applies_visited : (m : Keyword) → may_apply (keyword_name m.0) ≡ is_visited true m
+pub applying_is : (which : Keyword) (b : Bool) → b ≡ applies which → b ≡ may_apply which
+applying_is (Assertion _) b e = e
+applying_is (Other Schema) b e = e
+applying_is _ b e = e
+
+applies_visited : (m : Member) → may_apply (which_keyword m.0) ≡ is_visited true m
 unfolding is_visited
 applies_visited m = refl
 
-none_at : (b c : Bool) (m : Keyword) (xs : Named) → (b || c) ≡ false → (c ≡ false → xs ≡ []) → cond b (m ∷ xs) xs ≡ []
+none_at : (b c : Bool) (m : Member) (xs : Named) → (b || c) ≡ false → (c ≡ false → xs ≡ []) → cond b (m ∷ xs) xs ≡ []
 none_at true c m xs h r = cc
 none_at false c m xs h r = r h
 
@@ -38,23 +45,23 @@ pub none_visited : (ms : Named) → has_applicator (keyword_names_of ms) ≡ fal
 none_visited [] h = refl
 none_visited (m ∷ ms) h =
     ap (λ b. cond b (m ∷ filter (is_visited true) ms) (filter (is_visited true) ms)) (sym (applies_visited m))
-    ∙ none_at (may_apply (keyword_name m.0)) (has_applicator (keyword_names_of ms)) m
+    ∙ none_at (may_apply (which_keyword m.0)) (has_applicator (keyword_names_of ms)) m
     (filter (is_visited true) ms) h (none_visited ms)
 
 -- ---- one rank after another
 
-pub named_at : (ms : Named) (rank : ℕ) (which : KeywordName) (m : Keyword)
+pub named_at : (ms : Named) (rank : ℕ) (which : Keyword) (m : Member)
     → slice_get (keyword_names_of ms) rank ≡ Some which → slice_get ms rank ≡ Some m
-    → which ≡ keyword_name m.0
+    → which ≡ which_keyword m.0
 named_at ms rank which m h e =
-    let name = λ (k : Keyword). keyword_name k.0 in
-    let same : Some which ≡ Some (keyword_name m.0) = sym h ∙ (slice_get-map name ms rank ∙ ap (option_map name) e) in
+    let name = λ (k : Member). which_keyword k.0 in
+    let same : Some which ≡ Some (which_keyword m.0) = sym h ∙ (slice_get-map name ms rank ∙ ap (option_map name) e) in
     cc
 
-abbrev if_visited : Bool → Named → ℕ → Keyword → Named
+abbrev if_visited : Bool → Named → ℕ → Member → Named
 if_visited b ms rank m = cond b (m ∷ applicators_from ms (rank + 1)) (applicators_from ms (rank + 1))
 
-one_on : (ms : Named) (rank : ℕ) (which : KeywordName) (m : Keyword) → slice_get (keyword_names_of ms) rank ≡ Some which
+one_on : (ms : Named) (rank : ℕ) (which : Keyword) (m : Member) → slice_get (keyword_names_of ms) rank ≡ Some which
     → slice_get ms rank ≡ Some m
     → applicators_from ms rank ≡ if_visited (may_apply which) ms rank m
 one_on ms rank which m h e =
@@ -63,22 +70,22 @@ one_on ms rank which m h e =
     ∙ ap (λ b. if_visited b ms rank m) (sym (ap may_apply (named_at ms rank which m h e) ∙ applies_visited m))
 
 -- each name is that of a member
-never_none : (ms : Named) (rank : ℕ) (which : KeywordName) → slice_get (keyword_names_of ms) rank ≡ Some which
+never_none : (ms : Named) (rank : ℕ) (which : Keyword) → slice_get (keyword_names_of ms) rank ≡ Some which
     → slice_get ms rank ≡ None → ⊥
 never_none ms rank which h e =
-    let name = λ (k : Keyword). keyword_name k.0 in
+    let name = λ (k : Member). which_keyword k.0 in
     let same : Some which ≡ None = sym h ∙ (slice_get-map name ms rank ∙ ap (option_map name) e) in
     cc
 
 -- which keyword of the standard the member at the rank is
-name_at : (ms : Named) (names : List KeywordName) (rank : ℕ) (which : KeywordName) → names ≡ keyword_names_of ms
+name_at : (ms : Named) (names : List Keyword) (rank : ℕ) (which : Keyword) → names ≡ keyword_names_of ms
     → rank < length names → which ≡ get_or names rank which
     → slice_get (keyword_names_of ms) rank ≡ Some which
 name_at ms names rank which same h e = ap (λ ns. slice_get ns rank) (sym same)
     ∙ slice_get_read names (length names) rank which refl h e
 
 -- the member at the rank applies schemas
-pub taken : (ms : Named) (names : List KeywordName) (rank : ℕ) (which : KeywordName) (m : Keyword)
+pub taken : (ms : Named) (names : List Keyword) (rank : ℕ) (which : Keyword) (m : Member)
     → may_apply which ≡ true → slice_get ms rank ≡ Some m → names ≡ keyword_names_of ms
     → rank < length names → which ≡ get_or names rank which
     → applicators_from ms rank ≡ m ∷ applicators_from ms (rank + 1)
@@ -86,12 +93,12 @@ taken ms names rank which m t there same h e =
     one_on ms rank which m (name_at ms names rank which same h e) there ∙ ap (λ b. if_visited b ms rank m) t
 
 -- it doesn't
-pub passed_over : (ms : Named) (names : List KeywordName) (rank : ℕ) (which : KeywordName) → may_apply which ≡ false
+pub passed_over : (ms : Named) (names : List Keyword) (rank : ℕ) (which : Keyword) → may_apply which ≡ false
     → names ≡ keyword_names_of ms
     → rank < length names → which ≡ get_or names rank which → applicators_from ms (rank + 1) ≡ applicators_from ms rank
 passed_over ms names rank which f same h e = at (slice_get ms rank) refl
   where
-    at : (o : Option Keyword) → slice_get ms rank ≡ o → applicators_from ms (rank + 1) ≡ applicators_from ms rank
+    at : (o : Option Member) → slice_get ms rank ≡ o → applicators_from ms (rank + 1) ≡ applicators_from ms rank
     at None there = absurd (never_none ms rank which (name_at ms names rank which same h e) there)
     at (Some m) there = sym (one_on ms rank which m (name_at ms names rank which same h e) there
         ∙ ap (λ b. if_visited b ms rank m) f)
@@ -103,19 +110,19 @@ unfolding Below
 head_above k [] h = tt
 head_above k (m ∷ ms) h = h.0
 
-chosen_at : (t : Keyword → Bool) (b : Bool) (m : Keyword) (ms : Named) → Below m.0 ms → IsAscending (filter t ms)
+chosen_at : (t : Member → Bool) (b : Bool) (m : Member) (ms : Named) → Below m.0 ms → IsAscending (filter t ms)
     → IsAscending (cond b (m ∷ filter t ms) (filter t ms))
 unfolding Below
 chosen_at t true m ms h r = (head_above m.0 (filter t ms) (all_of_filter (λ x. name_cmp m.0 x.0 ≡ Less) t ms h), r)
 chosen_at t false m ms h r = r
 
-pub chosen_ascend : (t : Keyword → Bool) (ms : Named) → IsAscending ms → IsAscending (filter t ms)
+pub chosen_ascend : (t : Member → Bool) (ms : Named) → IsAscending ms → IsAscending (filter t ms)
 chosen_ascend t [] a = tt
 chosen_ascend t (m ∷ ms) a = chosen_at t (t m) m ms (below_all ms m.0 a.0 a.1) (chosen_ascend t ms a.1)
 
 -- ---- their order
 
-filters_commute : (p q : Keyword → Bool) (xs : Named) → filter p (filter q xs) ≡ filter q (filter p xs)
+filters_commute : (p q : Member → Bool) (xs : Named) → filter p (filter q xs) ≡ filter q (filter p xs)
 filters_commute p q [] = refl
 filters_commute p q (x ∷ xs) = at (p x) (q x) refl refl (filters_commute p q xs)
   where
@@ -126,11 +133,11 @@ filters_commute p q (x ∷ xs) = at (p x) (q x) refl refl (filters_commute p q x
     at false true e f r = rw e r
     at false false e f r = r
 
-pub chosen_in_order : (p : Keyword → Bool) (ms : Named) → in_order (filter p ms) ≡ filter p (in_order ms)
+pub chosen_in_order : (p : Member → Bool) (ms : Named) → in_order (filter p ms) ≡ filter p (in_order ms)
 chosen_in_order p ms =
-    let before = λ (k : Keyword). comes_before_else k.0 in
-    let it = λ (k : Keyword). is_else k.0 in
-    let after = λ (k : Keyword). comes_after_else k.0 in
+    let before = λ (k : Member). comes_before_else k.0 in
+    let it = λ (k : Member). is_else k.0 in
+    let after = λ (k : Member). comes_after_else k.0 in
     ap₂ (λ xs ys. xs ++ ys) (filters_commute before p ms) (ap₂ (λ xs ys. xs ++ ys) (filters_commute it p ms)
     (filters_commute after p ms) ∙ sym (filter-append p (filter it ms) (filter after ms)))
     ∙ sym (filter-append p (filter before ms) (filter it ms ++ filter after ms))

@@ -12,7 +12,7 @@ use Rattle.js_doc.specs.Parts.{members_of}
 use Rattle.js_bundle.specs.Resource.{Site, sites}
 use Rattle.js_bundle.specs.Schemas.{is_place, place_at, assertion}
 use Rattle.js_eval.specs.Bundle.{schemas_of}
-use Rattle.js_eval.specs.Keywords.{Keyword}
+use Rattle.js_eval.specs.Keywords.{Member}
 use Rattle.js_eval.specs.Sited.{numbered_site, nowhere}
 use Rattle.js_eval.specs.Walk.Progress.{IsKeywordAt}
 
@@ -37,14 +37,14 @@ pub place_is : (documents : Documents) (n : ℕ) → is_place documents n ≡ tr
 place_is documents n h = some_is (place_at documents n) _
     (slice_get-get_or (sites documents) n nowhere (ltb-true n (length (sites documents)) h))
 
-at_site : (s : Site) (k : Keyword) → get k.0 (entries s.schema) ≡ Some k.1
+at_site : (s : Site) (k : Member) → get k.0 (entries s.schema) ≡ Some k.1
     → assertion k.0 s ≡ asserted k.0 k.1 (entries s.schema)
 at_site s k e =
     let same = same_members s.schema in
     let found : get k.0 (members_of s.schema) ≡ Some k.1 = ap (get k.0) same ∙ e in
     ap (λ o. option_and_then (λ v. asserted k.0 v (members_of s.schema)) o) found ∙ ap (λ ms. asserted k.0 k.1 ms) same
 
-pub assertion_is : (documents : Documents) (n : ℕ) (k : Keyword) (o : Option Asserted) → is_place documents n ≡ true
+pub assertion_is : (documents : Documents) (n : ℕ) (k : Member) (o : Option Asserted) → is_place documents n ≡ true
     → IsKeywordAt (schemas_of documents) (numbered_site documents n) k
     → o ≡ option_and_then (assertion k.0) (place_at documents n)
     → o ≡ asserted k.0 k.1 (entries (numbered_site documents n).schema)

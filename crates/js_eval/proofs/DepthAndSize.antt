@@ -9,7 +9,7 @@ use Rattle.std.proofs.lemmas.List.Sums.{sum_by-cons}
 use Rattle.js_doc.specs.Value.{Value}
 use Rattle.js_tree.specs.Forest.{Forest, empty, tree, node_count}
 use Rattle.js_eval.specs.Applications.{Application}
-use Rattle.js_eval.specs.Keywords.{Keyword, keywords}
+use Rattle.js_eval.specs.Keywords.{Member, keywords}
 use Rattle.js_eval.specs.Location.{Location, at_keyword_named, at_application}
 use Rattle.js_eval.specs.Result.{OutputUnit, ResultTree, AreKeywordNodes, AreSchemaNodes, IsNode}
 use Rattle.js_eval.specs.Result.{depth_below_schema, depth_of_schemas, depth, size}
@@ -87,18 +87,18 @@ module _ {Place : Type 0} (S : SchemaSet Place) where
   -- ---- two numbers within which a schema is settled
 
   asks_by : (n m : ℕ) (above : List Place) (place : Place) (v : Value) → (n < m) ⊎ (m ≤ n) → Every n above place v →
-      Every m above place v → (k : Keyword) → asks S (within S n) above place v k ≡ asks S (within S m) above place v k
+      Every m above place v → (k : Member) → asks S (within S n) above place v k ≡ asks S (within S m) above place v k
   asks_by n m above place v (inl lt) h g k =
       asks_same S (within S n) (within S m) (up_to S n m (omega arith)) above place v h k
   asks_by n m above place v (inr le) h g k =
       sym (asks_same S (within S m) (within S n) (up_to S m n le) above place v g k)
 
   asks_both : (n m : ℕ) (above : List Place) (place : Place) (v : Value) → Every n above place v → Every m above place v
-      → (k : Keyword) → asks S (within S n) above place v k ≡ asks S (within S m) above place v k
+      → (k : Member) → asks S (within S n) above place v k ≡ asks S (within S m) above place v k
   asks_both n m above place v = asks_by n m above place v (cases_lt n m)
 
   -- what the keyword asks for by what is known within n is settled within m
-  abbrev Lowered : ℕ → ℕ → List Place → Place → Value → Keyword → Bool
+  abbrev Lowered : ℕ → ℕ → List Place → Place → Value → Member → Bool
   Lowered n m above place v k =
       list_all (λ a. (within S m).settled (above ++ place ∷ []) a.place a.value) (asks S (within S n) above place v k)
 
@@ -122,7 +122,7 @@ module _ {Place : Type 0} (S : SchemaSet Place) where
 
     mutual
       low_below_schema : (f : Forest OutputUnit) (m : ℕ) (above : List Place) (place : Place) (at : Location) (v :
-          Value) (ks : List Keyword) → KeywordsSettled S n above place v ks → AreKeywordNodes S n above place at v ks f
+          Value) (ks : List Member) → KeywordsSettled S n above place v ks → AreKeywordNodes S n above place at v ks f
           → depth_below_schema f ≤ m → list_all (Lowered n m above place v) ks ≡ true
       low_below_schema empty m above place at v [] h r le = refl
       low_below_schema empty m above place at v (k ∷ ks) h r le = absurd r
@@ -153,7 +153,7 @@ module _ {Place : Type 0} (S : SchemaSet Place) where
 
     mutual
       met_below_schema : (f : Forest OutputUnit) (m : ℕ) (above : List Place) (place : Place) (at : Location)
-          (v : Value) → Every n above place v → Every m above place v → (ks : List Keyword) → KeywordsSettled S n above
+          (v : Value) → Every n above place v → Every m above place v → (ks : List Member) → KeywordsSettled S n above
           place v ks → KeywordsSettled S m above place v ks → AreKeywordNodes S n above place at v ks f
           → (depth_below_schema f ≤ m)
           × (node_count f ≡ sum_by (nodes_of_keyword S (within S m) (node_total S m) above place v) ks)

@@ -1,7 +1,7 @@
 -- The examples, by computing what the definitions say.
 use Rattle.std.specs.Prelude.{◌≡◌, false, true, refl}
-use Rattle.js_assert.specs.Keyword.{keyword_named}
-use Rattle.js_bundle.specs.KeywordName.{keyword_name}
+use Rattle.js_keyword.specs.AssertionKeyword.{keyword_named}
+use Rattle.js_keyword.specs.Keyword.{which_keyword}
 use Rattle.js_eval.specs.Verdict.{within}
 use Rattle.js_eval.specs.Examples.{Shown}
 
@@ -9,7 +9,7 @@ differ : false ≡ true → ⊥
 differ e = cc
 
 pub shown : Shown
-unfolding within keyword_name keyword_named
+unfolding within which_keyword keyword_named
 shown = record {
   polygon_accepts = refl;
   polygon_refuses = (refl, refl);

@@ -9,13 +9,13 @@ use Rattle.std.proofs.lemmas.Cmp.{nat_list_cmp_total}
 use Rattle.js_doc.specs.Value.{Value, Named}
 use Rattle.js_doc.specs.Members.{get, name_cmp, IsBelowHead, IsAscending}
 use Rattle.js_assert.specs.Argument.{entries}
-use Rattle.js_eval.specs.Keywords.{Keyword, keywords, keywords_that, comes_before_else, comes_after_else, is_else}
+use Rattle.js_eval.specs.Keywords.{Member, keywords, keywords_that, comes_before_else, comes_after_else, is_else}
 
 -- the keyword stands among these
-abbrev pub IsAmong : Named → Keyword → Type 0
+abbrev pub IsAmong : Named → Member → Type 0
 IsAmong siblings k = get k.0 siblings ≡ Some k.1
 
-abbrev pub AreAmong : Named → List Keyword → Type 0
+abbrev pub AreAmong : Named → List Member → Type 0
 AreAmong siblings ks = AllByRecursion (IsAmong siblings) ks
 
 -- ---- lists of which each element is so

@@ -10,10 +10,10 @@ use Rattle.js_bundle.specs.Url.{printed, without_fragment, uri_of}
 use Rattle.js_bundle.proofs.OnLiterals.{url_on_literals}
 use Rattle.js_eval.specs.Bundle.{schemas_of}
 use Rattle.js_eval.specs.Examples.{obj, arr, str, num, only, of_type}
-use Rattle.js_bundle.specs.KeywordName.{keyword_name}
+use Rattle.js_keyword.specs.Keyword.{which_keyword}
 use Rattle.js_eval.specs.SchemaSet.{Text}
 use Rattle.js_eval.specs.Verdict.{within}
-use Rattle.js_assert.specs.Keyword.{keyword_named}
+use Rattle.js_keyword.specs.AssertionKeyword.{keyword_named}
 use Rattle.js_doc.specs.Value.{truth}
 
 abbrev document : Text → Value → Documents
@@ -36,7 +36,7 @@ two = document (codes "https://a.example/s") (only (codes "$ref") (str (codes "t
 
 pub across_documents : (holds two (codes "https://a.example/s") (num 1) ≡ true)
     × (holds two (codes "https://a.example/s") (str (codes "a")) ≡ false)
-unfolding url_on_literals holding printed without_fragment within keyword_name keyword_named
+unfolding url_on_literals holding printed without_fragment within which_keyword keyword_named
 across_documents = (refl, refl)
 
 -- ---- a tree, and a strict tree, which takes no members but the tree's own at each node
@@ -63,10 +63,10 @@ misspelt = only (codes "children") (arr (only (codes "daat") (num 1) ∷ []))
 
 pub tree_accepts : (settled (tree ++ strict_tree) (codes "https://example.com/tree") misspelt ≡ true)
     × (holds (tree ++ strict_tree) (codes "https://example.com/tree") misspelt ≡ true)
-unfolding url_on_literals holding printed without_fragment within keyword_name keyword_named
+unfolding url_on_literals holding printed without_fragment within which_keyword keyword_named
 tree_accepts = (refl, refl)
 
 pub strict_tree_refuses : (settled (tree ++ strict_tree) (codes "https://example.com/strict-tree") misspelt ≡ true)
     × (holds (tree ++ strict_tree) (codes "https://example.com/strict-tree") misspelt ≡ false)
-unfolding url_on_literals holding printed without_fragment within keyword_name keyword_named
+unfolding url_on_literals holding printed without_fragment within which_keyword keyword_named
 strict_tree_refuses = (refl, refl)

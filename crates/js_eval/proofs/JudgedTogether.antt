@@ -2,75 +2,52 @@
 use Rattle.std.specs.Prelude.{◌≡◌, ℕ, ◌+◌, Bool, true, false, not, ◌&&◌}
 use Rattle.std.specs.Prelude.{cond, if◌then◌else◌, List, [], ◌∷◌, ◌++◌, Option, Some}
 use Rattle.std.specs.Prelude.{None, is_some, option_map, option_to_list, filter, length, refl}
-use Rattle.std.specs.List.{AllByRecursion, list_all, flat_map}
+use Rattle.std.specs.List.{list_all, flat_map}
 use Rattle.std.specs.Option.{option_map_or}
-use Rattle.std.specs.Str.{bytes_eq}
 use Rattle.std.proofs.Common.{sym, ◌∙◌, ap, ap₂, arith, length-append}
 use Rattle.std.proofs.lemmas.List.Elements.{filter-append}
 use Rattle.std.proofs.lemmas.List.Folds.{list_all-append}
-use Rattle.std.proofs.lemmas.Slice.Eq.{bytes_eq-Decides}
 use Rattle.js_doc.specs.Value.{Value, Named}
-use Rattle.js_doc.proofs.EachSame.{each_same}
 use Rattle.js_assert.specs.Argument.{entries}
 use Rattle.js_assert.specs.Assertion.{Asserted, asserted, says}
-use Rattle.js_assert.specs.Keyword.{keyword_named}
+use Rattle.js_keyword.proofs.KeywordNames.{assertion_which, which_assertion}
+use Rattle.js_keyword.specs.AssertionKeyword.{keyword_named}
+use Rattle.js_keyword.specs.declared.assertion_keyword.AssertionKeyword.{AssertionKeyword}
 use Rattle.js_bundle.specs.AssertionsAndPatterns.{assertion_at, assertions_at}
 use Rattle.js_bundle.specs.Document.{Documents}
-use Rattle.js_bundle.specs.KeywordName.{TableOfNames, applying, identifying, name_in, not_applying, keyword_name}
+use Rattle.js_keyword.specs.Keyword.{which_keyword}
 use Rattle.js_bundle.specs.Resource.{Site}
 use Rattle.js_bundle.specs.Schemas.{is_place, place_at}
 use Rattle.js_eval.specs.Bundle.{schemas_of}
-use Rattle.js_eval.specs.Keywords.{Keyword, has_node, is_else, is_after_if, comes_before_else, comes_after_else}
+use Rattle.js_eval.specs.Keywords.{Member, has_node, is_else, is_after_if, comes_before_else, comes_after_else}
 use Rattle.js_eval.specs.Passes.{passes_of}
 use Rattle.js_eval.specs.Sited.{numbered_site}
 use Rattle.js_eval.specs.Walk.Progress.{keywords_at, passes_at}
 use Rattle.js_eval.specs.Walk.Visited.{AreJudged, is_visited, may_apply}
-use Rattle.js_eval.specs.code.Leaves.{has_leaf}
+use Rattle.js_eval.specs.code.Leaves.{has_leaf, is_assertion}
 use Rattle.js_eval.specs.code.Standard.{turn_by_keyword, keyword_names_of}
 use Rattle.js_eval.specs.code.Turns.{turn_by, turn_of, is_ever, in_order}
-use Rattle.js_bundle.specs.declared.keyword_name.KeywordName.{KeywordName}
-use Rattle.js_bundle.specs.declared.keyword_name.KeywordName.TheVariants.{Assertion, Other}
-use Rattle.js_bundle.specs.declared.keyword_name.OtherName.TheVariants.{Unknown}
+use Rattle.js_keyword.specs.declared.keyword.Keyword.{Keyword}
+use Rattle.js_keyword.specs.declared.keyword.Keyword.TheVariants.{Assertion, Other}
+use Rattle.js_keyword.specs.declared.other_keyword.OtherKeyword.TheVariants.{Unknown}
 use Rattle.js_eval.specs.declared.order.turn.Turn.TheVariants.{First, Last}
 use Rattle.js_eval.proofs.AssertionThere.{place_is, same_members}
-use Rattle.js_eval.proofs.Standard.{others_have, turn_is}
+use Rattle.js_eval.proofs.Standard.{turn_is}
 use Rattle.js_eval.proofs.Turns.{else_has_node, else_before}
 
 -- ---- a keyword makes an assertion if it is of that kind
 
-abbrev is_assertion : KeywordName → Bool
-is_assertion Assertion = true
-is_assertion _ = false
+none_there : (name : List ℕ) (κ : Keyword) → which_keyword name ≡ κ → keyword_named name ≡ None
+    → false ≡ is_assertion κ
+none_there name (Assertion a) is e = absurd (let z : Some a ≡ None = sym (which_assertion name a is) ∙ e in cc)
+none_there name _ is e = refl
 
-asserts_in : (rows : TableOfNames) (otherwise : KeywordName) (name : List ℕ)
-    → AllByRecursion (λ row. is_some (keyword_named row.0) ≡ is_assertion row.1) rows
-    → is_some (keyword_named name) ≡ is_assertion otherwise
-    → is_some (keyword_named name) ≡ is_assertion (name_in rows otherwise name)
-asserts_in [] otherwise name h e = e
-asserts_in (row ∷ rows) otherwise name h e =
-    at (bytes_eq name row.0) refl (asserts_in rows otherwise name h.1 e)
+asserts : (name : List ℕ) → is_some (keyword_named name) ≡ is_assertion (which_keyword name)
+asserts name = at (keyword_named name) refl
   where
-    at : (b : Bool) → bytes_eq name row.0 ≡ b
-        → is_some (keyword_named name) ≡ is_assertion (name_in rows otherwise name)
-        → is_some (keyword_named name) ≡ is_assertion (cond b row.1 (name_in rows otherwise name))
-    at true q r = ap (λ n. is_some (keyword_named n)) ((bytes_eq-Decides name row.0).0 q) ∙ h.0
-    at false q r = r
-
-asserts_other : (b : Bool) (name : List ℕ) → is_some (keyword_named name) ≡ b
-    → is_some (keyword_named name) ≡ is_assertion (cond b Assertion (name_in identifying (Other Unknown) name))
-asserts_other true name e = e
-asserts_other false name e = e ∙ sym (others_have is_assertion false identifying (Other Unknown) name
-    (refl, (refl, (refl, (refl, (refl, (refl, (refl, (refl, tt)))))))) refl)
-
-applicators_assert_nothing : AllByRecursion (λ row. is_some (keyword_named row.0) ≡ is_assertion row.1) applying
-unfolding keyword_named
-applicators_assert_nothing =
-    each_same (λ row. is_some (keyword_named row.0)) (λ row. is_assertion row.1) applying refl
-
-asserts : (name : List ℕ) → is_some (keyword_named name) ≡ is_assertion (keyword_name name)
-unfolding keyword_name
-asserts name = asserts_in applying (not_applying name) name applicators_assert_nothing
-    (asserts_other (is_some (keyword_named name)) name refl)
+    at : (o : Option AssertionKeyword) → keyword_named name ≡ o → is_some o ≡ is_assertion (which_keyword name)
+    at (Some a) e = sym (ap is_assertion (assertion_which name a e))
+    at None e = none_there name (which_keyword name) refl e
 
 some_mapped : {A B : Type 0} (f : A → B) (o : Option A) → is_some (option_map f o) ≡ is_some o
 some_mapped f None = refl
@@ -82,29 +59,29 @@ side_is_ever : (b : Bool) → is_ever (if b then Last else First) ≡ true
 side_is_ever true = refl
 side_is_ever false = refl
 
-node_by : (which : KeywordName) (name : List ℕ) → is_assertion which ≡ true
+node_by : (which : Keyword) (name : List ℕ) → is_assertion which ≡ true
     → is_ever (turn_by_keyword which name) ≡ true
-node_by Assertion name e = side_is_ever (is_after_if name)
+node_by (Assertion _) name e = side_is_ever (is_after_if name)
 node_by _ name e = cc
 
-node_of : (name : List ℕ) → is_assertion (keyword_name name) ≡ true → is_ever (turn_of name) ≡ true
-node_of name e = ap is_ever (turn_is name) ∙ node_by (keyword_name name) name e
+node_of : (name : List ℕ) → is_assertion (which_keyword name) ≡ true → is_ever (turn_of name) ≡ true
+node_of name e = ap is_ever (turn_is name) ∙ node_by (which_keyword name) name e
 
-leaf_by : (which : KeywordName) (name : List ℕ)
+leaf_by : (which : Keyword) (name : List ℕ)
     → has_leaf which ≡ (is_ever (turn_by_keyword which name) && not (may_apply which))
-leaf_by Assertion name = ap (λ b. b && true) (sym (side_is_ever (is_after_if name)))
+leaf_by (Assertion _) name = ap (λ b. b && true) (sym (side_is_ever (is_after_if name)))
 leaf_by (Other Unknown) name = ap (λ b. b && true) (sym (side_is_ever (is_after_if name)))
 leaf_by _ name = refl
 
 leaf_of : (name : List ℕ)
-    → has_leaf (keyword_name name) ≡ (is_ever (turn_of name) && not (may_apply (keyword_name name)))
-leaf_of name = leaf_by (keyword_name name) name
-    ∙ ap (λ t. is_ever t && not (may_apply (keyword_name name))) (sym (turn_is name))
+    → has_leaf (which_keyword name) ≡ (is_ever (turn_of name) && not (may_apply (which_keyword name)))
+leaf_of name = leaf_by (which_keyword name) name
+    ∙ ap (λ t. is_ever t && not (may_apply (which_keyword name))) (sym (turn_is name))
 
 -- ---- counting in the order of nodes, and over all members
 
-module _ (test : Keyword → Bool) where
-  one_counted : (b t : Bool) (m : Keyword) (ks : List Keyword) → test m ≡ t
+module _ (test : Member → Bool) where
+  one_counted : (b t : Bool) (m : Member) (ks : List Member) → test m ≡ t
       → length (filter test (cond b (m ∷ ks) ks)) ≡ cond (b && t) 1 0 + length (filter test ks)
   one_counted false t m ks e = omega arith
   one_counted true true m ks e = ap (λ b. length (cond b (m ∷ filter test ks) (filter test ks))) e ∙ omega arith
@@ -121,20 +98,20 @@ one_turn true false true t x y z node before = omega arith
 one_turn true true false t x y z node before = omega arith
 one_turn true false false t x y z node before = omega arith
 
-module _ (test : Keyword → Bool) where
-  abbrev passing : (Keyword → Bool) → Named → List Keyword
+module _ (test : Member → Bool) where
+  abbrev passing : (Member → Bool) → Named → List Member
   passing turn ms = filter test (filter turn ms)
 
-  abbrev firsts : Named → List Keyword
+  abbrev firsts : Named → List Member
   firsts ms = passing (λ k. comes_before_else k.0) ms
 
-  abbrev seconds : Named → List Keyword
+  abbrev seconds : Named → List Member
   seconds ms = passing (λ k. is_else k.0) ms
 
-  abbrev lasts : Named → List Keyword
+  abbrev lasts : Named → List Member
   lasts ms = passing (λ k. comes_after_else k.0) ms
 
-  abbrev with_turn : Keyword → Bool
+  abbrev with_turn : Member → Bool
   with_turn m = is_ever (turn_of m.0) && test m
 
   in_three : (ms : Named) → filter test (in_order ms) ≡ firsts ms ++ (seconds ms ++ lasts ms)
@@ -158,7 +135,7 @@ module _ (test : Keyword → Bool) where
       ∙ (ap (λ n. cond (with_turn m) 1 0 + n) (three_counted ms)
       ∙ more (with_turn m) m (filter with_turn ms)))
     where
-      more : (b : Bool) (m : Keyword) (ks : List Keyword) → cond b 1 0 + length ks ≡ length (cond b (m ∷ ks) ks)
+      more : (b : Bool) (m : Member) (ks : List Member) → cond b 1 0 + length ks ≡ length (cond b (m ∷ ks) ks)
       more true m ks = omega arith
       more false m ks = omega arith
 
@@ -169,7 +146,7 @@ module _ (test : Keyword → Bool) where
 
 -- ---- judging in the order of nodes, and over all members
 
-one_holds : (says : Keyword → Bool) (test : Keyword → Bool) (b t : Bool) (m : Keyword) (ks : List Keyword) → test m ≡ t
+one_holds : (says : Member → Bool) (test : Member → Bool) (b t : Bool) (m : Member) (ks : List Member) → test m ≡ t
     → list_all says (filter test (cond b (m ∷ ks) ks)) ≡ (cond (b && t) (says m) true && list_all says (filter test ks))
 one_holds says test false t m ks e = refl
 one_holds says test true true m ks e = ap (λ b. list_all says (cond b (m ∷ filter test ks) (filter test ks))) e
@@ -200,7 +177,7 @@ one_turn_holds true false true t b x y z node before = second_up (cond t b true)
 one_turn_holds true true false t b x y z node before = last_up (cond t b true) x y z
 one_turn_holds true false false t b x y z node before = first_up (cond t b true) x y z
 
-module _ (says : Keyword → Bool) (test : Keyword → Bool) where
+module _ (says : Member → Bool) (test : Member → Bool) where
   three_hold : (ms : Named) → (list_all says (firsts test ms) && (list_all says (seconds test ms)
       && list_all says (lasts test ms))) ≡ list_all (λ m. cond (with_turn test m) (says m) true) ms
   unfolding turn_of
@@ -230,14 +207,14 @@ alike false false x y xs ys e r = r
 alike true false x y xs ys e r = cc
 alike false true x y xs ys e r = cc
 
-abbrev unvisited : Keyword → Bool
+abbrev unvisited : Member → Bool
 unvisited k = not (is_visited true k)
 
 leaves_counted : (ms : Named)
     → length (filter has_leaf (keyword_names_of ms)) ≡ length (filter (with_turn unvisited) ms)
 unfolding is_visited
 leaves_counted [] = refl
-leaves_counted (m ∷ ms) = alike (has_leaf (keyword_name m.0)) (with_turn unvisited m) (keyword_name m.0) m
+leaves_counted (m ∷ ms) = alike (has_leaf (which_keyword m.0)) (with_turn unvisited m) (which_keyword m.0) m
     (filter has_leaf (keyword_names_of ms)) (filter (with_turn unvisited) ms) (leaf_of m.0) (leaves_counted ms)
 
 -- ---- by their assertions
@@ -246,21 +223,21 @@ module _ (siblings : Named) (v : Value) (matching : ℕ) where
   abbrev asserted_says : Option Asserted → Bool
   asserted_says o = option_map_or (λ a. says a v matching) o true
 
-  by_kind : (k : Keyword) (κ : KeywordName) (ever : Bool) (o : Option Asserted) → asserted k.0 k.1 siblings ≡ o
+  by_kind : (k : Member) (κ : Keyword) (ever : Bool) (o : Option Asserted) → asserted k.0 k.1 siblings ≡ o
       → is_some o ≡ is_assertion κ → (is_assertion κ ≡ true → ever ≡ true)
       → cond (ever && not (may_apply κ)) (passes_of siblings v matching k [] κ) true ≡ asserted_says o
-  by_kind k Assertion true o e some node = ap asserted_says e
-  by_kind k Assertion false o e some node = absurd (let i : false ≡ true = node refl in cc)
+  by_kind k (Assertion _) true o e some node = ap asserted_says e
+  by_kind k (Assertion _) false o e some node = absurd (let i : false ≡ true = node refl in cc)
   by_kind k (Other _) true None e some node = refl
   by_kind k (Other _) false None e some node = refl
   by_kind k _ true None e some node = refl
   by_kind k _ false None e some node = refl
   by_kind k _ ever (Some a) e some node = cc
 
-  by_member : (m : Keyword) → cond (is_ever (turn_of m.0) && not (may_apply (keyword_name m.0)))
-      (passes_of siblings v matching m [] (keyword_name m.0)) true ≡ asserted_says (asserted m.0 m.1 siblings)
+  by_member : (m : Member) → cond (is_ever (turn_of m.0) && not (may_apply (which_keyword m.0)))
+      (passes_of siblings v matching m [] (which_keyword m.0)) true ≡ asserted_says (asserted m.0 m.1 siblings)
   by_member m =
-      by_kind m (keyword_name m.0) (is_ever (turn_of m.0)) (asserted m.0 m.1 siblings) refl
+      by_kind m (which_keyword m.0) (is_ever (turn_of m.0)) (asserted m.0 m.1 siblings) refl
       (some_mapped _ (keyword_named m.0) ∙ asserts m.0) (node_of m.0)
 
   said : (o : Option Asserted) → list_all (λ a. says a v matching) (option_to_list o) ≡ asserted_says o
@@ -272,8 +249,8 @@ module _ (siblings : Named) (v : Value) (matching : ℕ) where
       alone false = refl
 
   each_said : (ms : Named) → list_all (λ a. says a v matching) (flat_map (assertion_at siblings) ms)
-      ≡ list_all (λ m. cond (is_ever (turn_of m.0) && not (may_apply (keyword_name m.0)))
-      (passes_of siblings v matching m [] (keyword_name m.0)) true) ms
+      ≡ list_all (λ m. cond (is_ever (turn_of m.0) && not (may_apply (which_keyword m.0)))
+      (passes_of siblings v matching m [] (which_keyword m.0)) true) ms
   each_said [] = refl
   each_said (m ∷ ms) =
       list_all-append (λ a. says a v matching) (assertion_at siblings m) (flat_map (assertion_at siblings) ms)
@@ -285,7 +262,7 @@ assertions_are : (s : Site) → assertions_at s ≡ flat_map (assertion_at (entr
 assertions_are s = ap (λ ms. flat_map (assertion_at ms) ms) (same_members s.schema)
 
 pub judged_together : (documents : Documents) (n : ℕ) (v : Value) (matching : ℕ) (assertions : List Asserted)
-    (names : List KeywordName) (pass : Bool) (count : ℕ) → is_place documents n ≡ true
+    (names : List Keyword) (pass : Bool) (count : ℕ) → is_place documents n ≡ true
     → option_map assertions_at (place_at documents n) ≡ Some assertions
     → names ≡ keyword_names_of (entries (numbered_site documents n).schema)
     → pass ≡ list_all (λ a. says a v matching) assertions → count ≡ length (filter has_leaf names)
@@ -300,7 +277,7 @@ judged_together documents n v matching assertions names pass count there built n
     record {
       verdict =
           passes ∙ (ap (list_all (λ a. says a v matching)) (same ∙ assertions_are s)
-          ∙ (each_said ms v matching ms ∙ sym (all_hold (λ k. passes_of ms v matching k [] (keyword_name k.0))
+          ∙ (each_said ms v matching ms ∙ sym (all_hold (λ k. passes_of ms v matching k [] (which_keyword k.0))
           unvisited ms)));
       many = counted ∙ (ap (λ l. length (filter has_leaf l)) named
           ∙ (leaves_counted ms ∙ sym (all_counted unvisited ms)));

@@ -6,7 +6,7 @@ use Rattle.js_doc.specs.Value.{Value}
 use Rattle.js_tree.specs.Events.{Event, Passes, closing, opening}
 use Rattle.js_tree.specs.Note.{Note}
 use Rattle.js_tree.specs.Rows.RelativeState.{HasLeaf, relative_after, relative_state}
-use Rattle.js_eval.specs.Keywords.{Keyword}
+use Rattle.js_eval.specs.Keywords.{Member}
 use Rattle.js_eval.specs.SchemaSet.{Text, SchemaSet}
 use Rattle.js_eval.specs.Walk.Progress.{LeafReported, at_name, says_at}
 use Rattle.js_eval.specs.code.Recorded.{TakesEvent}
@@ -14,7 +14,7 @@ use Rattle.js_eval.specs.declared.reporters.recording.Recording.{Recording}
 
 -- its node opens and closes
 pub leaf_of_steps : {C P : Type 0} (S : SchemaSet P) (takes : C → Event → C → Type 0) (place : P) (v : Value)
-    (k : Keyword) (matching : ℕ) (passes : Bool) (succeeded : ℕ) (keyword instance mid : Text) (c m d : C)
+    (k : Member) (matching : ℕ) (passes : Bool) (succeeded : ℕ) (keyword instance mid : Text) (c m d : C)
     → mid ≡ at_name keyword k → takes c (opening mid (S.absolute place (Some k.0)) instance) m
     → takes m (closing passes (says_at S place v matching k succeeded [] [] passes)) d
     → LeafReported S takes place v k matching passes succeeded keyword instance c d
@@ -22,7 +22,7 @@ leaf_of_steps S takes place v k matching passes succeeded keyword instance mid c
     (m, subst (λ text. takes c (opening text (S.absolute place (Some k.0)) instance) m) e opened, (d, closed, refl))
 
 -- where its name is written as it is
-pub name_as_it_is : (trail : Text) (k : Keyword) → escape k.0 ≡ k.0 → trail ++ 47 ∷ k.0 ≡ at_name trail k
+pub name_as_it_is : (trail : Text) (k : Member) → escape k.0 ≡ k.0 → trail ++ 47 ∷ k.0 ≡ at_name trail k
 unfolding at_name
 name_as_it_is trail k e =
     ap (λ name. trail ++ 47 ∷ name) (sym e) ∙ ap (λ text. trail ++ 47 ∷ text) (sym (append-nil (escape k.0)))

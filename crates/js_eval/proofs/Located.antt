@@ -8,7 +8,7 @@ use Rattle.js_tree.specs.Forest.{Forest, empty, tree}
 use Rattle.js_tree.specs.Rows.Relative.{BeginsWith, AreLocated, IsLocated}
 use Rattle.js_tree.specs.Rows.RelativeState.{IsRootAt}
 use Rattle.js_eval.specs.Applications.{Application}
-use Rattle.js_eval.specs.Keywords.{Keyword, keywords}
+use Rattle.js_eval.specs.Keywords.{Member, keywords}
 use Rattle.js_eval.specs.Location.{Location, at_root, step_tokens, at_keyword_named, at_application}
 use Rattle.js_eval.specs.Result.{OutputUnit, ResultTree, schema_unit, keyword_unit}
 use Rattle.js_eval.specs.Result.{AreKeywordNodes, AreSchemaNodes, IsNode, IsResult}
@@ -41,7 +41,7 @@ located_by keyword instance u w below after e k i b a =
 module _ {Place : Type 0} (S : SchemaSet Place) where
   module _ (n : ℕ) where
     mutual
-      located_below_schema : (above : List Place) (place : Place) (at : Location) (v : Value) (ks : List Keyword)
+      located_below_schema : (above : List Place) (place : Place) (at : Location) (v : Value) (ks : List Member)
           (f : Forest OutputUnit) → AreKeywordNodes S n above place at v ks f
           → AreLocated (pointer_text at.keyword) (pointer_text at.instance) f
       located_below_schema above place at v [] empty r = tt

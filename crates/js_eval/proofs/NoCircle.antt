@@ -4,23 +4,23 @@ use Rattle.std.specs.List.{flat_map}
 use Rattle.std.proofs.Common.{ap}
 use Rattle.js_doc.specs.Value.{Value}
 use Rattle.js_eval.specs.Evaluated.{names_origin, indexes_origin}
-use Rattle.js_eval.specs.Keywords.{Keyword, keywords}
-use Rattle.js_bundle.specs.KeywordName.{keyword_name}
+use Rattle.js_eval.specs.Keywords.{Member, keywords}
+use Rattle.js_keyword.specs.Keyword.{which_keyword}
 use Rattle.js_eval.specs.Unevaluated.{is_unevaluated, is_unevaluated_items, is_unevaluated_properties}
 use Rattle.js_eval.specs.SchemaSet.{SchemaSet}
 use Rattle.js_eval.specs.Verdict as verdict
 use Rattle.js_eval.specs.Verdict.{Known}
-use Rattle.js_bundle.specs.declared.keyword_name.KeywordName.{KeywordName}
-use Rattle.js_bundle.specs.declared.keyword_name.KeywordName.TheVariants.{UnevaluatedItems, UnevaluatedProperties}
+use Rattle.js_keyword.specs.declared.keyword.Keyword.{Keyword}
+use Rattle.js_keyword.specs.declared.keyword.Keyword.TheVariants.{UnevaluatedItems, UnevaluatedProperties}
 use Rattle.js_eval.specs.declared.evaluation.keeping.Origin.TheVariants.{Nowhere}
 use Rattle.js_eval.proofs.Agree.{plain}
 use Rattle.js_eval.proofs.Recursion.Sources.{no_names_given, no_indexes_given}
 
-no_names : (κ : KeywordName) → is_unevaluated_items κ ≡ true → names_origin κ ≡ Nowhere
+no_names : (κ : Keyword) → is_unevaluated_items κ ≡ true → names_origin κ ≡ Nowhere
 no_names UnevaluatedItems h = refl
 no_names _ h = cc
 
-no_indexes : (κ : KeywordName) → is_unevaluated_properties κ ≡ true → indexes_origin κ ≡ Nowhere
+no_indexes : (κ : Keyword) → is_unevaluated_properties κ ≡ true → indexes_origin κ ≡ Nowhere
 no_indexes UnevaluatedProperties h = refl
 no_indexes _ h = cc
 
@@ -54,39 +54,39 @@ neither b c p q = cc
 
 module _ {Place : Type 0} (S : SchemaSet Place) (known : Known Place) (above : List Place)
     (place : Place) (v : Value) where
-  asks_plain : (k : Keyword) → is_unevaluated (keyword_name k.0) ≡ false
+  asks_plain : (k : Member) → is_unevaluated (which_keyword k.0) ≡ false
       → verdict.asks S known above place v k ≡ verdict.others_ask S known above place v k
   asks_plain k h =
       plain S (verdict.path S known above place v) place (verdict.siblings S known above place v) v
       (verdict.condition S known above place v) (verdict.evaluated_names S known above place v)
-      (verdict.evaluated_indexes S known above place v) k (keyword_name k.0) h
+      (verdict.evaluated_indexes S known above place v) k (which_keyword k.0) h
 
   pub names_in_no_circle : flat_map (verdict.gives_names S known above place v)
-      (filter (λ k. not (is_unevaluated_properties (keyword_name k.0))) (keywords (S.schema place)))
+      (filter (λ k. not (is_unevaluated_properties (which_keyword k.0))) (keywords (S.schema place)))
       ≡ verdict.evaluated_names S known above place v
   names_in_no_circle =
       left_out (verdict.gives_names S known above place v) (λ k. verdict.names_by S known above place v
       (verdict.matching S known above place v) k (verdict.others_ask S known above place v k))
-      (λ k. is_unevaluated_properties (keyword_name k.0)) (λ k. is_unevaluated_items (keyword_name k.0))
-      (λ k. is_unevaluated (keyword_name k.0))
-      (λ k. either_state (is_unevaluated_items (keyword_name k.0)) (is_unevaluated_properties (keyword_name k.0)))
-      (λ k h. no_names_given S known above place v k (no_names (keyword_name k.0) h))
+      (λ k. is_unevaluated_properties (which_keyword k.0)) (λ k. is_unevaluated_items (which_keyword k.0))
+      (λ k. is_unevaluated (which_keyword k.0))
+      (λ k. either_state (is_unevaluated_items (which_keyword k.0)) (is_unevaluated_properties (which_keyword k.0)))
+      (λ k h. no_names_given S known above place v k (no_names (which_keyword k.0) h))
       (λ k h g. ap (verdict.names_by S known above place v (verdict.matching S known above place v) k)
-      (asks_plain k (neither (is_unevaluated_items (keyword_name k.0)) (is_unevaluated_properties
-      (keyword_name k.0)) g h)))
+      (asks_plain k (neither (is_unevaluated_items (which_keyword k.0)) (is_unevaluated_properties
+      (which_keyword k.0)) g h)))
       (keywords (S.schema place))
 
   pub indexes_in_no_circle : flat_map (verdict.gives_indexes S known above place v) (filter (λ k. not
-      (is_unevaluated_items (keyword_name k.0))) (keywords (S.schema place)))
+      (is_unevaluated_items (which_keyword k.0))) (keywords (S.schema place)))
       ≡ verdict.evaluated_indexes S known above place v
   indexes_in_no_circle =
       left_out (verdict.gives_indexes S known above place v) (λ k. verdict.indexes_by S known above place v
       (verdict.matching S known above place v) k (verdict.others_ask S known above place v k))
-      (λ k. is_unevaluated_items (keyword_name k.0)) (λ k. is_unevaluated_properties (keyword_name k.0))
-      (λ k. is_unevaluated (keyword_name k.0))
+      (λ k. is_unevaluated_items (which_keyword k.0)) (λ k. is_unevaluated_properties (which_keyword k.0))
+      (λ k. is_unevaluated (which_keyword k.0))
       (λ k. refl)
-      (λ k h. no_indexes_given S known above place v k (no_indexes (keyword_name k.0) h))
+      (λ k h. no_indexes_given S known above place v k (no_indexes (which_keyword k.0) h))
       (λ k h g. ap (verdict.indexes_by S known above place v (verdict.matching S known above place v) k)
-      (asks_plain k (neither (is_unevaluated_items (keyword_name k.0)) (is_unevaluated_properties
-      (keyword_name k.0)) h g)))
+      (asks_plain k (neither (is_unevaluated_items (which_keyword k.0)) (is_unevaluated_properties
+      (which_keyword k.0)) h g)))
       (keywords (S.schema place))

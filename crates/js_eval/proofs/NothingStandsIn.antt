@@ -33,27 +33,27 @@ use Rattle.js_bundle.specs.Url.{decoded_fragment}
 use Rattle.js_bundle.proofs.Finding.StepsFit.{applies_fits}
 use Rattle.js_bundle.proofs.SchemaBelow.{is_one, is_listed, is_named}
 use Rattle.js_bundle.proofs.Standing.{standing}
+use Rattle.js_keyword.proofs.KeywordNames.{known_by_name}
 use Rattle.js_eval.specs.Applications.{Application, asks_of, indexed, indexed_from}
 use Rattle.js_eval.specs.Bundle.{schemas_of}
-use Rattle.js_eval.specs.Keywords.{Keyword, keywords}
-use Rattle.js_bundle.specs.KeywordName.{applying, keyword_name}
+use Rattle.js_eval.specs.Keywords.{Member, keywords}
+use Rattle.js_keyword.specs.Keyword.{which_keyword}
 use Rattle.js_eval.specs.Laws.{looked_for, IsFound, IsOfFound, NothingStandsIn}
 use Rattle.js_eval.specs.SchemaSet.{SchemaSet}
 use Rattle.js_eval.specs.code.Holding.{IsIn}
 use Rattle.js_bundle.specs.Ranked.{applies_at}
-use Rattle.js_bundle.specs.declared.keyword_name.KeywordName.{KeywordName}
-use Rattle.js_bundle.specs.declared.keyword_name.OtherName.{OtherName}
-use Rattle.js_bundle.specs.declared.keyword_name.KeywordName.TheVariants.{Ref, DynamicRef, AllOf, AnyOf, OneOf, Not}
-use Rattle.js_bundle.specs.declared.keyword_name.KeywordName.TheVariants.{If, Then, Else}
-use Rattle.js_bundle.specs.declared.keyword_name.KeywordName.TheVariants.{DependentSchemas, PrefixItems, Items}
-use Rattle.js_bundle.specs.declared.keyword_name.KeywordName.TheVariants.{Contains, Properties, PatternProperties}
-use Rattle.js_bundle.specs.declared.keyword_name.KeywordName.TheVariants.{AdditionalProperties}
-use Rattle.js_bundle.specs.declared.keyword_name.KeywordName.TheVariants.{PropertyNames, UnevaluatedItems}
-use Rattle.js_bundle.specs.declared.keyword_name.KeywordName.TheVariants.{UnevaluatedProperties, Assertion, Other}
+use Rattle.js_keyword.specs.declared.keyword.Keyword.{Keyword}
+use Rattle.js_keyword.specs.declared.other_keyword.OtherKeyword.{OtherKeyword}
+use Rattle.js_keyword.specs.declared.keyword.Keyword.TheVariants.{Ref, DynamicRef, AllOf, AnyOf, OneOf, Not}
+use Rattle.js_keyword.specs.declared.keyword.Keyword.TheVariants.{If, Then, Else}
+use Rattle.js_keyword.specs.declared.keyword.Keyword.TheVariants.{DependentSchemas, PrefixItems, Items}
+use Rattle.js_keyword.specs.declared.keyword.Keyword.TheVariants.{Contains, Properties, PatternProperties}
+use Rattle.js_keyword.specs.declared.keyword.Keyword.TheVariants.{AdditionalProperties}
+use Rattle.js_keyword.specs.declared.keyword.Keyword.TheVariants.{PropertyNames, UnevaluatedItems}
+use Rattle.js_keyword.specs.declared.keyword.Keyword.TheVariants.{UnevaluatedProperties, Assertion, Other}
 use Rattle.js_eval.proofs.AssertionThere.{same_members}
 use Rattle.js_eval.proofs.FoundByName.{all_of_filter, keywords_among}
 use Rattle.js_eval.proofs.Holding.{argument_is, items_are}
-use Rattle.js_eval.proofs.Standard.{by_keyword}
 
 -- ---- what is found is among the places
 
@@ -120,56 +120,6 @@ below_at : (b : Bool) (all : List Site) (test : Site → Bool) (t : Site)
     → cond b (find test all) None ≡ Some t → Among all t
 below_at true all test t e = found_among test all t e
 below_at false all test t e = absurd (cc)
-
--- ---- what a keyword's name says
-
-abbrev agrees : Bool → Bool → Bool
-agrees f g = not g || f
-
-agreed : (f g : Bool) → agrees f g ≡ true → g ≡ true → f ≡ true
-agreed true g a h = refl
-agreed false true a h = absurd (cc)
-agreed false false a h = absurd (cc)
-
-unsaid : (f g : Bool) → g ≡ false → agrees f g ≡ true
-unsaid f true h = absurd (cc)
-unsaid f false h = refl
-
--- a test of names that agrees with one of keywords in each row
-by_table : (f : Text → Bool) (g : KeywordName → Bool) (name : Text) → g Assertion ≡ false
-    → ((other : OtherName) → g (Other other) ≡ false)
-    → list_all (λ row. agrees (f row.0) (g row.1)) applying ≡ true → g (keyword_name name) ≡ true → f name ≡ true
-by_table f g name a o rows =
-    agreed (f name) (g (keyword_name name)) (by_keyword (λ n w. agrees (f n) (g w))
-    (λ n. unsaid (f n) (g Assertion) a) (λ n other. unsaid (f n) (g (Other other)) (o other)) rows name)
-
-abbrev is_reference : KeywordName → Bool
-is_reference Ref = true
-is_reference _ = false
-
-abbrev is_dynamic_reference : KeywordName → Bool
-is_dynamic_reference DynamicRef = true
-is_dynamic_reference _ = false
-
-reference_named : (name : Text) → is_reference (keyword_name name) ≡ true → name ≡ codes "$ref"
-reference_named name e =
-    (bytes_eq-Decides name (codes "$ref")).0
-    (by_table (λ n. bytes_eq n (codes "$ref")) is_reference name refl (λ _. refl) refl e)
-
-abbrev is_pattern_properties : KeywordName → Bool
-is_pattern_properties PatternProperties = true
-is_pattern_properties _ = false
-
-pub patterns_named : (name : Text) → keyword_name name ≡ PatternProperties → name ≡ codes "patternProperties"
-patterns_named name e =
-    (bytes_eq-Decides name (codes "patternProperties")).0
-    (by_table (λ n. bytes_eq n (codes "patternProperties")) is_pattern_properties name refl (λ _. refl) refl
-    (ap is_pattern_properties e))
-
-dynamic_reference_named : (name : Text) → is_dynamic_reference (keyword_name name) ≡ true → name ≡ codes "$dynamicRef"
-dynamic_reference_named name e =
-    (bytes_eq-Decides name (codes "$dynamicRef")).0
-    (by_table (λ n. bytes_eq n (codes "$dynamicRef")) is_dynamic_reference name refl (λ _. refl) refl e)
 
 -- ---- parts of an argument
 
@@ -246,7 +196,7 @@ or_it : (o : Option Site) (t d : Site) → o ≡ Some t → o ≡ Some (unwrap_o
 or_it None t d e = absurd (cc)
 or_it (Some x) t d e = refl
 
-module _ (documents : Documents) (place : Site) (finds : FindsAll documents place) (k : Keyword)
+module _ (documents : Documents) (place : Site) (finds : FindsAll documents place) (k : Member)
     (there : IsIn place.schema k) where
   abbrev S : SchemaSet Site
   S = schemas_of documents
@@ -272,7 +222,7 @@ module _ (documents : Documents) (place : Site) (finds : FindsAll documents plac
   has_named : (name : Text) → k.0 ≡ name → has_argument name place.schema ≡ true
   has_named name e = ap (λ n. has_argument n place.schema) (sym e) ∙ ap is_some argument_there
 
-  module _ (κ : KeywordName) (does : keyword_name k.0 ≡ κ) where
+  module _ (κ : Keyword) (does : which_keyword k.0 ≡ κ) where
     one_found : applies_at κ Alone ≡ true → IsFound documents (below documents place k.0 Alone)
         (S.below place k.0 Alone)
     one_found h = held_found Alone k.1
@@ -298,34 +248,34 @@ module _ (documents : Documents) (place : Site) (finds : FindsAll documents plac
 
   module _ (path : List Site) (siblings : Named) (v : Value) (condition : Option Bool) (names : List Text)
       (indexes : List ℕ) where
-    abbrev Found : KeywordName → Application Site → Type 0
+    abbrev Found : Keyword → Application Site → Type 0
     Found κ a = IsFound documents (looked_for documents path place k.0 a.step κ) a.place
 
-    abbrev asked : KeywordName → List (Application Site)
+    abbrev asked : Keyword → List (Application Site)
     asked κ = asks_of S path place siblings v condition names indexes k κ
 
-    then_found : (c : Option Bool) → keyword_name k.0 ≡ Then → AllByRecursion (Found Then)
+    then_found : (c : Option Bool) → which_keyword k.0 ≡ Then → AllByRecursion (Found Then)
         (asks_of S path place siblings v c names indexes k Then)
     then_found None e = tt
     then_found (Some true) e = (one_found Then e refl, tt)
     then_found (Some false) e = tt
 
-    else_found : (c : Option Bool) → keyword_name k.0 ≡ Else → AllByRecursion (Found Else)
+    else_found : (c : Option Bool) → which_keyword k.0 ≡ Else → AllByRecursion (Found Else)
         (asks_of S path place siblings v c names indexes k Else)
     else_found None e = tt
     else_found (Some true) e = tt
     else_found (Some false) e = (one_found Else e refl, tt)
 
-    found_by : (κ : KeywordName) → keyword_name k.0 ≡ κ → AllByRecursion (Found κ) (asked κ)
+    found_by : (κ : Keyword) → which_keyword k.0 ≡ κ → AllByRecursion (Found κ) (asked κ)
     found_by Ref e =
-        let t = finds.target (has_named (codes "$ref") (reference_named k.0 (ap is_reference e))) in (
+        let t = finds.target (has_named (codes "$ref") (known_by_name k.0 Ref e refl)) in (
           is_found (ref_target (sites documents) place) t.0 t.1
               (named_among (sites documents) (reference (codes "$ref") place)),
           tt,
         )
     found_by DynamicRef e =
         let t = finds.dynamic_target path (has_named (codes "$dynamicRef")
-        (dynamic_reference_named k.0 (ap is_dynamic_reference e))) in
+        (known_by_name k.0 DynamicRef e refl)) in
         let uri = reference (codes "$dynamicRef") place in (
           is_found (dynamic_ref_target (sites documents) path place) t.0 t.1
               (λ u. dynamic_among (sites documents) path uri (first_target (sites documents) (codes "$dynamicRef")
@@ -367,7 +317,7 @@ module _ (documents : Documents) (place : Site) (finds : FindsAll documents plac
         (λ x h. one_found UnevaluatedItems e refl) _ (any_of _)
     found_by UnevaluatedProperties e = each_mapped _ (Found UnevaluatedProperties) _
         (λ m h. one_found UnevaluatedProperties e refl) _ (any_of _)
-    found_by Assertion e = tt
+    found_by (Assertion _) e = tt
     found_by (Other _) e = tt
 
 -- ---- of each keyword of a place
@@ -386,14 +336,14 @@ ascending _ a = tt
 
 module _ (documents : Documents) (place : Site) (finds : FindsAll documents place) (path : List Site) (v : Value)
     (condition : Option Bool) (names : List Text) (indexes : List ℕ) where
-  each_found : (ks : List Keyword) → AllByRecursion (IsIn place.schema) ks
+  each_found : (ks : List Member) → AllByRecursion (IsIn place.schema) ks
       → AllByRecursion (λ k. AllByRecursion (IsOfFound documents path place k)
       (asks_of (schemas_of documents) path place (entries place.schema) v condition names indexes k
-      (keyword_name k.0))) ks
+      (which_keyword k.0))) ks
   each_found [] all = tt
   each_found (k ∷ ks) all = (
     found_by documents place finds k all.0 path (entries place.schema) v condition names
-        indexes (keyword_name k.0) refl,
+        indexes (which_keyword k.0) refl,
     each_found ks all.1,
   )
 

@@ -1,24 +1,24 @@
 -- Whole results over documents, by computing what the definitions say.
 use Rattle.std.specs.Prelude.{◌≡◌, ℕ, zero, suc, List, [], ◌∷◌, ◌++◌, Bool, true, false, refl}
 use Rattle.js_doc.specs.Value.{Value, null}
-use Rattle.js_assert.specs.Keyword.{keyword_named}
+use Rattle.js_keyword.specs.AssertionKeyword.{keyword_named}
 use Rattle.js_bundle.specs.Place.{holding}
 use Rattle.js_bundle.specs.Url.{printed, without_fragment}
 use Rattle.js_bundle.proofs.OnLiterals.{url_on_literals}
 use Rattle.js_eval.specs.Examples.{one_document}
-use Rattle.js_bundle.specs.KeywordName.{keyword_name}
+use Rattle.js_keyword.specs.Keyword.{which_keyword}
 use Rattle.js_eval.specs.ResultExamples.{GiveTheseResults, chain}
 use Rattle.js_eval.specs.Verdict.{within}
 
 chain_settled : (root : Value) (n : ℕ) (above : List Value)
     → (within (one_document root) (suc n)).settled above (chain n) null ≡ true
-unfolding within keyword_name
+unfolding within which_keyword
 chain_settled root zero above = refl
 chain_settled root (suc n) above = let h = chain_settled root n (above ++ chain (suc n) ∷ []) in rw h refl
 
 chain_open : (root : Value) (n : ℕ) (above : List Value)
     → (within (one_document root) n).settled above (chain n) null ≡ false
-unfolding within keyword_name
+unfolding within which_keyword
 chain_open root zero above = refl
 chain_open root (suc n) above = let h = chain_open root n (above ++ chain (suc n) ∷ []) in rw h refl
 
@@ -27,7 +27,7 @@ not_both true e h = cc
 not_both false e h = cc
 
 pub given : GiveTheseResults
-unfolding url_on_literals holding printed without_fragment within keyword_name keyword_named
+unfolding url_on_literals holding printed without_fragment within which_keyword keyword_named
 given = record {
   escaped_name = record { bound = 2; settled = refl; node = (refl, (refl, (refl, (refl, tt, tt), tt), tt)) };
   failing_properties = record

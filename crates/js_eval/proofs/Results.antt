@@ -6,7 +6,7 @@ use Rattle.std.proofs.lemmas.Bool.{and_parts}
 use Rattle.js_doc.specs.Value.{Value}
 use Rattle.js_tree.specs.Forest.{Forest, empty, tree}
 use Rattle.js_eval.specs.Applications.{Application}
-use Rattle.js_eval.specs.Keywords.{Keyword, keywords}
+use Rattle.js_eval.specs.Keywords.{Member, keywords}
 use Rattle.js_eval.specs.Location.{Location, at_keyword_named, at_application}
 use Rattle.js_eval.specs.Result.{OutputUnit, ResultTree, schema_unit, keyword_unit}
 use Rattle.js_eval.specs.Result.{AreKeywordNodes, AreSchemaNodes, IsNode, IsResult}
@@ -18,7 +18,7 @@ use Rattle.js_eval.proofs.Agree.{matching_same, holding_same, schema_settled_sam
 module _ {Place : Type 0} (S : SchemaSet Place) where
   -- ---- what a settled schema's keywords ask for is settled as well
 
-  abbrev pub KeywordsSettled : ℕ → List Place → Place → Value → List Keyword → Type 0
+  abbrev pub KeywordsSettled : ℕ → List Place → Place → Value → List Member → Type 0
   KeywordsSettled n above place v ks = list_all (keyword_settled S (within S n) above place v) ks ≡ true
 
   abbrev pub AllSettled : ℕ → List Place → List (Application Place) → Type 0
@@ -35,7 +35,7 @@ module _ {Place : Type 0} (S : SchemaSet Place) where
 
   module _ (n : ℕ) where
     mutual
-      pub one_below_schema : (above : List Place) (place : Place) (at : Location) (v : Value) (ks : List Keyword)
+      pub one_below_schema : (above : List Place) (place : Place) (at : Location) (v : Value) (ks : List Member)
           (f g : Forest OutputUnit) → AreKeywordNodes S n above place at v ks f
           → AreKeywordNodes S n above place at v ks g → f ≡ g
       one_below_schema above place at v [] empty empty r q = refl
@@ -81,7 +81,7 @@ module _ {Place : Type 0} (S : SchemaSet Place) where
     schema_unit_same above place at v h = let e = agree.holds above place v h in cc
 
     keyword_unit_same : (above : List Place) (place : Place) (at : Location) (v : Value) → KeywordsSettled n above place
-        v (keywords (S.schema place)) → (k : Keyword) → keyword_settled S (within S n) above place v k ≡ true
+        v (keywords (S.schema place)) → (k : Member) → keyword_settled S (within S n) above place v k ≡ true
         → keyword_unit S n above place at v k ≡ keyword_unit S m above place at v k
     keyword_unit_same above place at v h k s =
         let p = passes_same S (within S n) (within S m) agree above place v h k s in
@@ -92,7 +92,7 @@ module _ {Place : Type 0} (S : SchemaSet Place) where
 
     mutual
       pub carried_below_schema : (above : List Place) (place : Place) (at : Location) (v : Value) → KeywordsSettled n
-          above place v (keywords (S.schema place)) → (ks : List Keyword) (f : Forest OutputUnit) → KeywordsSettled n
+          above place v (keywords (S.schema place)) → (ks : List Member) (f : Forest OutputUnit) → KeywordsSettled n
           above place v ks → AreKeywordNodes S n above place at v ks f → AreKeywordNodes S m above place at v ks f
       carried_below_schema above place at v all [] empty h r = tt
       carried_below_schema above place at v all [] (tree t below after) h r = absurd r
@@ -150,7 +150,7 @@ module _ {Place : Type 0} (S : SchemaSet Place) where
         let f = grown_below_keyword path at apps p.1 in
         (tree (t.0).root (t.0).below f.0, ((t.1).0, (t.1).1, f.1))
 
-    pub grown_below_schema : (above : List Place) (place : Place) (at : Location) (v : Value) (ks : List Keyword)
+    pub grown_below_schema : (above : List Place) (place : Place) (at : Location) (v : Value) (ks : List Member)
         → KeywordsSettled n above place v ks → (f : Forest OutputUnit) × AreKeywordNodes S n above place at v ks f
     grown_below_schema above place at v [] h = (empty, tt)
     grown_below_schema above place at v (k ∷ ks) h =

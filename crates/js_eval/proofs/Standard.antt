@@ -1,184 +1,158 @@
 -- Which keyword of the standard a name is determines when it has its turn.
 use Rattle.std.specs.Prelude.{◌≡◌, ℕ, Bool, true, false, not, ◌||◌, cond, if◌then◌else◌, List, [], ◌∷◌}
-use Rattle.std.specs.Prelude.{Some, is_some, option_map, codes, refl}
+use Rattle.std.specs.Prelude.{Option, Some, None, option_map, unwrap_or, codes, refl}
 use Rattle.std.specs.List.{AllByRecursion, list_any, list_all}
 use Rattle.std.specs.Str.{bytes_eq}
 use Rattle.std.proofs.Common.{sym, ◌∙◌, ap, subst}
 use Rattle.std.proofs.lemmas.Bool.{and_parts}
 use Rattle.std.proofs.lemmas.Slice.Eq.{bytes_eq-Decides}
-use Rattle.js_doc.proofs.EachSame.{each_same}
-use Rattle.js_assert.specs.Keyword.{keyword_named}
+use Rattle.js_keyword.proofs.KeywordNames as names
+use Rattle.js_keyword.proofs.KeywordNames.{is_known, is_applicator, assertion_which, known_by_name, which_by_name}
+use Rattle.js_keyword.specs.AssertionKeyword.{name_of, keyword_named}
+use Rattle.js_keyword.specs.declared.assertion_keyword.AssertionKeyword.{AssertionKeyword}
+use Rattle.js_keyword.specs.declared.assertion_keyword.AssertionKeyword.TheVariants.{«Type»}
 use Rattle.js_assert.specs.Argument.{entries}
 use Rattle.js_bundle.specs.Document.{Documents}
-use Rattle.js_bundle.specs.KeywordName.{TableOfNames, applying, identifying, name_in}
-use Rattle.js_bundle.specs.KeywordName.{not_applying, keyword_name, member_keywords}
+use Rattle.js_keyword.specs.Keyword.{row_of, applicators, others, among, which_keyword}
+use Rattle.js_bundle.specs.MemberKeywords.{member_keywords}
 use Rattle.js_bundle.specs.Schemas.{is_place, place_at}
 use Rattle.js_eval.specs.Sited.{numbered_site}
 use Rattle.js_eval.proofs.AssertionThere.{place_is, same_members}
-use Rattle.js_bundle.specs.declared.keyword_name.KeywordName.{KeywordName}
-use Rattle.js_bundle.specs.declared.keyword_name.KeywordName.TheVariants.{Assertion, Other}
-use Rattle.js_bundle.specs.declared.keyword_name.OtherName.{OtherName}
-use Rattle.js_bundle.specs.declared.keyword_name.OtherName.TheVariants.{Unknown}
+use Rattle.js_keyword.specs.declared.keyword.Keyword.{Keyword}
+use Rattle.js_keyword.specs.declared.keyword.Keyword.TheVariants.{Else, Assertion, Other}
+use Rattle.js_keyword.specs.declared.other_keyword.OtherKeyword.{OtherKeyword}
+use Rattle.js_keyword.specs.declared.other_keyword.OtherKeyword.TheVariants.{Unknown}
 use Rattle.js_eval.specs.Keywords.{has_node, is_else, is_after_if, without_node}
-use Rattle.js_eval.specs.code.Standard.{turn_by_keyword, keyword_names_of}
+use Rattle.js_eval.specs.code.Standard.{turn_by_keyword, turn_by_side, keyword_names_of}
 use Rattle.js_eval.specs.code.Turns.{turn_by, turn_of}
 use Rattle.js_eval.specs.declared.order.turn.Turn.{Turn}
 use Rattle.js_eval.specs.declared.order.turn.Turn.TheVariants.{Never, First, Last}
 
--- ---- what holds of each row of a table, and of each other name, holds of each name
+-- ---- what holds of each applicator by its name, and of all others by any, holds of each name
 
-row_at : (q : List ℕ → KeywordName → Bool) (b : Bool) (name row : List ℕ) (which rest : KeywordName)
-    → bytes_eq name row ≡ b → q row which ≡ true → q name rest ≡ true → q name (cond b which rest) ≡ true
-row_at q true name row which rest e h r = ap (λ n. q n which) ((bytes_eq-Decides name row).0 e) ∙ h
-row_at q false name row which rest e h r = r
+among_has : (t : List ℕ → Keyword → Bool) (ks : List Keyword) (name : List ℕ) (k : Keyword)
+    → list_all (λ l. t (row_of l).name l) ks ≡ true → among ks name ≡ Some k → t name k ≡ true
+among_has t [] name k h e = absurd cc
+among_has t (l ∷ ls) name k h e =
+    let p = and_parts (t (row_of l).name l) (list_all (λ m. t (row_of m).name m) ls) h in
+    at (bytes_eq name (row_of l).name) refl e p.0 (among_has t ls name k p.1)
+  where
+    at : (b : Bool) → bytes_eq name (row_of l).name ≡ b → cond b (Some l) (among ls name) ≡ Some k
+        → t (row_of l).name l ≡ true → (among ls name ≡ Some k → t name k ≡ true) → t name k ≡ true
+    at true is e here more =
+        let same : l ≡ k = cc in
+        subst (λ m. t name m ≡ true) same (ap (λ n. t n l) ((bytes_eq-Decides name (row_of l).name).0 is) ∙ here)
+    at false is e here more = more e
 
-pub in_rows : (q : List ℕ → KeywordName → Bool) (rows : TableOfNames) (otherwise : KeywordName) (name : List ℕ)
-    → list_all (λ row. q row.0 row.1) rows ≡ true → q name otherwise ≡ true
-    → q name (name_in rows otherwise name) ≡ true
-in_rows q [] otherwise name h e = e
-in_rows q (row ∷ rows) otherwise name h e =
-    let p = and_parts (q row.0 row.1) (list_all (λ r. q r.0 r.1) rows) h in
-    row_at q (bytes_eq name row.0) name row.0 row.1 (name_in rows otherwise name) refl p.0
-    (in_rows q rows otherwise name p.1 e)
+abbrev is_other : Keyword → Bool
+is_other (Other _) = true
+is_other _ = false
 
--- where all that a name may be have the same, so does what it is
-module _ {X : Type 0} (f : KeywordName → X) (x : X) where
-  either_has : (b : Bool) (which other : KeywordName) → f which ≡ x → f other ≡ x → f (cond b which other) ≡ x
-  either_has true which other h e = h
-  either_has false which other h e = e
+module _ (q : List ℕ → Keyword → Bool) (name : List ℕ) where
+  by_other : ((other : OtherKeyword) → q name (Other other) ≡ true) → (k : Keyword) → is_other k ≡ true
+      → q name k ≡ true
+  by_other h (Other other) e = h other
+  by_other h _ e = cc
 
-  pub others_have : (rows : TableOfNames) (otherwise : KeywordName) (name : List ℕ)
-      → AllByRecursion (λ row. f row.1 ≡ x) rows → f otherwise ≡ x → f (name_in rows otherwise name) ≡ x
-  others_have [] otherwise name h e = e
-  others_have (row ∷ rows) otherwise name h e =
-      either_has (bytes_eq name row.0) row.1 (name_in rows otherwise name) h.0 (others_have rows otherwise name h.1 e)
+  by_others : ((other : OtherKeyword) → q name (Other other) ≡ true) → (o : Option Keyword) → among others name ≡ o
+      → q name (unwrap_or o (Other Unknown)) ≡ true
+  by_others h None e = h Unknown
+  by_others h (Some k) e = by_other h k (among_has (λ n l. is_other l) others name k refl e)
 
-pub by_keyword : (q : List ℕ → KeywordName → Bool) → ((name : List ℕ) → q name Assertion ≡ true)
-    → ((name : List ℕ) (other : OtherName) → q name (Other other) ≡ true)
-    → list_all (λ row. q row.0 row.1) applying ≡ true → (name : List ℕ) → q name (keyword_name name) ≡ true
-unfolding keyword_name
+  by_assertion : ((a : AssertionKeyword) → q name (Assertion a) ≡ true)
+      → ((other : OtherKeyword) → q name (Other other) ≡ true) → among applicators name ≡ None
+      → (o : Option AssertionKeyword) → keyword_named name ≡ o → q name (which_keyword name) ≡ true
+  by_assertion f h none (Some a) e = ap (q name) (assertion_which name a e) ∙ f a
+  by_assertion f h none None e = ap (q name) (sym (names.is_other name none e)) ∙ by_others h (among others name) refl
+
+  by_applicator : ((a : AssertionKeyword) → q name (Assertion a) ≡ true)
+      → ((other : OtherKeyword) → q name (Other other) ≡ true)
+      → list_all (λ k. q (row_of k).name k) applicators ≡ true
+      → (o : Option Keyword) → among applicators name ≡ o → q name (which_keyword name) ≡ true
+  by_applicator f h rows (Some k) e =
+      ap (q name) (sym (is_applicator name k e)) ∙ among_has q applicators name k rows e
+  by_applicator f h rows None e = by_assertion f h e (keyword_named name) refl
+
+pub by_keyword : (q : List ℕ → Keyword → Bool) → ((name : List ℕ) (a : AssertionKeyword) → q name (Assertion a) ≡ true)
+    → ((name : List ℕ) (other : OtherKeyword) → q name (Other other) ≡ true)
+    → list_all (λ k. q (row_of k).name k) applicators ≡ true → (name : List ℕ) → q name (which_keyword name) ≡ true
 by_keyword q assertion other rows name =
-    in_rows q applying (not_applying name) name rows
-    (either_has (q name) true (is_some (keyword_named name)) Assertion (name_in identifying (Other Unknown) name)
-    (assertion name) (others_have (q name) true identifying (Other Unknown) name (
-      other name _,
-      (
-        other name _,
-        (
-          other name _,
-          (
-            other name _,
-            (
-              other name _,
-              (
-                other name _,
-                (
-                  other name _,
-                  (other name _, tt),
-                ),
-              ),
-            ),
-          ),
-        ),
-      ),
-    ) (other name Unknown)))
+    by_applicator q name (assertion name) (other name) rows (among applicators name) refl
+
+-- what each known keyword has by its name, and each other name, each name has
+by_name : (P : List ℕ → Keyword → Type 0) → ((k : Keyword) → is_known k ≡ true → P (row_of k).name k)
+    → ((name : List ℕ) → which_keyword name ≡ Other Unknown → P name (Other Unknown))
+    → (name : List ℕ) → P name (which_keyword name)
+by_name P known unknown name = at (is_known (which_keyword name)) refl
+  where
+    is_unknown : (k : Keyword) → is_known k ≡ false → k ≡ Other Unknown
+    is_unknown (Other Unknown) e = refl
+    is_unknown _ e = absurd (let z : true ≡ false = e in cc)
+
+    at : (b : Bool) → is_known (which_keyword name) ≡ b → P name (which_keyword name)
+    at true e = subst (λ n. P n (which_keyword name)) (sym (known_by_name name (which_keyword name) refl e))
+        (known (which_keyword name) e)
+    at false e =
+        let is = is_unknown (which_keyword name) e in
+        subst (P name) (sym is) (unknown name is)
 
 -- ---- when it has its turn
 
-abbrev names_of_rows : TableOfNames → List (List ℕ)
-names_of_rows [] = []
-names_of_rows (row ∷ rows) = row.0 ∷ names_of_rows rows
-
--- the names in these rows have none
-none_in : (rows : TableOfNames) (otherwise : KeywordName) (name : List ℕ) (after is_it : Bool)
-    → AllByRecursion (λ row. turn_by_keyword row.1 name ≡ Never) rows
-    → turn_by true after is_it ≡ turn_by_keyword otherwise name
-    → turn_by (not (list_any (bytes_eq name) (names_of_rows rows))) after is_it
-    ≡ turn_by_keyword (name_in rows otherwise name) name
-none_in [] otherwise name after is_it h e = e
-none_in (row ∷ rows) otherwise name after is_it h e =
-    at (bytes_eq name row.0) (none_in rows otherwise name after is_it h.1 e)
+-- a name that isn't known isn't a known one
+apart : (known name : List ℕ) → is_known (which_keyword known) ≡ true → is_known (which_keyword name) ≡ false
+    → bytes_eq name known ≡ false
+apart known name k u = at (bytes_eq name known) refl
   where
-    at : (b : Bool) → turn_by (not (list_any (bytes_eq name) (names_of_rows rows))) after is_it
-        ≡ turn_by_keyword (name_in rows otherwise name) name
-        → turn_by (not (b || list_any (bytes_eq name) (names_of_rows rows))) after is_it
-        ≡ turn_by_keyword (cond b row.1 (name_in rows otherwise name)) name
-    at true r = sym h.0
-    at false r = r
+    at : (b : Bool) → bytes_eq name known ≡ b → b ≡ false
+    at true e = absurd (let z : true ≡ false = sym k
+        ∙ (ap (λ n. is_known (which_keyword n)) (sym ((bytes_eq-Decides name known).0 e)) ∙ u) in cc)
+    at false e = refl
 
--- no name of an assertion is among those without a node
-none_named : (names : List (List ℕ)) (name : List ℕ) → AllByRecursion (λ n. is_some (keyword_named n) ≡ false) names
-    → is_some (keyword_named name) ≡ true
-    → list_any (bytes_eq name) names ≡ false
-none_named [] name h s = refl
-none_named (n ∷ names) name h s = at (bytes_eq name n) refl (none_named names name h.1 s)
-  where
-    at : (b : Bool) → bytes_eq name n ≡ b → list_any (bytes_eq name) names ≡ false
-        → (b || list_any (bytes_eq name) names) ≡ false
-    at true e r = absurd
-        (let z : true ≡ false = sym s ∙ (ap (λ x. is_some (keyword_named x))
-        ((bytes_eq-Decides name n).0 e) ∙ h.0) in cc)
-    at false e r = r
+none_known : (names : List (List ℕ)) (name : List ℕ) → AllByRecursion (λ n. is_known (which_keyword n) ≡ true) names
+    → is_known (which_keyword name) ≡ false → list_any (bytes_eq name) names ≡ false
+none_known [] name h u = refl
+none_known (n ∷ names) name h u =
+    ap (λ b. b || list_any (bytes_eq name) names) (apart n name h.0 u) ∙ none_known names name h.1 u
 
-all_unnamed : AllByRecursion (λ n. is_some (keyword_named n) ≡ false) without_node
-unfolding keyword_named
-all_unnamed = (refl, (refl, (refl, (refl, (refl, (refl, (refl, (refl, tt))))))))
+all_known : AllByRecursion (λ n. is_known (which_keyword n) ≡ true) without_node
+unfolding which_keyword
+all_known = (refl, (refl, (refl, (refl, (refl, (refl, (refl, (refl, tt))))))))
 
 side_turn : (b : Bool) → turn_by true b false ≡ (if b then Last else First)
 side_turn true = refl
 side_turn false = refl
 
--- of a name that applies no schemas
-other_turn : (b : Bool) (name : List ℕ) → is_some (keyword_named name) ≡ b
-    → turn_by (has_node name) (is_after_if name) false
-    ≡ turn_by_keyword (cond b Assertion (name_in identifying (Other Unknown) name)) name
-other_turn true name e = ap (λ n. turn_by (not n) (is_after_if name) false) (none_named without_node name all_unnamed e)
-    ∙ side_turn (is_after_if name)
-other_turn false name e =
-    none_in identifying (Other Unknown) name (is_after_if name) false
-    (refl, (refl, (refl, (refl, (refl, (refl, (refl, (refl, tt))))))))
-    (side_turn (is_after_if name))
+assertion_turn : (a : AssertionKeyword) → turn_of (name_of a) ≡ turn_by_side (name_of a)
+unfolding turn_of
+assertion_turn «Type» = refl
+assertion_turn _ = refl
 
-turn_by_rows : (rows : TableOfNames) (otherwise : KeywordName) (name : List ℕ)
-    → AllByRecursion (λ row. turn_of row.0 ≡ turn_by_keyword row.1 row.0) rows
-    → turn_of name ≡ turn_by_keyword otherwise name
-    → turn_of name ≡ turn_by_keyword (name_in rows otherwise name) name
-turn_by_rows [] otherwise name h e = e
-turn_by_rows (row ∷ rows) otherwise name h e = at (bytes_eq name row.0) refl (turn_by_rows rows otherwise name h.1 e)
-  where
-    of_row : name ≡ row.0 → turn_of name ≡ turn_by_keyword row.1 name
-    of_row q = subst (λ n. turn_of n ≡ turn_by_keyword row.1 n) (sym q) h.0
+known_turn : (k : Keyword) → is_known k ≡ true → turn_of (row_of k).name ≡ turn_by_keyword k (row_of k).name
+unfolding turn_of
+known_turn (Assertion a) h = assertion_turn a
+known_turn (Other Unknown) h = absurd (let z : false ≡ true = h in cc)
+known_turn _ h = refl
 
-    at : (b : Bool) → bytes_eq name row.0 ≡ b → turn_of name ≡ turn_by_keyword (name_in rows otherwise name) name
-        → turn_of name ≡ turn_by_keyword (cond b row.1 (name_in rows otherwise name)) name
-    at true q r = of_row ((bytes_eq-Decides name row.0).0 q)
-    at false q r = r
+unknown_turn : (name : List ℕ) → which_keyword name ≡ Other Unknown → turn_of name ≡ turn_by_side name
+unfolding turn_of
+unknown_turn name e =
+    let u : is_known (which_keyword name) ≡ false = ap is_known e in
+    ap (λ n. turn_by (not n) (is_after_if name) (is_else name)) (none_known without_node name all_known u)
+    ∙ (ap (turn_by true (is_after_if name)) (apart (codes "else") name (ap is_known (which_by_name Else)) u)
+    ∙ side_turn (is_after_if name))
 
-else_turn : turn_of (codes "else") ≡ turn_by_keyword (keyword_name (codes "else")) (codes "else")
-unfolding turn_of keyword_name
-else_turn = refl
-
-turn_at : (b : Bool) (name : List ℕ) → is_else name ≡ b → turn_of name ≡ turn_by_keyword (keyword_name name) name
-unfolding turn_of keyword_name
-turn_at true name e = subst (λ n. turn_of n ≡ turn_by_keyword (keyword_name n) n)
-    (sym ((bytes_eq-Decides name (codes "else")).0 e)) else_turn
-turn_at false name e =
-    turn_by_rows applying (not_applying name) name
-    (each_same (λ row. turn_of row.0) (λ row. turn_by_keyword row.1 row.0) applying refl)
-    (ap (turn_by (has_node name) (is_after_if name)) e ∙ other_turn (is_some (keyword_named name)) name refl)
-
-pub turn_is : (name : List ℕ) → turn_of name ≡ turn_by_keyword (keyword_name name) name
-turn_is name = turn_at (is_else name) name refl
+pub turn_is : (name : List ℕ) → turn_of name ≡ turn_by_keyword (which_keyword name) name
+turn_is name = by_name (λ n k. turn_of n ≡ turn_by_keyword k n) known_turn unknown_turn name
 
 -- ---- as the code asks
 
-pub turn_if_named : (which : KeywordName) (name : List ℕ) (t : Turn) → which ≡ keyword_name name
+pub turn_if_named : (which : Keyword) (name : List ℕ) (t : Turn) → which ≡ which_keyword name
     → t ≡ turn_by_keyword which name → t ≡ turn_of name
 turn_if_named which name t e h = h ∙ (ap (λ w. turn_by_keyword w name) e ∙ sym (turn_is name))
 
 -- ---- of a place's keywords
 
-pub names_are : (documents : Documents) (n : ℕ) (names : List KeywordName) → is_place documents n ≡ true
+pub names_are : (documents : Documents) (n : ℕ) (names : List Keyword) → is_place documents n ≡ true
     → option_map member_keywords (place_at documents n) ≡ Some names
     → names ≡ keyword_names_of (entries (numbered_site documents n).schema)
 names_are documents n names h e =

@@ -9,7 +9,7 @@ use Rattle.std.proofs.lemmas.Cmp.{nat_list_cmp_total}
 use Rattle.std.proofs.lemmas.Slice.Eq.{bytes_eq-Decides}
 use Rattle.js_doc.specs.Value.{Named}
 use Rattle.js_doc.specs.Members.{name_cmp, IsAscending}
-use Rattle.js_eval.specs.Keywords.{Keyword, has_node, is_else, is_after_if, comes_before_else, comes_after_else}
+use Rattle.js_eval.specs.Keywords.{Member, has_node, is_else, is_after_if, comes_before_else, comes_after_else}
 use Rattle.js_eval.specs.code.Turns.{turn_by, turn_of, is_ever, ever, first_turn, second_turn}
 use Rattle.js_eval.specs.code.Turns.{last_turn, if_first, if_second, if_last, in_order}
 use Rattle.js_eval.proofs.FoundByName.{Below, below_all, its_own_reverse}
@@ -51,7 +51,7 @@ are_behind x (m ∷ ms) h b = (behind x m.0 h b.0, are_behind x ms h b.1)
 
 -- ---- those behind `if`
 
-no_first_at : (n e a : Bool) (m : Keyword) (ms : List Keyword) → a ≡ true → ms ≡ []
+no_first_at : (n e a : Bool) (m : Member) (ms : List Member) → a ≡ true → ms ≡ []
     → cond (n && (not e && not a)) (m ∷ ms) ms ≡ []
 no_first_at n e false m ms h r = cc
 no_first_at false e true m ms h r = r
@@ -64,7 +64,7 @@ no_first [] b = refl
 no_first (m ∷ ms) b = no_first_at (has_node m.0) (is_else m.0) (is_after_if m.0) m
     (filter (λ k. comes_before_else k.0) ms) b.0 (no_first ms b.1)
 
-no_else_at : (e : Bool) (m : Keyword) (ms : List Keyword) → (e ≡ true → ⊥) → ms ≡ [] → cond e (m ∷ ms) ms ≡ []
+no_else_at : (e : Bool) (m : Member) (ms : List Member) → (e ≡ true → ⊥) → ms ≡ [] → cond e (m ∷ ms) ms ≡ []
 no_else_at true m ms h r = absurd (h refl)
 no_else_at false m ms h r = r
 
@@ -78,7 +78,7 @@ no_else [] b = refl
 no_else (m ∷ ms) b = no_else_at (is_else m.0) m (filter (λ k. is_else k.0) ms)
     (λ h. apart (is_after_if m.0) b.0 (else_before m.0 h)) (no_else ms b.1)
 
-all_last_at : (n a e : Bool) (m : Keyword) (ks ls : List Keyword) → a ≡ true → ks ≡ ls
+all_last_at : (n a e : Bool) (m : Member) (ks ls : List Member) → a ≡ true → ks ≡ ls
     → cond (n && a) (m ∷ ks) ks ≡ cond (is_ever (turn_by n a e)) (m ∷ ls) ls
 all_last_at n false e m ks ls h r = cc
 all_last_at false true e m ks ls h r = r
@@ -107,7 +107,7 @@ no_more_else x (m ∷ ms) h b =
 
 -- ---- one member more
 
-first_step : (n a e : Bool) (k : Keyword) (ks fs : List Keyword) → (a ≡ true → ks ≡ []) → ks ≡ fs
+first_step : (n a e : Bool) (k : Member) (ks fs : List Member) → (a ≡ true → ks ≡ []) → ks ≡ fs
     → cond (n && (not e && not a)) (k ∷ ks) ks ≡ if_first (turn_by n a e) k fs
 first_step false a e k ks fs h r = r
 first_step true true true k ks fs h r = h refl
@@ -115,7 +115,7 @@ first_step true true false k ks fs h r = h refl
 first_step true false true k ks fs h r = r
 first_step true false false k ks fs h r = ap (λ xs. k ∷ xs) r
 
-second_step : (n a e : Bool) (k : Keyword) (ks ss : List Keyword) → (e ≡ true → n ≡ true) → (e ≡ true → a ≡ false)
+second_step : (n a e : Bool) (k : Member) (ks ss : List Member) → (e ≡ true → n ≡ true) → (e ≡ true → a ≡ false)
     → (e ≡ true → ks ≡ []) → (a ≡ true → ks ≡ []) → ks ≡ ss
     → cond e (k ∷ ks) ks ≡ if_second (turn_by n a e) k ss
 second_step false a true k ks ss node before alone none r = absurd (let z : false ≡ true = node refl in cc)
@@ -125,7 +125,7 @@ second_step false a false k ks ss node before alone none r = r
 second_step true true false k ks ss node before alone none r = none refl
 second_step true false false k ks ss node before alone none r = r
 
-last_step : (n a e : Bool) (k : Keyword) (ks ls after : List Keyword) → (a ≡ true → ks ≡ after) → ks ≡ ls
+last_step : (n a e : Bool) (k : Member) (ks ls after : List Member) → (a ≡ true → ks ≡ after) → ks ≡ ls
     → cond (n && a) (k ∷ ks) ks ≡ if_last (turn_by n a e) k after ls
 last_step false a e k ks ls after h r = r
 last_step true true e k ks ls after h r = ap (λ xs. k ∷ xs) (h refl)

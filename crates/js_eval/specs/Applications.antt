@@ -10,16 +10,16 @@ use Rattle.js_doc.specs.Value.{Value, text, Named}
 use Rattle.js_doc.specs.Members.{get}
 use Rattle.js_assert.specs.Argument.{values, entries, has}
 use Rattle.js_assert.specs.Pattern.{matches}
-use Rattle.js_eval.specs.Keywords.{Keyword}
+use Rattle.js_eval.specs.Keywords.{Member}
 use Rattle.js_eval.specs.SchemaSet.{Text, SchemaSet, Step, Alone, Index, Name}
-use Rattle.js_bundle.specs.declared.keyword_name.KeywordName.{KeywordName}
-use Rattle.js_bundle.specs.declared.keyword_name.KeywordName.TheVariants.{Ref, DynamicRef, AllOf, AnyOf, OneOf, Not}
-use Rattle.js_bundle.specs.declared.keyword_name.KeywordName.TheVariants.{If, Then, Else}
-use Rattle.js_bundle.specs.declared.keyword_name.KeywordName.TheVariants.{DependentSchemas, PrefixItems, Items}
-use Rattle.js_bundle.specs.declared.keyword_name.KeywordName.TheVariants.{Contains, Properties, PatternProperties}
-use Rattle.js_bundle.specs.declared.keyword_name.KeywordName.TheVariants.{AdditionalProperties}
-use Rattle.js_bundle.specs.declared.keyword_name.KeywordName.TheVariants.{PropertyNames, UnevaluatedItems}
-use Rattle.js_bundle.specs.declared.keyword_name.KeywordName.TheVariants.{UnevaluatedProperties, Assertion, Other}
+use Rattle.js_keyword.specs.declared.keyword.Keyword.{Keyword}
+use Rattle.js_keyword.specs.declared.keyword.Keyword.TheVariants.{Ref, DynamicRef, AllOf, AnyOf, OneOf, Not}
+use Rattle.js_keyword.specs.declared.keyword.Keyword.TheVariants.{If, Then, Else}
+use Rattle.js_keyword.specs.declared.keyword.Keyword.TheVariants.{DependentSchemas, PrefixItems, Items}
+use Rattle.js_keyword.specs.declared.keyword.Keyword.TheVariants.{Contains, Properties, PatternProperties}
+use Rattle.js_keyword.specs.declared.keyword.Keyword.TheVariants.{AdditionalProperties}
+use Rattle.js_keyword.specs.declared.keyword.Keyword.TheVariants.{PropertyNames, UnevaluatedItems}
+use Rattle.js_keyword.specs.declared.keyword.Keyword.TheVariants.{UnevaluatedProperties, Assertion, Other}
 
 -- a schema applied to a value
 pub record Application (Place : Type 0) : Type 0 where
@@ -80,7 +80,7 @@ application S place name step at value = record { place = S.below place name ste
 -- keywords of the schema have evaluated.
 
 module _ {Place : Type 0} (S : SchemaSet Place) (path : List Place) (place : Place) (siblings : Named) (v : Value)
-    (condition : Option Bool) (names : List Text) (indexes : List ℕ) (k : Keyword) where
+    (condition : Option Bool) (names : List Text) (indexes : List ℕ) (k : Member) where
   -- the keyword's schema at the step, on the whole of v, on an item of v, on a member of v
   abbrev in_place : Step → Application Place
   in_place step = application S place k.0 step Alone v
@@ -91,7 +91,7 @@ module _ {Place : Type 0} (S : SchemaSet Place) (path : List Place) (place : Pla
   abbrev applied_to_member : Step → Text × Value → Application Place
   applied_to_member step m = application S place k.0 step (Name m.0) m.1
 
-  abbrev pub asks_of : KeywordName → List (Application Place)
+  abbrev pub asks_of : Keyword → List (Application Place)
   -- 8.2.3.1: the schema that the reference leads to, on v
   asks_of Ref = record { place = S.target place; step = Alone; at = Alone; value = v } ∷ []
   -- 8.2.3.2: the schema that the reference leads to in the dynamic scope, on v
@@ -135,5 +135,5 @@ module _ {Place : Type 0} (S : SchemaSet Place) (path : List Place) (place : Pla
   -- 11.3: the schema on each member that is not evaluated
   asks_of UnevaluatedProperties = map (applied_to_member Alone) (filter (λ m. not (among_names m.0 names)) (entries v))
   -- assertions and annotations ask for nothing
-  asks_of Assertion = []
+  asks_of (Assertion _) = []
   asks_of (Other _) = []

@@ -4,13 +4,13 @@ use Rattle.std.specs.Prelude.{ℕ, List, [], ◌∷◌}
 use Rattle.std.specs.List.{flat_map}
 use Rattle.js_eval.specs.Applications.{Application}
 use Rattle.js_eval.specs.SchemaSet.{Text, Step, Index, Name}
-use Rattle.js_bundle.specs.declared.keyword_name.KeywordName.{KeywordName}
-use Rattle.js_bundle.specs.declared.keyword_name.KeywordName.TheVariants.{Ref, DynamicRef, AllOf, AnyOf, OneOf, If}
-use Rattle.js_bundle.specs.declared.keyword_name.KeywordName.TheVariants.{Then, Else}
-use Rattle.js_bundle.specs.declared.keyword_name.KeywordName.TheVariants.{DependentSchemas, PrefixItems, Items}
-use Rattle.js_bundle.specs.declared.keyword_name.KeywordName.TheVariants.{Contains, Properties, PatternProperties}
-use Rattle.js_bundle.specs.declared.keyword_name.KeywordName.TheVariants.{AdditionalProperties, UnevaluatedItems}
-use Rattle.js_bundle.specs.declared.keyword_name.KeywordName.TheVariants.{UnevaluatedProperties}
+use Rattle.js_keyword.specs.declared.keyword.Keyword.{Keyword}
+use Rattle.js_keyword.specs.declared.keyword.Keyword.TheVariants.{Ref, DynamicRef, AllOf, AnyOf, OneOf, If}
+use Rattle.js_keyword.specs.declared.keyword.Keyword.TheVariants.{Then, Else}
+use Rattle.js_keyword.specs.declared.keyword.Keyword.TheVariants.{DependentSchemas, PrefixItems, Items}
+use Rattle.js_keyword.specs.declared.keyword.Keyword.TheVariants.{Contains, Properties, PatternProperties}
+use Rattle.js_keyword.specs.declared.keyword.Keyword.TheVariants.{AdditionalProperties, UnevaluatedItems}
+use Rattle.js_keyword.specs.declared.keyword.Keyword.TheVariants.{UnevaluatedProperties}
 use Rattle.js_eval.specs.declared.evaluation.keeping.Origin.{Origin}
 use Rattle.js_eval.specs.declared.evaluation.keeping.Origin.TheVariants.{Applied, Holding, Below, Nowhere}
 
@@ -31,7 +31,7 @@ indexes_applied apps = flat_map (λ a. index_in_step a.at) apps
 
 -- ---- the table: by which of its applications a keyword evaluates members, and by which it evaluates items
 
-abbrev pub origins : KeywordName → Origin × Origin
+abbrev pub origins : Keyword → Origin × Origin
 -- 8.2.3 and 10.2: what the schemas applied in place have evaluated
 origins Ref = (Below, Below)
 origins DynamicRef = (Below, Below)
@@ -56,10 +56,10 @@ origins UnevaluatedProperties = (Applied, Nowhere)
 -- all others, including `not`
 origins _ = (Nowhere, Nowhere)
 
-abbrev pub names_origin : KeywordName → Origin
+abbrev pub names_origin : Keyword → Origin
 names_origin κ = (origins κ).0
 
-abbrev pub indexes_origin : KeywordName → Origin
+abbrev pub indexes_origin : Keyword → Origin
 indexes_origin κ = (origins κ).1
 
 -- `applied`, `holding`: what schemas were applied to, and what of it those were that hold; `below`: what the schemas of
@@ -72,8 +72,8 @@ from_origin Nowhere applied holding below = []
 
 -- a keyword asks for these applications, of which those in `holding` hold
 module _ {Place : Type 0} (apps holding : List (Application Place)) where
-  abbrev pub names_of : List Text → KeywordName → List Text
+  abbrev pub names_of : List Text → Keyword → List Text
   names_of names κ = from_origin (names_origin κ) (names_applied apps) (names_applied holding) names
 
-  abbrev pub indexes_of : List ℕ → KeywordName → List ℕ
+  abbrev pub indexes_of : List ℕ → Keyword → List ℕ
   indexes_of indexes κ = from_origin (indexes_origin κ) (indexes_applied apps) (indexes_applied holding) indexes

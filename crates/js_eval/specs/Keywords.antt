@@ -9,8 +9,8 @@ use Rattle.js_doc.specs.Value.{Value}
 use Rattle.js_assert.specs.Argument.{entries}
 
 -- a keyword's name, and its argument
-abbrev pub Keyword : Type 0
-Keyword = List ℕ × Value
+abbrev pub Member : Type 0
+Member = List ℕ × Value
 
 -- the keywords that identify schemas, hold them for reference, or comment (Core, sections 8.1 to 8.3): they require
 -- nothing of a value, and have no node; `definitions` is taken as `$defs`
@@ -39,11 +39,11 @@ abbrev pub comes_after_else : List ℕ → Bool
 comes_after_else name = has_node name && is_after_if name
 
 -- those of a schema's keywords whose names pass a test
-abbrev pub keywords_that : (List ℕ → Bool) → Value → List Keyword
+abbrev pub keywords_that : (List ℕ → Bool) → Value → List Member
 keywords_that test schema = filter (λ k. test k.0) (entries schema)
 
 -- a schema's keywords that have a node, in the order of their nodes; the members of a schema ascend,
 -- and a schema that is `true` or `false` has none
-abbrev pub keywords : Value → List Keyword
+abbrev pub keywords : Value → List Member
 keywords schema = keywords_that comes_before_else schema
     ++ (keywords_that is_else schema ++ keywords_that comes_after_else schema)

@@ -14,8 +14,8 @@ use Rattle.js_tree.specs.Rows.Relative.{IsLocated}
 use Rattle.js_eval.specs.Applications.{Application, asks_of, among_indexes, indexed}
 use Rattle.js_eval.specs.Bundle.{schemas_of}
 use Rattle.js_eval.specs.Evaluated.{indexes_applied}
-use Rattle.js_eval.specs.Keywords.{Keyword, keywords}
-use Rattle.js_bundle.specs.KeywordName.{keyword_name}
+use Rattle.js_eval.specs.Keywords.{Member, keywords}
+use Rattle.js_keyword.specs.Keyword.{which_keyword}
 use Rattle.js_eval.specs.Unevaluated.{is_unevaluated_items, is_unevaluated_properties}
 use Rattle.js_eval.specs.Location.{Location}
 use Rattle.js_eval.specs.Note.{are_all_items}
@@ -24,8 +24,8 @@ use Rattle.js_eval.specs.SchemaSet.{Text, SchemaSet, Step}
 use Rattle.js_eval.specs.Size.{node_total}
 use Rattle.js_eval.specs.Verdict.{Known, within, Settled, gives_names, gives_indexes}
 use Rattle.js_eval.specs.Verdict.{evaluated_names, evaluated_indexes}
-use Rattle.js_bundle.specs.declared.keyword_name.KeywordName.{KeywordName}
-use Rattle.js_bundle.specs.declared.keyword_name.KeywordName.TheVariants.{Ref, DynamicRef, PrefixItems, Contains}
+use Rattle.js_keyword.specs.declared.keyword.Keyword.{Keyword}
+use Rattle.js_keyword.specs.declared.keyword.Keyword.TheVariants.{Ref, DynamicRef, PrefixItems, Contains}
 
 -- v is judged at a place, to which these places led
 
@@ -77,10 +77,10 @@ module _ {Place : Type 0} (S : SchemaSet Place) (above : List Place) (place : Pl
   NoCircle =
       (known : Known Place)
       → (flat_map (gives_names S known above place v)
-      (filter (λ k. not (is_unevaluated_properties (keyword_name k.0))) (keywords (S.schema place)))
+      (filter (λ k. not (is_unevaluated_properties (which_keyword k.0))) (keywords (S.schema place)))
       ≡ evaluated_names S known above place v)
       × (flat_map (gives_indexes S known above place v)
-      (filter (λ k. not (is_unevaluated_items (keyword_name k.0))) (keywords (S.schema place)))
+      (filter (λ k. not (is_unevaluated_items (which_keyword k.0))) (keywords (S.schema place)))
       ≡ evaluated_indexes S known above place v)
 
 -- ---- `true` of every item
@@ -96,8 +96,8 @@ is_every_item v among = are_each_among (indexed v) among
 -- That these are all items of an array that isn't empty follows from their number: of what `prefixItems` was applied to
 -- (10.3.1.1), and of what matches `contains` (10.3.1.3).
 module _ {Place : Type 0} (S : SchemaSet Place) (path : List Place) (place : Place) (v : Value) (siblings : Named)
-    (condition : Option Bool) (names : List Text) (indexes : List ℕ) (k : Keyword) where
-  abbrev asked_of_items : KeywordName → List (Application Place)
+    (condition : Option Bool) (names : List Text) (indexes : List ℕ) (k : Member) where
+  abbrev asked_of_items : Keyword → List (Application Place)
   asked_of_items κ = asks_of S path place siblings v condition names indexes k κ
 
   pub record StandsForEveryItem : Type 0 where
@@ -112,7 +112,7 @@ module _ {Place : Type 0} (S : SchemaSet Place) (path : List Place) (place : Pla
 
 -- where the place of an application is looked for: the reference names it (8.2.3), or the keyword holds it at the step
 -- (10, 11)
-abbrev pub looked_for : Documents → List Site → Site → Text → Step → KeywordName → Option Site
+abbrev pub looked_for : Documents → List Site → Site → Text → Step → Keyword → Option Site
 looked_for documents path place keyword step Ref = ref_target (sites documents) place
 looked_for documents path place keyword step DynamicRef = dynamic_ref_target (sites documents) path place
 looked_for documents path place keyword step _ = below documents place keyword step
@@ -124,9 +124,9 @@ pub record IsFound (documents : Documents) (found : Option Site) (place : Site) 
   pub stands : place_at documents number ≡ Some place
 
 -- the keyword of a place asks for the application
-abbrev pub IsOfFound : Documents → List Site → Site → Keyword → Application Site → Type 0
+abbrev pub IsOfFound : Documents → List Site → Site → Member → Application Site → Type 0
 IsOfFound documents path place k a = IsFound documents (looked_for documents path place k.0 a.step
-    (keyword_name k.0)) a.place
+    (which_keyword k.0)) a.place
 
 -- In documents that are accepted, each application that a keyword of a place asks for is of a place that is found,
 -- whatever value is judged, and whatever the dynamic scope. It is a place of the documents too, so the same holds
@@ -138,5 +138,5 @@ NothingStandsIn =
     → (path : List Site) (v : Value) (condition : Option Bool) (names : List Text) (indexes : List ℕ)
     → AllByRecursion
     (λ k. AllByRecursion (IsOfFound documents path place k)
-    (asks_of (schemas_of documents) path place (entries place.schema) v condition names indexes k (keyword_name k.0)))
+    (asks_of (schemas_of documents) path place (entries place.schema) v condition names indexes k (which_keyword k.0)))
     (keywords place.schema)

@@ -11,16 +11,16 @@ use Rattle.js_assert.specs.ErrorText as assertion
 pub use Rattle.js_tree.specs.Note.{Note, silent, error, value, names, index, indexes, truly}
 use Rattle.js_eval.specs.Applications.{Application, among_names}
 use Rattle.js_eval.specs.Evaluated.{names_applied, indexes_applied}
-use Rattle.js_eval.specs.Keywords.{Keyword}
+use Rattle.js_eval.specs.Keywords.{Member}
 use Rattle.js_eval.specs.SchemaSet.{Text}
-use Rattle.js_bundle.specs.declared.keyword_name.KeywordName.{KeywordName}
-use Rattle.js_bundle.specs.declared.keyword_name.KeywordName.TheVariants.{AnyOf, OneOf, Not}
-use Rattle.js_bundle.specs.declared.keyword_name.KeywordName.TheVariants.{PrefixItems, Items, Contains}
-use Rattle.js_bundle.specs.declared.keyword_name.KeywordName.TheVariants.{Properties}
-use Rattle.js_bundle.specs.declared.keyword_name.KeywordName.TheVariants.{PatternProperties, AdditionalProperties}
-use Rattle.js_bundle.specs.declared.keyword_name.KeywordName.TheVariants.{UnevaluatedItems}
-use Rattle.js_bundle.specs.declared.keyword_name.KeywordName.TheVariants.{UnevaluatedProperties, Assertion}
-use Rattle.js_bundle.specs.declared.keyword_name.KeywordName.TheVariants.{Other}
+use Rattle.js_keyword.specs.declared.keyword.Keyword.{Keyword}
+use Rattle.js_keyword.specs.declared.keyword.Keyword.TheVariants.{AnyOf, OneOf, Not}
+use Rattle.js_keyword.specs.declared.keyword.Keyword.TheVariants.{PrefixItems, Items, Contains}
+use Rattle.js_keyword.specs.declared.keyword.Keyword.TheVariants.{Properties}
+use Rattle.js_keyword.specs.declared.keyword.Keyword.TheVariants.{PatternProperties, AdditionalProperties}
+use Rattle.js_keyword.specs.declared.keyword.Keyword.TheVariants.{UnevaluatedItems}
+use Rattle.js_keyword.specs.declared.keyword.Keyword.TheVariants.{UnevaluatedProperties, Assertion}
+use Rattle.js_keyword.specs.declared.keyword.Keyword.TheVariants.{Other}
 
 -- ---- the terms of the tables
 
@@ -64,20 +64,20 @@ member_names_among v among = filter (λ name. among_names name among) (map (λ m
 -- ---- a keyword's note: v is evaluated under the keyword k among its siblings, with these applications, of which those
 -- in `holding` hold. `matching`: how many items of v match the adjacent `contains`.
 
-module _ {Place : Type 0} (siblings : Named) (v : Value) (matching : ℕ) (k : Keyword)
+module _ {Place : Type 0} (siblings : Named) (v : Value) (matching : ℕ) (k : Member)
     (apps holding : List (Application Place)) where
   -- if it fails (12.3.4); a keyword that fails because its applications do has no error of its own
-  abbrev pub error_of : KeywordName → Note
+  abbrev pub error_of : Keyword → Note
   error_of AnyOf = error (codes "no branch holds")
   error_of OneOf = error (decimal (length holding) ++ codes " branches hold")
   error_of Not = error (codes "the subschema holds")
   error_of Contains = error (codes "no matching item")
-  error_of Assertion = error_or_none
+  error_of (Assertion _) = error_or_none
       (option_map_or (λ a. assertion.error a v matching) (asserted k.0 k.1 siblings) None)
   error_of _ = silent
 
   -- if it passes (10.3, 11)
-  abbrev pub annotation_of : KeywordName → Note
+  abbrev pub annotation_of : Keyword → Note
   -- 10.3.1.1: `true` if it was applied to every item, else the largest index that it was applied to
   annotation_of PrefixItems = true_or (are_all_items v (indexes_applied apps)) (largest (indexes_applied apps))
   -- 10.3.1.2: `true` if it was applied to any item
@@ -96,7 +96,7 @@ module _ {Place : Type 0} (siblings : Named) (v : Value) (matching : ℕ) (k : K
   annotation_of (Other _) = value k.1
   annotation_of _ = silent
 
-  abbrev pub keyword_note : Bool → KeywordName → Note
+  abbrev pub keyword_note : Bool → Keyword → Note
   keyword_note true κ = annotation_of κ
   keyword_note false κ = error_of κ
 

@@ -8,11 +8,11 @@ use Rattle.js_doc.specs.Equality.{same}
 use Rattle.js_doc.specs.Members.{get}
 use Rattle.js_assert.specs.Argument.{entries, on_array}
 use Rattle.js_assert.specs.Assertion.{Asserted, asserted, says}
-use Rattle.js_eval.specs.Keywords.{Keyword}
+use Rattle.js_eval.specs.Keywords.{Member}
 use Rattle.js_eval.specs.SchemaSet.{Text}
-use Rattle.js_bundle.specs.declared.keyword_name.KeywordName.{KeywordName}
-use Rattle.js_bundle.specs.declared.keyword_name.KeywordName.TheVariants.{AnyOf, OneOf, Not, If, Contains}
-use Rattle.js_bundle.specs.declared.keyword_name.KeywordName.TheVariants.{Assertion, Other}
+use Rattle.js_keyword.specs.declared.keyword.Keyword.{Keyword}
+use Rattle.js_keyword.specs.declared.keyword.Keyword.TheVariants.{AnyOf, OneOf, Not, If, Contains}
+use Rattle.js_keyword.specs.declared.keyword.Keyword.TheVariants.{Assertion, Other}
 
 abbrev pub all : List Bool → Bool
 all verdicts = list_all (λ holds. holds) verdicts
@@ -37,8 +37,8 @@ assertion_in schema name =
 -- ---- the table: v is evaluated under the keyword k among its siblings, and these are the verdicts of k's
 -- applications. `matching`: how many items of v match the adjacent `contains`.
 
-module _ (siblings : Named) (v : Value) (matching : ℕ) (k : Keyword) (verdicts : List Bool) where
-  abbrev pub passes_of : KeywordName → Bool
+module _ (siblings : Named) (v : Value) (matching : ℕ) (k : Member) (verdicts : List Bool) where
+  abbrev pub passes_of : Keyword → Bool
   -- 10.2.1.2
   passes_of AnyOf = any verdicts
   -- 10.2.1.3
@@ -50,7 +50,7 @@ module _ (siblings : Named) (v : Value) (matching : ℕ) (k : Keyword) (verdicts
   -- 10.3.1.3
   passes_of Contains = on_array v (λ _. any verdicts || may_contain_none siblings)
   -- Validation, section 6
-  passes_of Assertion = option_map_or (λ a. says a v matching) (asserted k.0 k.1 siblings) true
+  passes_of (Assertion _) = option_map_or (λ a. says a v matching) (asserted k.0 k.1 siblings) true
   passes_of (Other _) = true
   -- any other keyword passes if all its applications hold
   passes_of _ = all verdicts

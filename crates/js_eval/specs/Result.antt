@@ -10,8 +10,8 @@ use Rattle.js_tree.specs.Note.{Note}
 pub use Rattle.js_tree.specs.OutputUnit.{OutputUnit}
 pub use Rattle.js_tree.specs.Result.{ResultTree}
 use Rattle.js_eval.specs.Applications.{Application}
-use Rattle.js_eval.specs.Keywords.{Keyword, keywords}
-use Rattle.js_bundle.specs.KeywordName.{keyword_name}
+use Rattle.js_eval.specs.Keywords.{Member, keywords}
+use Rattle.js_keyword.specs.Keyword.{which_keyword}
 use Rattle.js_eval.specs.Location.{Location, at_keyword_named, at_application}
 use Rattle.js_eval.specs.Note.{keyword_note, schema_note}
 use Rattle.js_eval.specs.SchemaSet.{SchemaSet}
@@ -31,14 +31,14 @@ module _ {Place : Type 0} (S : SchemaSet Place) (n : ℕ) (above : List Place) (
     note = schema_note (S.schema place);
   }
 
-  abbrev pub note_of_keyword : Keyword → Note
+  abbrev pub note_of_keyword : Member → Note
   note_of_keyword k =
       keyword_note (siblings S (within S n) above place v) v (matching S (within S n) above place v) k
       (asks S (within S n) above place v k)
       (filter (application_holds S (within S n) above place v) (asks S (within S n) above place v k))
-      (passes S (within S n) above place v k) (keyword_name k.0)
+      (passes S (within S n) above place v k) (which_keyword k.0)
 
-  abbrev pub keyword_unit : Keyword → OutputUnit
+  abbrev pub keyword_unit : Member → OutputUnit
   keyword_unit k = record {
     valid = passes S (within S n) above place v k;
     keyword = pointer_text (at_keyword_named at k.0).keyword;
@@ -52,7 +52,7 @@ module _ {Place : Type 0} (S : SchemaSet Place) (n : ℕ) (above : List Place) (
 module _ {Place : Type 0} (S : SchemaSet Place) (n : ℕ) where
   abbrev mutual
     -- these are the nodes of these keywords of a place, in order
-    pub AreKeywordNodes : List Place → Place → Location → Value → List Keyword → Forest OutputUnit → Type 0
+    pub AreKeywordNodes : List Place → Place → Location → Value → List Member → Forest OutputUnit → Type 0
     AreKeywordNodes above place at v [] empty = Unit {0}
     AreKeywordNodes above place at v (k ∷ ks) (tree u below after) =
         (u ≡ keyword_unit S n above place at v k)

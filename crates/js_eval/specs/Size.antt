@@ -2,7 +2,7 @@
 use Rattle.std.specs.Prelude.{ℕ, zero, suc, ◌+◌, List, [], ◌∷◌, ◌++◌, sum_by}
 use Rattle.js_doc.specs.Value.{Value}
 use Rattle.js_eval.specs.Applications.{Application}
-use Rattle.js_eval.specs.Keywords.{Keyword, keywords}
+use Rattle.js_eval.specs.Keywords.{Member, keywords}
 use Rattle.js_eval.specs.SchemaSet.{SchemaSet}
 use Rattle.js_eval.specs.Verdict.{Known, within, asks}
 
@@ -13,7 +13,7 @@ nodes_of_application nodes path a = nodes path a.place a.value
 
 -- of a keyword: its own, and those of its applications
 abbrev pub nodes_of_keyword : {Place : Type 0} → SchemaSet Place → Known Place → (List Place → Place → Value → ℕ)
-    → List Place → Place → Value → Keyword → ℕ
+    → List Place → Place → Value → Member → ℕ
 nodes_of_keyword S known nodes above place v k =
     1 + sum_by (nodes_of_application nodes (above ++ place ∷ [])) (asks S known above place v k)
 

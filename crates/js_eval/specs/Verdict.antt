@@ -11,12 +11,12 @@ use Rattle.js_doc.specs.Members.{get}
 use Rattle.js_assert.specs.Argument.{entries}
 use Rattle.js_eval.specs.Applications.{Application, application, asks_of}
 use Rattle.js_eval.specs.Evaluated.{names_of, indexes_of}
-use Rattle.js_eval.specs.Keywords.{Keyword, keywords}
-use Rattle.js_bundle.specs.KeywordName.{keyword_name}
+use Rattle.js_eval.specs.Keywords.{Member, keywords}
+use Rattle.js_keyword.specs.Keyword.{which_keyword}
 use Rattle.js_eval.specs.Unevaluated.{is_unevaluated}
 use Rattle.js_eval.specs.Passes.{passes_of}
 use Rattle.js_eval.specs.SchemaSet.{Text, SchemaSet, Alone}
-use Rattle.js_bundle.specs.declared.keyword_name.KeywordName.TheVariants.{Contains}
+use Rattle.js_keyword.specs.declared.keyword.Keyword.TheVariants.{Contains}
 
 -- What is known of applications. An application is given by the places applied before it, from the entry on, by its own
 -- place, and by the value.
@@ -58,27 +58,27 @@ module _ {Place : Type 0} (S : SchemaSet Place) (known : Known Place) (above : L
 
   -- ---- a keyword, by its applications
 
-  abbrev pub passes_by : ℕ → Keyword → List (Application Place) → Bool
-  passes_by matching k apps = passes_of siblings v matching k (map application_holds apps) (keyword_name k.0)
+  abbrev pub passes_by : ℕ → Member → List (Application Place) → Bool
+  passes_by matching k apps = passes_of siblings v matching k (map application_holds apps) (which_keyword k.0)
 
   -- what a keyword with these applications has evaluated; one that fails has evaluated nothing (7.7.1.2)
-  abbrev pub names_by : ℕ → Keyword → List (Application Place) → List Text
+  abbrev pub names_by : ℕ → Member → List (Application Place) → List Text
   names_by matching k apps =
       if passes_by matching k apps then names_of apps (filter application_holds apps)
-      (flat_map (λ a. known.names path a.place a.value) (filter application_holds apps)) (keyword_name k.0) else []
+      (flat_map (λ a. known.names path a.place a.value) (filter application_holds apps)) (which_keyword k.0) else []
 
-  abbrev pub indexes_by : ℕ → Keyword → List (Application Place) → List ℕ
+  abbrev pub indexes_by : ℕ → Member → List (Application Place) → List ℕ
   indexes_by matching k apps =
       if passes_by matching k apps then indexes_of apps (filter application_holds apps)
-      (flat_map (λ a. known.indexes path a.place a.value) (filter application_holds apps)) (keyword_name k.0) else []
+      (flat_map (λ a. known.indexes path a.place a.value) (filter application_holds apps)) (which_keyword k.0) else []
 
   -- ---- the other keywords than the two unevaluated ones
 
-  abbrev pub other_keywords : List Keyword
-  other_keywords = filter (λ k. not (is_unevaluated (keyword_name k.0))) (keywords (S.schema place))
+  abbrev pub other_keywords : List Member
+  other_keywords = filter (λ k. not (is_unevaluated (which_keyword k.0))) (keywords (S.schema place))
 
-  abbrev pub others_ask : Keyword → List (Application Place)
-  others_ask k = asks_of S path place siblings v condition [] [] k (keyword_name k.0)
+  abbrev pub others_ask : Member → List (Application Place)
+  others_ask k = asks_of S path place siblings v condition [] [] k (which_keyword k.0)
 
   -- how many items match the adjacent `contains`; 0 without it
   abbrev pub matching : ℕ
@@ -97,19 +97,19 @@ module _ {Place : Type 0} (S : SchemaSet Place) (known : Known Place) (above : L
 
   -- ---- every keyword
 
-  abbrev pub asks : Keyword → List (Application Place)
-  asks k = asks_of S path place siblings v condition evaluated_names evaluated_indexes k (keyword_name k.0)
+  abbrev pub asks : Member → List (Application Place)
+  asks k = asks_of S path place siblings v condition evaluated_names evaluated_indexes k (which_keyword k.0)
 
-  abbrev pub passes : Keyword → Bool
+  abbrev pub passes : Member → Bool
   passes k = passes_by matching k (asks k)
 
-  abbrev pub gives_names : Keyword → List Text
+  abbrev pub gives_names : Member → List Text
   gives_names k = names_by matching k (asks k)
 
-  abbrev pub gives_indexes : Keyword → List ℕ
+  abbrev pub gives_indexes : Member → List ℕ
   gives_indexes k = indexes_by matching k (asks k)
 
-  abbrev pub keyword_settled : Keyword → Bool
+  abbrev pub keyword_settled : Member → Bool
   keyword_settled k = list_all application_settled (asks k)
 
   -- ---- the schema

@@ -11,14 +11,15 @@ use crate::keywords::applications::{Facts, Scene, asking_of_keyword};
 use crate::keywords::others::judge_others;
 use crate::keywords::passing::judge_keyword;
 use crate::order::applying::applies;
-use crate::order::keyword::{Keyword, KeywordAt, is_written_as_it_is};
+use crate::order::keyword::{KeywordAt, Member, is_written_as_it_is};
 use crate::order::keyword_cursor::Keywords;
 use crate::schema::is_accepting;
 use crate::schema_lookup::names_at;
 use crate::searching::pattern_answers::keep_all;
 use crate::searching::searchers::Searchers;
-use js_bundle::{KeywordName, Place, Schemas, Step};
+use js_bundle::{Place, Schemas, Step};
 use js_doc::{Doc, Memory};
+use js_keyword::Keyword;
 use std::alloc::Global;
 
 /// Finished schemas, and the searchers for their patterns. `'a` is the lifetime of the schemas and of the instance.
@@ -109,17 +110,17 @@ impl<'a> World for FinishedSchemas<'a> {
         Keywords::new(names_at(self.schemas, place), schema, quiet)
     }
 
-    fn next_keyword(&self, keywords: &mut Keywords<'a>) -> Option<Keyword<'a>> {
+    fn next_keyword(&self, keywords: &mut Keywords<'a>) -> Option<Member<'a>> {
         keywords.next()
     }
 
     #[tactic(auto, unfolding(crate::specs::Walk::Progress::kind_at))]
-    fn kind(&self, keyword: Keyword<'a>) -> KeywordName {
+    fn kind(&self, keyword: Member<'a>) -> Keyword {
         keyword.which
     }
 
     #[tactic(auto, unfolding(crate::specs::Walk::Progress::asked_by))]
-    fn asks(&self, keyword: Keyword<'a>) -> bool {
+    fn asks(&self, keyword: Member<'a>) -> bool {
         applies(keyword.which)
     }
 
@@ -131,12 +132,12 @@ impl<'a> World for FinishedSchemas<'a> {
         place: Place,
         schema: &'a Doc,
         value: Instance<'a>,
-        keyword: Keyword<'a>,
+        keyword: Member<'a>,
         condition: Option<bool>,
         names: &[&'a str],
         indexes: &[usize],
     ) -> Result<Asking<'a>, Memory> {
-        if matches!(keyword.which, KeywordName::AdditionalProperties) {
+        if matches!(keyword.which, Keyword::AdditionalProperties) {
             keep_all(alloc, self.schemas, &self.searchers, place, schema, value)?;
         }
         let at = KeywordAt {
@@ -191,7 +192,7 @@ impl<'a> World for FinishedSchemas<'a> {
         place: Place,
         schema: &'a Doc,
         value: Instance<'a>,
-        keyword: Keyword<'a>,
+        keyword: Member<'a>,
         tally: Tally,
         matching: u64,
     ) -> Result<bool, Memory> {
@@ -211,7 +212,7 @@ impl<'a> World for FinishedSchemas<'a> {
     #[tactic(auto, unfolding(crate::specs::Walk::Progress::at_name))]
     fn go_to_keyword<H: PointerText + Drop>(
         &self,
-        keyword: Keyword<'a>,
+        keyword: Member<'a>,
         trail: &mut Trail<H>,
     ) -> Result<(), Memory> {
         if is_written_as_it_is(keyword.which, keyword.name) {

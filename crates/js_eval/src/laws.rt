@@ -7,7 +7,7 @@ ghost use Rattle.js_eval.specs.Examples.{Shown};
 ghost use Rattle.js_eval.specs.Laws.{AtMostOneResult, DepthIsLeast, LimitsAreExact, LocationsGoOn, NoCircle};
 ghost use Rattle.js_eval.specs.Laws.{NothingStandsIn, ResultExactlyIfSettled, SizeIsTotal, StaysSettled};
 ghost use Rattle.js_eval.specs.Laws.{StandsForEveryItem};
-ghost use Rattle.js_eval.specs.Keywords.{Keyword};
+ghost use Rattle.js_eval.specs.Keywords.{Member};
 ghost use Rattle.js_eval.specs.ResultExamples.{GiveTheseResults};
 ghost use Rattle.js_eval.specs.declared.evaluation.limits.Limits.{Limits};
 ghost use Rattle.js_eval.specs.SchemaSet.{SchemaSet, Text};
@@ -54,7 +54,7 @@ pub fn no_circle<Place>()
 /// that every item matches `contains`.
 pub fn every_item<Place>()
     ensures { (S : SchemaSet Place) (path : List Place) (place : Place) (v : JsonValue) (siblings : Named)
-        (condition : Option Bool) (names : List Text) (indexes : List ℕ) (k : Keyword)
+        (condition : Option Bool) (names : List Text) (indexes : List ℕ) (k : Member)
         → StandsForEveryItem S path place v siblings condition names indexes k }
 {}
 

@@ -9,6 +9,7 @@ ghost use Rattle.js_eval.specs.Verdict.{accepts};
 
 use crate::instance::{names_ascend, object_in};
 use js_doc::{Doc, Members};
+use js_keyword::Keyword;
 
 /// The argument of the keyword with this name, if the schema has it.
 pub(crate) fn argument_in<'a>(schema: &'a Doc, name: &str) -> Option<&'a Doc>
@@ -21,7 +22,7 @@ pub(crate) fn argument_in<'a>(schema: &'a Doc, name: &str) -> Option<&'a Doc>
 }
 
 /// The argument of the keyword with this name, if it is an object.
-pub(crate) fn object_at<'a>(schema: &'a Doc, keyword: &str) -> Option<&'a Members>
+fn object_at<'a>(schema: &'a Doc, keyword: &str) -> Option<&'a Members>
     ensures { named_in result ≡ option_map_or entries (get keyword.now (entries (value_of schema.now))) [] }
 {
     match argument_in(schema, keyword) {
@@ -30,13 +31,20 @@ pub(crate) fn object_at<'a>(schema: &'a Doc, keyword: &str) -> Option<&'a Member
     }
 }
 
+/// The argument of the schema's `properties`, if that is an object.
+pub(crate) fn properties_in<'a>(schema: &'a Doc) -> Option<&'a Members>
+    ensures { named_in result ≡ option_map_or entries (get (codes "properties") (entries (value_of schema.now))) [] }
+{
+    object_at(schema, Keyword::Properties.name())
+}
+
 /// The patterns of the schema's `patternProperties`, if that is an object.
 pub(crate) fn patterns_in<'a>(schema: &'a Doc) -> Option<&'a Members>
     ensures is { named_in result
         ≡ option_map_or entries (get (codes "patternProperties") (entries (value_of schema.now))) [] }
     ensures ascend { IsAscending (named_in result) }
 {
-    match object_at(schema, "patternProperties") {
+    match object_at(schema, Keyword::PatternProperties.name()) {
         Some(patterns) => {
             names_ascend(patterns);
             Some(patterns)

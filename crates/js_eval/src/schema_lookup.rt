@@ -15,10 +15,11 @@ ghost use Rattle.js_eval.specs.code.Terms.{resource_of, schemas_of, step_of, val
 ghost use Rattle.js_eval.specs.SchemaSet as spec;
 
 use crate::evaluation::Path;
-use crate::order::keyword::{Keyword, KeywordAt};
+use crate::order::keyword::{KeywordAt, Member};
 use js_bundle::place_laws::{a_number_determines_a_resource, numbers_determine_the_dynamic_scope};
-use js_bundle::{KeywordName, Place, Schemas, Step};
+use js_bundle::{Place, Schemas, Step};
 use js_doc::Doc;
+use js_keyword::Keyword;
 
 /// The schema at a place. The look-up starts at the root of its document.
 #[tactic(auto, using(crate::proofs::Paths::schema_is))]
@@ -31,7 +32,7 @@ pub(crate) fn schema_at(schemas: &Schemas, place: Place) -> &Doc
 
 /// Which keyword of the standard each member of the schema at a place is, in order.
 #[tactic(auto, using(crate::proofs::Standard::names_are))]
-pub(crate) fn names_at(schemas: &Schemas, place: Place) -> &[KeywordName]
+pub(crate) fn names_at(schemas: &Schemas, place: Place) -> &[Keyword]
     requires { is_place schemas.now place ≡ true }
     ensures { result.now ≡ keyword_names_of (entries (numbered_site schemas.now place).schema) }
 {
@@ -63,7 +64,7 @@ pub(crate) fn below_at_rank<'a>(
     schemas: &Schemas,
     place: Place,
     schema: &'a Doc,
-    keyword: Keyword<'_>,
+    keyword: Member<'_>,
     step: Step<'_>,
     rank: usize,
     held: &'a Doc,

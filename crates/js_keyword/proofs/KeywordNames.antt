@@ -4,7 +4,7 @@ use Rattle.std.proofs.Common.{map, option_map, unwrap_or, refl, sym, ap, ◌∙�
 use Rattle.std.specs.Str.{bytes_eq}
 use Rattle.std.proofs.lemmas.Slice.Eq.{bytes_eq-Decides}
 use Rattle.js_keyword.specs.AssertionKeyword.{name_of, assertion_keywords, assertion_among, keyword_named}
-use Rattle.js_keyword.specs.Keyword.{row_of, applicators, others, keywords, among, which_keyword}
+use Rattle.js_keyword.specs.Keyword.{row_of, subschemas, applicators, others, among, keywords, which_keyword}
 use Rattle.js_keyword.specs.declared.assertion_keyword.AssertionKeyword.{AssertionKeyword}
 use Rattle.js_keyword.specs.declared.assertion_keyword.AssertionKeyword.TheVariants.{AnyType, Number, String, Array}
 use Rattle.js_keyword.specs.declared.assertion_keyword.AssertionKeyword.TheVariants.{Object}
@@ -13,6 +13,7 @@ use Rattle.js_keyword.specs.declared.assertion_keyword.NumberKeyword.TheVariants
 use Rattle.js_keyword.specs.declared.assertion_keyword.StringKeyword.TheVariants.{MaxLength}
 use Rattle.js_keyword.specs.declared.assertion_keyword.ArrayKeyword.TheVariants.{MaxItems}
 use Rattle.js_keyword.specs.declared.assertion_keyword.ObjectKeyword.TheVariants.{MaxProperties}
+use Rattle.js_keyword.specs.declared.argument_form.Holding.TheVariants.{Nothing}
 use Rattle.js_keyword.specs.declared.keyword.Keyword.{Keyword}
 use Rattle.js_keyword.specs.declared.keyword.Keyword.TheVariants.{Ref, Assertion, Other}
 use Rattle.js_keyword.specs.declared.other_keyword.OtherKeyword.{OtherKeyword}
@@ -97,19 +98,11 @@ which_assertion name k e = ap keyword_named (known_by_name name (Assertion k) e 
 
 -- ---- the parts of the list
 
-found_first : (xs ys : List Keyword) (name : List ℕ) (k : Keyword) → among xs name ≡ Some k
-    → among (xs ++ ys) name ≡ Some k
-found_first [] ys name k e = absurd (cc)
-found_first (x ∷ xs) ys name k e = at (bytes_eq name (row_of x).name) e (found_first xs ys name k) where
-  at : (b : Bool) → cond b (Some x) (among xs name) ≡ Some k → (among xs name ≡ Some k → among (xs ++ ys) name ≡ Some k)
-      → cond b (Some x) (among (xs ++ ys) name) ≡ Some k
-  at true e later = e
-  at false e later = later e
-
 found_later : (xs ys : List Keyword) (name : List ℕ) → among xs name ≡ None → among (xs ++ ys) name ≡ among ys name
 found_later [] ys name e = refl
 found_later (x ∷ xs) ys name e = at (bytes_eq name (row_of x).name) e (found_later xs ys name) where
-  at : (b : Bool) → cond b (Some x) (among xs name) ≡ None → (among xs name ≡ None → among (xs ++ ys) name ≡ among ys name)
+  at : (b : Bool) → cond b (Some x) (among xs name) ≡ None
+      → (among xs name ≡ None → among (xs ++ ys) name ≡ among ys name)
       → cond b (Some x) (among (xs ++ ys) name) ≡ among ys name
   at true e later = absurd (cc)
   at false e later = later e
@@ -124,10 +117,8 @@ among_assertions (k ∷ ks) name = at (bytes_eq name (name_of k)) (among_asserti
   at true later = refl
   at false later = later
 
-pub is_applicator : (name : List ℕ) (k : Keyword) → among applicators name ≡ Some k → k ≡ which_keyword name
-unfolding which_keyword
-is_applicator name k e = sym (ap (λ o. unwrap_or o (Other Unknown))
-    (found_first applicators (map Assertion assertion_keywords ++ others) name k e))
+pub is_listed : (ks : List Keyword) (name : List ℕ) (k : Keyword) → among ks name ≡ Some k → k ≡ which_keyword name
+is_listed ks name k e = sym (ap which_keyword (name_among ks name k e) ∙ which_by_name k)
 
 pub is_other : (name : List ℕ) → among applicators name ≡ None → keyword_named name ≡ None
     → unwrap_or (among others name) (Other Unknown) ≡ which_keyword name
@@ -136,3 +127,11 @@ is_other name e f = sym (ap (λ o. unwrap_or o (Other Unknown))
     (found_later applicators (map Assertion assertion_keywords ++ others) name e
     ∙ found_later (map Assertion assertion_keywords) others name
     (among_assertions assertion_keywords name ∙ ap (option_map Assertion) f)))
+
+-- a name that is neither an applicator's nor one of the others holds nothing
+pub holds_nothing : (name : List ℕ) → among applicators name ≡ None → among others name ≡ None
+    → Nothing ≡ subschemas (which_keyword name)
+holds_nothing name e f = at (keyword_named name) refl where
+  at : (o : Option AssertionKeyword) → keyword_named name ≡ o → Nothing ≡ subschemas (which_keyword name)
+  at (Some k) is = ap subschemas (sym (assertion_which name k is))
+  at None is = ap subschemas (ap (λ o. unwrap_or o (Other Unknown)) (sym f) ∙ is_other name e is)

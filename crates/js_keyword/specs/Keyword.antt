@@ -1,4 +1,4 @@
--- The keywords of JSON Schema 2020-12: of each its name, what it does, and what its argument is, in one table; and which
+-- The keywords of JSON Schema 2020-12, in one table: of each its name, what it does, and what its argument is; and which
 -- keyword a name is.
 use Rattle.std.specs.Prelude.{ℕ, List, [], ◌∷◌, ◌++◌, Bool, true, false, Option, Some, None, codes, map, unwrap_or}
 use Rattle.std.specs.Prelude.{if◌then◌else◌}
@@ -86,8 +86,8 @@ held_by NamedSchemas = Named
 held_by Text = Nothing
 held_by Anything = Nothing
 
-abbrev pub holding : Keyword → Holding
-holding keyword = held_by (row_of keyword).form
+abbrev pub subschemas : Keyword → Holding
+subschemas keyword = held_by (row_of keyword).form
 
 abbrev pub is_applied_by : List Behaviour → Bool
 is_applied_by [] = false

@@ -1,6 +1,6 @@
 //! The keywords of JSON Schema 2020-12.
 ghost use Rattle.std.specs.Prelude.{◌≡◌};
-ghost use Rattle.js_keyword.specs.Keyword.{among, applicators, applies, holding, others, row_of, which_keyword};
+ghost use Rattle.js_keyword.specs.Keyword.{among, applicators, applies, others, row_of, subschemas, which_keyword};
 
 use crate::argument_form::{ArgumentForm, Holding};
 use crate::assertion_keyword::AssertionKeyword;
@@ -133,9 +133,22 @@ impl Keyword {
         }
     }
 
+    /// How the argument of the keyword with this name holds schemas. It needs fewer comparisons than `of`.
+    pub fn subschemas_of(name: &str) -> Holding
+        ensures { result ≡ subschemas (which_keyword name.now) }
+    {
+        if let Some(keyword) = applicator_named(name) {
+            return keyword.subschemas();
+        }
+        match other_named(name) {
+            Some(keyword) => keyword.subschemas(),
+            None => Holding::Nothing,
+        }
+    }
+
     /// How its argument holds schemas.
-    pub fn holding(self) -> Holding
-        ensures { result ≡ holding self }
+    pub fn subschemas(self) -> Holding
+        ensures { result ≡ subschemas self }
     {
         match self.form() {
             ArgumentForm::OneSchema => Holding::One,

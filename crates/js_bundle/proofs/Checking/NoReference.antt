@@ -5,28 +5,29 @@ use Rattle.std.specs.List.{list_any}
 use Rattle.js_bundle.specs.Candidate.{IsClear}
 use Rattle.js_bundle.specs.code.PlaceNumbers.{number_named}
 use Rattle.js_bundle.specs.Finding.{number_of_target, dynamic_by, dynamic_at}
-use Rattle.js_bundle.specs.declared.keyword_name.KeywordName.{KeywordName}
-use Rattle.js_bundle.specs.declared.keyword_name.KeywordName.TheVariants.{Ref, DynamicRef}
-use Rattle.js_bundle.specs.contracts.keyword_name.KeywordNamePartialEq.TheImpl.{ghosts}
+use Rattle.js_keyword.specs.declared.keyword.Keyword.{Keyword}
+use Rattle.js_keyword.specs.declared.keyword.Keyword.TheVariants.{Ref, DynamicRef}
+use Rattle.js_keyword.specs.contracts.keyword.KeywordPartialEq.TheImpl.{ghosts}
 use Rattle.js_bundle.specs.Keyword.{Text, text_argument}
-use Rattle.js_bundle.specs.KeywordName.{keyword_name, member_keywords}
+use Rattle.js_keyword.specs.Keyword.{which_keyword}
+use Rattle.js_bundle.specs.MemberKeywords.{member_keywords}
 use Rattle.js_bundle.specs.Refusals.{at_reference_text, at_references}
 use Rattle.js_bundle.specs.Resource.{Site, joined}
 use Rattle.js_bundle.proofs.Indexing.NoKeyword.{no_text}
 
-named_ref : ghosts.eq (keyword_name (codes "$ref")) Ref ≡ true
-unfolding keyword_name
+named_ref : ghosts.eq (which_keyword (codes "$ref")) Ref ≡ true
+unfolding which_keyword
 named_ref = refl
 
-named_dynamic_ref : ghosts.eq (keyword_name (codes "$dynamicRef")) DynamicRef ≡ true
-unfolding keyword_name
+named_dynamic_ref : ghosts.eq (which_keyword (codes "$dynamicRef")) DynamicRef ≡ true
+unfolding which_keyword
 named_dynamic_ref = refl
 
-pub no_ref : (place : Site) (names : List KeywordName) (found : Bool) → names ≡ member_keywords place
+pub no_ref : (place : Site) (names : List Keyword) (found : Bool) → names ≡ member_keywords place
     → found ≡ list_any (λ y. ghosts.eq y Ref) names → found ≡ false → None ≡ text_argument (codes "$ref") place.schema
 no_ref place names found same recorded h = no_text (codes "$ref") Ref place names found named_ref same recorded h
 
-pub no_dynamic_ref : (place : Site) (names : List KeywordName) (found : Bool) → names ≡ member_keywords place
+pub no_dynamic_ref : (place : Site) (names : List Keyword) (found : Bool) → names ≡ member_keywords place
     → found ≡ list_any (λ y. ghosts.eq y DynamicRef) names → found ≡ false
     → None ≡ text_argument (codes "$dynamicRef") place.schema
 no_dynamic_ref place names found same recorded h =

@@ -14,6 +14,11 @@ use Rattle.js_doc.specs.PointerReading.{pointer_of}
 use Rattle.js_doc.specs.Value.{Value, null, truth, whole, text, list, object}
 use Rattle.js_doc.specs.Parts.{members_of}
 use Rattle.js_doc.proofs.TokenLookup.{is_text-sound}
+use Rattle.js_keyword.proofs.KeywordNames.{which_by_name}
+use Rattle.js_keyword.specs.Keyword.{which_keyword}
+use Rattle.js_keyword.specs.declared.keyword.Keyword.{Keyword}
+use Rattle.js_keyword.specs.declared.keyword.Keyword.TheVariants.{Other}
+use Rattle.js_keyword.specs.declared.other_keyword.OtherKeyword.TheVariants.{Id, Anchor, DynamicAnchor}
 use Rattle.js_bundle.specs.declared.refusal.RefusalKind.TheVariants.{BadAnchor, BadId, BadKeyword}
 use Rattle.js_bundle.specs.declared.refusal.RefusalKind.TheVariants.{DuplicateAnchor, DuplicateUri, NotASchema}
 use Rattle.js_bundle.specs.declared.refusal.RefusalKind.TheVariants.{TooManyPlaces, UriTooLong}
@@ -26,7 +31,7 @@ use Rattle.js_bundle.specs.Names.{same_tokens, is_root, is_known_as, root_named,
 use Rattle.js_bundle.specs.Names.{belongs_to, makes, by_pointer, by_anchor, by_dynamic_anchor}
 use Rattle.js_bundle.specs.Names.{is_pointer, is_named_by, names, is_anchor_name}
 use Rattle.js_bundle.specs.Place.{SchemaPlace, places_from}
-use Rattle.js_bundle.specs.Refusals.{when, decided, is_taken, is_made, text_rules, name_rules}
+use Rattle.js_bundle.specs.Refusals.{when, decided, is_taken, is_made, rules_of_text, text_rules, name_rules}
 use Rattle.js_bundle.specs.Refusals.{assertion_rules, at_joined_id, at_id, at_place, at_member, at_site}
 use Rattle.js_bundle.specs.Refusals.{first_pass, second_pass, candidates, most_places}
 use Rattle.js_bundle.specs.Url.{is_empty}
@@ -103,14 +108,16 @@ keyword_clear before t k v h e =
     clear_among (at_member before t) (members_of t.schema) (k, v) (clear_there (at_place before t)
     (flat_map (at_member before t) (members_of t.schema)) h) (get_among k v (members_of t.schema) e)
 
-text_clear : (before : List Site) (t : Site) (k u : Text) → IsClear (at_site before t)
-    → argument k t.schema ≡ Some (text u) → IsClear (text_rules before t k u)
-text_clear before t k u h e =
+text_clear : (before : List Site) (t : Site) (k u : Text) (which : Keyword) → which_keyword k ≡ which
+    → IsClear (at_site before t) → argument k t.schema ≡ Some (text u)
+    → IsClear (rules_of_text before t (k ∷ []) u which)
+text_clear before t k u which is h e =
     let shape = when (not (is_shaped k (text u))) (decided t (k ∷ []) BadKeyword) in
     let rules = assertion_rules t k (text u) in
     let named = name_rules t k (text u) in
-    clear_here (text_rules before t k u) named (clear_there rules (text_rules before t k u ++ named)
-    (clear_there shape (rules ++ (text_rules before t k u ++ named)) (keyword_clear before t k (text u) h e)))
+    subst (λ w. IsClear (rules_of_text before t (k ∷ []) u w)) is (clear_here (text_rules before t k u) named
+    (clear_there rules (text_rules before t k u ++ named)
+    (clear_there shape (rules ++ (text_rules before t k u ++ named)) (keyword_clear before t k (text u) h e))))
 
 some_text : (v : Value) (u : Text) → as_text v ≡ Some u → v ≡ text u
 some_text null u e = absurd (cc)
@@ -182,7 +189,7 @@ new_base : (before : List Site) (t : Site) → IsClear (at_site before t)
 new_base before t h e =
     let i = identified_is t.above.base t.schema t.own.base e in
     ap (is_taken before) i.is ∙ not_taken_id before t (codes "$id" ∷ []) i.uri i.id i.short i.read
-    (text_clear before t (codes "$id") i.id h i.argument)
+    (text_clear before t (codes "$id") i.id (Other Id) (which_by_name (Other Id)) h i.argument)
 
 -- so is a document's URI, at its root
 new_root : (before : List Site) (t : Site) → IsClear (at_site before t) → is_root t ≡ true
@@ -336,10 +343,12 @@ new_name : (before : List Site) (t : Site) (name : Text) (a d : Bool) → makes 
     → is_made before t name ≡ false
 new_name before t name true d e f g h =
     new_name_by before t (codes "$anchor" ∷ []) name (is_anchor_name name)
-    (text_clear before t (codes "$anchor") name h (makes_text (codes "$anchor") name t e))
+    (text_clear before t (codes "$anchor") name (Other Anchor) (which_by_name (Other Anchor)) h
+    (makes_text (codes "$anchor") name t e))
 new_name before t name false true e f g h =
     new_name_by before t (codes "$dynamicAnchor" ∷ []) name (is_anchor_name name)
-    (text_clear before t (codes "$dynamicAnchor") name h (makes_text (codes "$dynamicAnchor") name t f))
+    (text_clear before t (codes "$dynamicAnchor") name (Other DynamicAnchor) (which_by_name (Other DynamicAnchor)) h
+    (makes_text (codes "$dynamicAnchor") name t f))
 new_name before t name false false e f g h = absurd (cc)
 
 one_anchored : (documents : Documents) → IsClear (candidates documents) → (root : Site) (name : Text)

@@ -9,6 +9,10 @@ use Rattle.url.specs.Parser.{Parsed, parse_url}
 use Rattle.js_doc.specs.Pointer.{Tokens}
 use Rattle.js_doc.specs.Value.{Value, null, truth, whole, text, list, object}
 use Rattle.js_doc.specs.Parts.{members_of}
+use Rattle.js_keyword.proofs.KeywordNames.{which_by_name}
+use Rattle.js_keyword.specs.Keyword.{row_of, which_keyword}
+use Rattle.js_keyword.specs.declared.argument_form.ArgumentForm.TheVariants as form
+use Rattle.js_keyword.specs.declared.keyword.Keyword.TheVariants.{Ref, DynamicRef}
 use Rattle.js_bundle.specs.declared.refusal.RefusalKind.{RefusalKind}
 use Rattle.js_bundle.specs.declared.refusal.RefusalKind.TheVariants.{BadKeyword, BadReference, Unresolved, UriTooLong}
 use Rattle.js_bundle.specs.Candidate.{Candidate, IsClear}
@@ -16,7 +20,7 @@ use Rattle.js_bundle.specs.Document.{Documents}
 use Rattle.js_bundle.specs.code.PlaceNumbers.{number_named}
 use Rattle.js_bundle.specs.Finding.{number_of_target}
 use Rattle.js_assert.specs.Shape.{is_string}
-use Rattle.js_bundle.specs.Shape.{text_keywords, is_shaped}
+use Rattle.js_bundle.specs.Shape.{has_form, is_shaped}
 use Rattle.js_bundle.specs.Keyword.{Text, argument, has_argument, as_text, text_argument}
 use Rattle.js_bundle.specs.Names.{names, named, is_read}
 use Rattle.js_bundle.specs.Refusals.{when, decided, assertion_rules, on_text, text_rules, name_rules, at_place}
@@ -84,13 +88,11 @@ shape_clear before all n s h e k v g =
 
 -- ---- a reference is a text
 
-text_shape : (k : Text) (v : Value) → list_any (bytes_eq k) text_keywords ≡ true
-    → is_shaped k v ≡ true → is_string v ≡ true
-text_shape k v e h = rest (list_any (bytes_eq k) text_keywords) e _ h
-  where
-    rest : (b : Bool) → b ≡ true → (other : Bool) → (if b then is_string v else other) ≡ true → is_string v ≡ true
-    rest true e other h = h
-    rest false e other h = absurd (cc)
+abbrev IsTextual : Text → Type 0
+IsTextual k = (row_of (which_keyword k)).form ≡ form.Text
+
+text_shape : (k : Text) (v : Value) → IsTextual k → is_shaped k v ≡ true → is_string v ≡ true
+text_shape k v e h = ap (λ f. has_form f v) (sym e) ∙ h
 
 is_as_text : (v : Value) → is_string v ≡ true → is_some (as_text v) ≡ true
 is_as_text null e = absurd (cc)
@@ -136,7 +138,7 @@ text_found all place further None e h = absurd (cc)
 text_found all place further (Some t) e h =
     short_found all place further (parse_url (Some place.own.base) t) (nat_lt longest_uri (length t)) h
 
-resolved : (all : List Site) (n : ℕ) (s : Site) (k : Text) → list_any (bytes_eq k) text_keywords ≡ true → IsClear
+resolved : (all : List Site) (n : ℕ) (s : Site) (k : Text) → IsTextual k → IsClear
     (first_pass [] all) → IsClear (at_reference all k s) → slice_get all n ≡ Some s → has_argument k s.schema ≡ true
     → is_some (number_of_target all k s) ≡ true
 resolved all n s k is h g e there =
@@ -151,7 +153,7 @@ references_clear documents n s h e =
 
 -- where the reference of a place is clear, it has a target
 reference_found : (documents : Documents) → IsClear (candidates documents) → (n : ℕ) (s : Site) (k : Text)
-    → list_any (bytes_eq k) text_keywords ≡ true → slice_get (sites documents) n ≡ Some s
+    → IsTextual k → slice_get (sites documents) n ≡ Some s
     → IsClear (at_reference (sites documents) k s) → has_argument k s.schema ≡ true
     → is_some (number_of_target (sites documents) k s) ≡ true
 reference_found documents h n s k is e clear there =
@@ -173,14 +175,16 @@ pub target_there : (documents : Documents) → IsClear (candidates documents) �
     → slice_get (sites documents) n ≡ Some s → has_argument (codes "$ref") s.schema ≡ true
     → is_some (number_of_target (sites documents) (codes "$ref") s) ≡ true
 target_there documents h n s e there =
-    reference_found documents h n s (codes "$ref") refl e (both_clear documents n s h e).1 there
+    reference_found documents h n s (codes "$ref") (ap (λ k. (row_of k).form) (which_by_name Ref)) e
+    (both_clear documents n s h e).1 there
 
 -- each `$dynamicRef` of a place has a first target
 pub first_target_there : (documents : Documents) → IsClear (candidates documents) → (n : ℕ) (s : Site)
     → slice_get (sites documents) n ≡ Some s → has_argument (codes "$dynamicRef") s.schema ≡ true
     → is_some (number_of_target (sites documents) (codes "$dynamicRef") s) ≡ true
 first_target_there documents h n s e there =
-    reference_found documents h n s (codes "$dynamicRef") refl e (both_clear documents n s h e).0 there
+    reference_found documents h n s (codes "$dynamicRef") (ap (λ k. (row_of k).form) (which_by_name DynamicRef)) e
+    (both_clear documents n s h e).0 there
 
 -- ---- the target of that number
 

@@ -12,8 +12,8 @@ use Rattle.js_doc.specs.Parts.{member_list, members_of}
 use Rattle.js_doc.proofs.TokenLookup.{is_text-refl, is_text-sound}
 use Rattle.js_assert.specs.Argument.{has}
 use Rattle.js_assert.specs.Assertion.{Asserted}
-use Rattle.js_assert.specs.Keyword.{keyword_named, name_of}
-use Rattle.js_assert.proofs.KeywordNames.{named-name_of}
+use Rattle.js_keyword.specs.AssertionKeyword.{keyword_named, name_of}
+use Rattle.js_keyword.proofs.KeywordNames.{named-name_of}
 use Rattle.js_bundle.specs.declared.check.assertions_and_patterns.BuiltPattern.{BuiltPattern}
 use Rattle.js_bundle.specs.AssertionsAndPatterns.{assertions_at, pattern_at, patterns_of, patterns_at}
 use Rattle.js_bundle.specs.Keyword.{Text, argument}

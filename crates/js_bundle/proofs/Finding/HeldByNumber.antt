@@ -11,12 +11,12 @@ use Rattle.js_doc.specs.Pointer.{Tokens}
 use Rattle.js_doc.specs.Value.{Value, null, truth, whole, text, list, object, Members, no_members, member}
 use Rattle.js_doc.specs.Parts.{member_list}
 use Rattle.js_bundle.specs.declared.index.edges.Edges.{Edges}
-use Rattle.js_bundle.specs.declared.scan.holding.Holding.TheVariants.{One, Listed, Named, Nothing}
-use Rattle.js_bundle.specs.declared.keyword_name.KeywordName.{KeywordName}
+use Rattle.js_keyword.specs.declared.argument_form.Holding.TheVariants.{One, Listed, Named, Nothing}
+use Rattle.js_keyword.specs.declared.keyword.Keyword.{Keyword}
 use Rattle.js_bundle.specs.declared.check.checked_site.CheckedSite as rust
 use Rattle.js_bundle.specs.Document.{Documents}
 use Rattle.js_bundle.specs.Keyword.{Text, argument}
-use Rattle.js_bundle.specs.KeywordName.{keyword_name}
+use Rattle.js_keyword.specs.Keyword.{which_keyword}
 use Rattle.js_bundle.specs.Names.{stands_at}
 use Rattle.js_bundle.specs.Place.{holding, items_in, Located, SchemaPlace, places_held, places_at, places_in_list}
 use Rattle.js_bundle.specs.Place.{places_in_object, places_of_members, places_from, places_of_keywords}
@@ -204,7 +204,7 @@ module _ (all : List SchemaPlace) (checked_sites : List CheckedSite) (d : ℕ) (
   pub keyword_at : (n : ℕ) (above : List Located) (p : Tokens) (v : Value) (k : Text) (l : Value)
       → StandsFrom (places_at d uri above p v) n all → argument k v ≡ Some l → ¬ (holding k ≡ Nothing)
       → (below : List Located)
-      × KeywordThere all d uri below p k l (numbers_of_keyword (keyword_name k) (held_by_place n v))
+      × KeywordThere all d uri below p k l (numbers_of_keyword (which_keyword k) (held_by_place n v))
   keyword_at n above p null k l s e h = absurd (cc)
   keyword_at n above p (truth b) k l s e h = absurd (cc)
   keyword_at n above p (whole z) k l s e h = absurd (cc)
@@ -219,16 +219,16 @@ module _ (all : List SchemaPlace) (checked_sites : List CheckedSite) (d : ℕ) (
 
   led_at : (n : ℕ) (above : List Located) (p : Tokens) (v : Value) (k : Text) (step : Step) (u : Value) → NamesAscend v
       → StandsFrom (places_at d uri above p v) n all → Holds v k step u
-      → IsLed all checked_sites d p k step (numbers_of_keyword (keyword_name k) (held_by_place n v))
+      → IsLed all checked_sites d p k step (numbers_of_keyword (which_keyword k) (held_by_place n v))
   led_at n above p v k Alone u a s h =
       let there = keyword_at n above p v k u s h.1 (holds_alone k h.0) in
-      led_alone there.0 p k u (numbers_of_keyword (keyword_name k) (held_by_place n v)) h.0 there.1
+      led_alone there.0 p k u (numbers_of_keyword (which_keyword k) (held_by_place n v)) h.0 there.1
   led_at n above p v k (Index i) u a s h =
       let there = keyword_at n above p v k h.1.0 s h.1.1 (holds_list k h.0) in
-      led_item there.0 p k h.1.0 u i (numbers_of_keyword (keyword_name k) (held_by_place n v)) h.0 h.1.2 there.1
+      led_item there.0 p k h.1.0 u i (numbers_of_keyword (which_keyword k) (held_by_place n v)) h.0 h.1.2 there.1
   led_at n above p v k (Name name) u a s h =
       let there = keyword_at n above p v k h.1.0 s h.1.1 (holds_object k h.0) in
-      led_member there.0 p k h.1.0 u name (numbers_of_keyword (keyword_name k) (held_by_place n v)) h.0
+      led_member there.0 p k h.1.0 u name (numbers_of_keyword (which_keyword k) (held_by_place n v)) h.0
       (argument_ascends v k h.1.0 a h.1.1) h.1.2 there.1
 
 -- ---- over all documents
@@ -275,7 +275,7 @@ finds_standing documents read n s e k step u h number stands =
 pub found_by : (documents : Documents) → AreRead documents → (n : ℕ) (s : Site) → slice_get (sites documents) n ≡ Some s
     → (k : Text) (step : Step) (u : Value) → Holds s.schema k step u
     → IsFound documents (map checked_site (sites documents)) s k step
-    (option_map_or (numbers_of_keyword (keyword_name k)) (slice_get (edges_from 0 documents) n) [])
+    (option_map_or (numbers_of_keyword (which_keyword k)) (slice_get (edges_from 0 documents) n) [])
 found_by documents read n s e k step u h =
     let all = places_from 0 documents in
     let made = made_at site all n s e in
@@ -289,7 +289,7 @@ found_by documents read n s e k step u h =
     record {
       number = led.number;
       is = subst (λ o. IsNumberAt (map checked_site (sites documents))
-          (option_map_or (numbers_of_keyword (keyword_name k)) o []) step led.number) (sym root.held) led.is;
+          (option_map_or (numbers_of_keyword (which_keyword k)) o []) step led.number) (sym root.held) led.is;
       finds = finds_standing documents read n s e k step u h led.number led.stands;
     }
 
@@ -301,9 +301,9 @@ name_rank checked_sites numbers name rank n ranks h = ap (slice_get numbers) (ra
 
 -- so what the code finds among the numbers that it keeps is what stands below
 pub finds_by_number : (docs documents : Documents) (checked : List rust.CheckedSite) (edges : List Edges) (n place : ℕ)
-    (k : Text) (step : Step) (which : KeywordName) (numbers : List ℕ) (result : Option ℕ)
+    (k : Text) (step : Step) (which : Keyword) (numbers : List ℕ) (result : Option ℕ)
     → docs ≡ documents → n ≡ place → AreRead docs → map checked_site_of checked ≡ map checked_site (sites docs)
-    → map edges_of edges ≡ edges_from 0 docs → which ≡ keyword_name k
+    → map edges_of edges ≡ edges_from 0 docs → which ≡ which_keyword k
     → numbers ≡ option_map_or (numbers_of_keyword which) (slice_get (map edges_of edges) n) []
     → ((m : ℕ) → IsNumberAt (map checked_site_of checked) numbers step m → result ≡ Some m)
     → (s : Site) (u : Value) → place_at documents place ≡ Some s → Holds s.schema k step u
@@ -314,10 +314,10 @@ finds_by_number docs documents checked edges n place k step which numbers result
     let checked_sites_of : map checked_site_of checked ≡ map checked_site (sites documents) = checked_sites
     ∙ ap (λ ds. map checked_site (sites ds)) same in
     let numbers_are : numbers
-    ≡ option_map_or (numbers_of_keyword (keyword_name k)) (slice_get (edges_from 0 documents) place) [] =
+    ≡ option_map_or (numbers_of_keyword (which_keyword k)) (slice_get (edges_from 0 documents) place) [] =
     are ∙ ap (λ w. option_map_or (numbers_of_keyword w) (slice_get (map edges_of edges) n) []) name ∙ ap
-    (λ es. option_map_or (numbers_of_keyword (keyword_name k)) (slice_get es n) []) (has ∙ ap (edges_from 0) same)
-    ∙ ap (λ m. option_map_or (numbers_of_keyword (keyword_name k)) (slice_get (edges_from 0 documents) m) []) number in
+    (λ es. option_map_or (numbers_of_keyword (which_keyword k)) (slice_get es n) []) (has ∙ ap (edges_from 0) same)
+    ∙ ap (λ m. option_map_or (numbers_of_keyword (which_keyword k)) (slice_get (edges_from 0 documents) m) []) number in
     let is : IsNumberAt (map checked_site_of checked) numbers step f.number =
     subst (λ xs. IsNumberAt xs numbers step f.number) (sym checked_sites_of)
     (subst (λ xs. IsNumberAt (map checked_site (sites documents)) xs step f.number) (sym numbers_are) f.is) in

@@ -1,7 +1,8 @@
 -- What the schema of a place holds has its number among those that are kept of the place.
 use Rattle.std.proofs.Common.{◌≡◌, ℕ, zero, suc, ◌+◌, List, [], ◌∷◌, ◌++◌, inl, inr, Bool, true, false, ◌||◌}
-use Rattle.std.proofs.Common.{if◌then◌else◌, decimal, Some, slice_get, refl, sym, ap, ◌∙◌, subst, arith}
-use Rattle.std.specs.List.{list_all, list_any}
+use Rattle.std.proofs.Common.{if◌then◌else◌, filter, map, Option, None, unwrap_or}
+use Rattle.std.proofs.Common.{decimal, Some, slice_get, refl, sym, ap, ◌∙◌, subst, arith}
+use Rattle.std.specs.List.{list_all}
 use Rattle.std.specs.Str.{bytes_eq}
 use Rattle.std.proofs.lemmas.Bool.{and_parts}
 use Rattle.url.specs.Parts.{Parts}
@@ -11,13 +12,15 @@ use Rattle.js_doc.specs.Value.{Value, null, truth, whole, text, list, object, It
 use Rattle.js_doc.specs.Value.{no_items, item, Members, no_members, member}
 use Rattle.js_doc.specs.Parts.{member_list}
 use Rattle.js_doc.proofs.TokenLookup.{is_text-refl, is_text-sound}
-use Rattle.js_assert.specs.Keyword as assertion
-use Rattle.js_bundle.specs.contracts.keyword_name.KeywordNamePartialEq.TheImpl.{ghosts}
-use Rattle.js_bundle.specs.declared.scan.holding.Holding.{Holding}
-use Rattle.js_bundle.specs.declared.scan.holding.Holding.TheVariants.{One, Listed, Named, Nothing}
+use Rattle.js_keyword.specs.contracts.keyword.KeywordPartialEq.TheImpl.{ghosts}
+use Rattle.js_keyword.specs.declared.argument_form.Holding.{Holding}
+use Rattle.js_keyword.specs.declared.argument_form.Holding.TheVariants.{One, Listed, Named, Nothing}
 use Rattle.js_bundle.specs.Keyword.{Text}
-use Rattle.js_bundle.specs.KeywordName.{keyword_name}
-use Rattle.js_bundle.specs.Place.{one_schema, list_of_schemas, object_of_schemas, holding, values, Located}
+use Rattle.js_keyword.specs.Keyword.{row_of, subschemas, keywords, among, which_keyword}
+use Rattle.js_keyword.specs.declared.keyword.Keyword.{Keyword}
+use Rattle.js_keyword.specs.declared.keyword.Keyword.TheVariants.{Other}
+use Rattle.js_keyword.specs.declared.other_keyword.OtherKeyword.TheVariants.{Unknown}
+use Rattle.js_bundle.specs.Place.{holding, values, Located}
 use Rattle.js_bundle.specs.Place.{SchemaPlace, places_held, places_at, places_of_keywords, places_in_list}
 use Rattle.js_bundle.specs.Place.{places_of_items, places_in_object, places_of_members}
 use Rattle.js_bundle.specs.code.Edges.{HeldNumbers, count, count_of_keyword, one_entry, numbers_held}
@@ -31,8 +34,18 @@ use Rattle.js_bundle.proofs.Finding.RankOfName.{some_first, some_is}
 
 -- ---- the keywords that hold schemas are distinguished by which keyword of the standard they are
 
+abbrev holds_some : Holding → Bool
+holds_some Nothing = false
+holds_some _ = true
+
+abbrev holders : List Keyword → List Keyword
+holders ks = filter (λ k. holds_some (subschemas k)) ks
+
+abbrev names_of : List Keyword → List Text
+names_of ks = map (λ k. (row_of k).name) ks
+
 abbrev all_names : List Text
-all_names = one_schema ++ (list_of_schemas ++ object_of_schemas)
+all_names = names_of (holders keywords)
 
 abbrev same : Bool → Bool → Bool
 same true b = b
@@ -46,8 +59,8 @@ same_is false true e = absurd (cc)
 same_is false false e = refl
 
 kept_apart : list_all (λ k.
-    list_all (λ l. same (ghosts.eq (keyword_name k) (keyword_name l)) (bytes_eq k l)) all_names) all_names ≡ true
-unfolding keyword_name assertion.keyword_named
+    list_all (λ l. same (ghosts.eq (which_keyword k) (which_keyword l)) (bytes_eq k l)) all_names) all_names ≡ true
+unfolding which_keyword
 kept_apart = refl
 
 of_all : {A : Type 0} (f : A → Bool) (xs : List A) (x : A) → list_all f xs ≡ true → Among x xs → f x ≡ true
@@ -55,69 +68,69 @@ of_all f [] x h a = absurd a
 of_all f (y ∷ ys) x h (inl e) = ap f e ∙ (and_parts (f y) (list_all f ys) h).0
 of_all f (y ∷ ys) x h (inr a) = of_all f ys x (and_parts (f y) (list_all f ys) h).1 a
 
-among_by : (k l : Text) (xs : List Text) (b : Bool) → bytes_eq k l ≡ b → (b || list_any (bytes_eq k) xs) ≡ true
-    → (list_any (bytes_eq k) xs ≡ true → Among k xs) → Among k (l ∷ xs)
-among_by k l xs true e h more = inl (is_text-sound k l e)
-among_by k l xs false e h more = inr (more h)
+holder_among : (ks : List Keyword) (name : Text) (k : Keyword) → among ks name ≡ Some k
+    → holds_some (subschemas k) ≡ true → Among name (names_of (holders ks))
+holder_among [] name k e h = absurd (cc)
+holder_among (l ∷ ls) name k e h =
+    at (bytes_eq name (row_of l).name) (holds_some (subschemas l)) refl refl e (holder_among ls name k)
+  where
+    at : (b c : Bool) → bytes_eq name (row_of l).name ≡ b → holds_some (subschemas l) ≡ c
+        → (if b then Some l else among ls name) ≡ Some k
+        → (among ls name ≡ Some k → holds_some (subschemas k) ≡ true → Among name (names_of (holders ls)))
+        → Among name (names_of (if c then l ∷ holders ls else holders ls))
+    at true true is some e later = inl (is_text-sound name (row_of l).name is)
+    at true false is some e later =
+        let same : l ≡ k = cc in
+        let no : true ≡ false = sym h ∙ (ap (λ m. holds_some (subschemas m)) (sym same) ∙ some) in
+        absurd (cc)
+    at false true is some e later = inr (later e h)
+    at false false is some e later = later e h
 
-among_any : (k : Text) (xs : List Text) → list_any (bytes_eq k) xs ≡ true → Among k xs
-among_any k [] h = absurd (cc)
-among_any k (l ∷ xs) h = among_by k l xs (bytes_eq k l) refl h (among_any k xs)
+some_held : (h : Holding) → ¬ (h ≡ Nothing) → holds_some h ≡ true
+some_held One n = refl
+some_held Listed n = refl
+some_held Named n = refl
+some_held Nothing n = absurd (n refl)
 
-among_left : (k : Text) (xs ys : List Text) → Among k xs → Among k (xs ++ ys)
-among_left k [] ys a = absurd a
-among_left k (x ∷ xs) ys (inl e) = inl e
-among_left k (x ∷ xs) ys (inr a) = inr (among_left k xs ys a)
-
-among_right : (k : Text) (xs ys : List Text) → Among k ys → Among k (xs ++ ys)
-among_right k [] ys a = a
-among_right k (x ∷ xs) ys a = inr (among_right k xs ys a)
-
-by_lists : (k : Text) (a b c : Bool) → list_any (bytes_eq k) one_schema ≡ a → list_any (bytes_eq k) list_of_schemas ≡ b
-    → list_any (bytes_eq k) object_of_schemas ≡ c
-    → ¬ ((if a then One else (if b then Listed else (if c then Named else Nothing))) ≡ Nothing) → Among k all_names
-by_lists k true b c e f g n = among_left k one_schema (list_of_schemas ++ object_of_schemas) (among_any k one_schema e)
-by_lists k false true c e f g n = among_right k one_schema (list_of_schemas ++ object_of_schemas)
-    (among_left k list_of_schemas object_of_schemas (among_any k list_of_schemas f))
-by_lists k false false true e f g n = among_right k one_schema (list_of_schemas ++ object_of_schemas)
-    (among_right k list_of_schemas object_of_schemas (among_any k object_of_schemas g))
-by_lists k false false false e f g n = absurd (n refl)
-
-holds_name : (k : Text) → ¬ (holding k ≡ Nothing) → Among k all_names
-unfolding holding
-holds_name k n = by_lists k (list_any (bytes_eq k) one_schema) (list_any (bytes_eq k) list_of_schemas)
-    (list_any (bytes_eq k) object_of_schemas) refl refl refl n
+holds_name : (name : Text) → ¬ (holding name ≡ Nothing) → Among name all_names
+unfolding holding which_keyword
+holds_name name n = at (among keywords name) refl n where
+  at : (o : Option Keyword) → among keywords name ≡ o → ¬ (subschemas (unwrap_or o (Other Unknown)) ≡ Nothing)
+      → Among name all_names
+  at None e n = absurd (n refl)
+  at (Some k) e n = holder_among keywords name k e (some_held (subschemas k) n)
 
 pub names_apart : (k l : Text) → ¬ (holding k ≡ Nothing) → ¬ (holding l ≡ Nothing)
-    → ghosts.eq (keyword_name k) (keyword_name l) ≡ bytes_eq k l
+    → ghosts.eq (which_keyword k) (which_keyword l) ≡ bytes_eq k l
 names_apart k l n m =
-    let row = of_all (λ j. list_all (λ i. same (ghosts.eq (keyword_name j) (keyword_name i)) (bytes_eq j i)) all_names)
+    let row = of_all
+    (λ j. list_all (λ i. same (ghosts.eq (which_keyword j) (which_keyword i)) (bytes_eq j i)) all_names)
     all_names k kept_apart (holds_name k n) in
-    same_is (ghosts.eq (keyword_name k) (keyword_name l)) (bytes_eq k l) (of_all
-    (λ i. same (ghosts.eq (keyword_name k) (keyword_name i)) (bytes_eq k i)) all_names l row (holds_name l m))
+    same_is (ghosts.eq (which_keyword k) (which_keyword l)) (bytes_eq k l) (of_all
+    (λ i. same (ghosts.eq (which_keyword k) (which_keyword i)) (bytes_eq k i)) all_names l row (holds_name l m))
 
 -- ---- what a keyword has
 
 entry_here : (k : Text) (ns : List ℕ) (rest : List HeldNumbers) (h : Holding) → ¬ (h ≡ Nothing)
-    → ghosts.eq (keyword_name k) (keyword_name k) ≡ true
-    → numbers_of_keyword (keyword_name k) (one_entry h (keyword_name k, ns) ++ rest) ≡ ns
-entry_here k ns rest One n e = ap (λ b. if b then ns else numbers_of_keyword (keyword_name k) rest) e
-entry_here k ns rest Listed n e = ap (λ b. if b then ns else numbers_of_keyword (keyword_name k) rest) e
-entry_here k ns rest Named n e = ap (λ b. if b then ns else numbers_of_keyword (keyword_name k) rest) e
+    → ghosts.eq (which_keyword k) (which_keyword k) ≡ true
+    → numbers_of_keyword (which_keyword k) (one_entry h (which_keyword k, ns) ++ rest) ≡ ns
+entry_here k ns rest One n e = ap (λ b. if b then ns else numbers_of_keyword (which_keyword k) rest) e
+entry_here k ns rest Listed n e = ap (λ b. if b then ns else numbers_of_keyword (which_keyword k) rest) e
+entry_here k ns rest Named n e = ap (λ b. if b then ns else numbers_of_keyword (which_keyword k) rest) e
 entry_here k ns rest Nothing n e = absurd (n refl)
 
 entry_other : (k l : Text) (ns : List ℕ) (rest : List HeldNumbers) (h : Holding) → h ≡ holding l
     → ¬ (holding k ≡ Nothing) → bytes_eq l k ≡ false
-    → numbers_of_keyword (keyword_name k) (one_entry h (keyword_name l, ns) ++ rest)
-    ≡ numbers_of_keyword (keyword_name k) rest
+    → numbers_of_keyword (which_keyword k) (one_entry h (which_keyword l, ns) ++ rest)
+    ≡ numbers_of_keyword (which_keyword k) rest
 entry_other k l ns rest One is n e =
-    ap (λ b. if b then ns else numbers_of_keyword (keyword_name k) rest)
+    ap (λ b. if b then ns else numbers_of_keyword (which_keyword k) rest)
     (names_apart l k (λ no. let x : One ≡ Nothing = is ∙ no in absurd (cc)) n ∙ e)
 entry_other k l ns rest Listed is n e =
-    ap (λ b. if b then ns else numbers_of_keyword (keyword_name k) rest)
+    ap (λ b. if b then ns else numbers_of_keyword (which_keyword k) rest)
     (names_apart l k (λ no. let x : Listed ≡ Nothing = is ∙ no in absurd (cc)) n ∙ e)
 entry_other k l ns rest Named is n e =
-    ap (λ b. if b then ns else numbers_of_keyword (keyword_name k) rest)
+    ap (λ b. if b then ns else numbers_of_keyword (which_keyword k) rest)
     (names_apart l k (λ no. let x : Named ≡ Nothing = is ∙ no in absurd (cc)) n ∙ e)
 entry_other k l ns rest Nothing is n e = refl
 
@@ -203,7 +216,7 @@ module _ (all : List SchemaPlace) (d : ℕ) (uri : Parts) where
   pub keyword_there : (ms : Members) (above : List Located) (p : Tokens) (n : ℕ) (k : Text) (v : Value)
       → StandsFrom (places_of_keywords d uri above p ms) n all
       → get k (member_list ms) ≡ Some v → ¬ (holding k ≡ Nothing)
-      → KeywordThere above p k v (numbers_of_keyword (keyword_name k) (held_by_keywords n ms))
+      → KeywordThere above p k v (numbers_of_keyword (which_keyword k) (held_by_keywords n ms))
   keyword_there no_members above p n k v s e h = absurd (cc)
   keyword_there (member l w ms) above p n k v s e h =
       let q = p ++ l ∷ [] in
@@ -219,17 +232,17 @@ module _ (all : List SchemaPlace) (d : ℕ) (uri : Parts) where
           → StandsFrom (places_held (holding l) (places_at d uri above (p ++ l ∷ []) w)
           (places_in_list d uri above (p ++ l ∷ []) w) (places_in_object d uri above (p ++ l ∷ []) w)) n all
           → (get k (member_list ms) ≡ Some v → KeywordThere above p k v
-          (numbers_of_keyword (keyword_name k) (held_by_keywords (n + count_of_keyword l w) ms)))
-          → KeywordThere above p k v (numbers_of_keyword (keyword_name k) (held_by_keywords n (member l w ms)))
+          (numbers_of_keyword (which_keyword k) (held_by_keywords (n + count_of_keyword l w) ms)))
+          → KeywordThere above p k v (numbers_of_keyword (which_keyword k) (held_by_keywords n (member l w ms)))
       by_name true is got stands next =
           let name : l ≡ k = sym (is_text-sound k l is) in
           let value = some_is w v (sym (ap (λ b. if b then Some w else get k (member_list ms)) is) ∙ got) in
-          let itself : ghosts.eq (keyword_name k) (keyword_name k) ≡ true = names_apart k k h h ∙ is_text-refl k in
+          let itself : ghosts.eq (which_keyword k) (which_keyword k) ≡ true = names_apart k k h h ∙ is_text-refl k in
           let rest = held_by_keywords (n + count_of_keyword l w) ms in
           record {
             first = n;
-            are = ap (λ x. numbers_of_keyword (keyword_name k)
-                (one_entry (holding x) (keyword_name x, numbers_held (holding x) n w) ++ rest)) name
+            are = ap (λ x. numbers_of_keyword (which_keyword k)
+                (one_entry (holding x) (which_keyword x, numbers_held (holding x) n w) ++ rest)) name
                 ∙ entry_here k (numbers_held (holding k) n w) rest (holding k) h itself
                 ∙ ap (numbers_held (holding k) n) value;
             places = subst (λ x. StandsFrom (places_held (holding k) (places_at d uri above (p ++ k ∷ []) x)

@@ -4,7 +4,7 @@ use Rattle.std.proofs.Common.{slice_get, find, bytes_eq, codes, false, refl, sym
 use Rattle.std.specs.Option.{option_map_or}
 use Rattle.js_doc.specs.Value.{Value}
 use Rattle.js_assert.specs.Assertion.{Asserted}
-use Rattle.js_assert.specs.Keyword.{name_of}
+use Rattle.js_keyword.specs.AssertionKeyword.{name_of}
 use Rattle.js_bundle.specs.declared.check.assertions_and_patterns.BuiltPattern.{BuiltPattern}
 use Rattle.js_bundle.specs.AssertionsAndPatterns.{assertions_at, patterns_at}
 use Rattle.js_bundle.specs.Candidate.{IsClear}

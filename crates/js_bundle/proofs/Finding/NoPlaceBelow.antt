@@ -11,8 +11,8 @@ use Rattle.js_doc.specs.Pointer.{Tokens}
 use Rattle.js_doc.specs.Short.{IsShort}
 use Rattle.js_doc.specs.Value.{Value, null, truth, whole, text, list, object, Members, no_members, member}
 use Rattle.js_doc.specs.Parts.{member_list, members_of}
-use Rattle.js_bundle.specs.declared.scan.holding.Holding.{Holding}
-use Rattle.js_bundle.specs.declared.scan.holding.Holding.TheVariants.{One, Listed, Named}
+use Rattle.js_keyword.specs.declared.argument_form.Holding.{Holding}
+use Rattle.js_keyword.specs.declared.argument_form.Holding.TheVariants.{One, Listed, Named}
 use Rattle.js_bundle.specs.Document.{Documents}
 use Rattle.js_bundle.specs.Keyword.{Text, argument}
 use Rattle.js_bundle.specs.Names.{stands_at}

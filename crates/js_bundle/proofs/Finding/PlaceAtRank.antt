@@ -9,11 +9,11 @@ use Rattle.js_doc.specs.Parts.{member_list, members_of}
 use Rattle.js_doc.proofs.FiniteMaps.{get_here, get_past}
 use Rattle.url.specs.Parts.{Parts}
 use Rattle.js_bundle.specs.declared.index.edges.Edges.{Edges}
-use Rattle.js_bundle.specs.declared.scan.holding.Holding.TheVariants.{Named}
-use Rattle.js_bundle.specs.declared.keyword_name.KeywordName.{KeywordName}
+use Rattle.js_keyword.specs.declared.argument_form.Holding.TheVariants.{Named}
+use Rattle.js_keyword.specs.declared.keyword.Keyword.{Keyword}
 use Rattle.js_bundle.specs.Document.{Documents}
 use Rattle.js_bundle.specs.Keyword.{Text, argument}
-use Rattle.js_bundle.specs.KeywordName.{keyword_name}
+use Rattle.js_keyword.specs.Keyword.{which_keyword}
 use Rattle.js_bundle.specs.Place.{holding, Located, SchemaPlace, places_held, places_at}
 use Rattle.js_bundle.specs.Place.{places_in_list, places_in_object, places_from}
 use Rattle.js_bundle.specs.Ranked.{HoldsAtRank}
@@ -104,25 +104,25 @@ module _ (all : List SchemaPlace) (checked_sites : List CheckedSite) (d : ℕ) (
   pub ranked_at : (n : ℕ) (above : List Located) (p : Tokens) (v : Value) (k name : Text) (l u : Value) (r : ℕ)
       → StandsFrom (places_at d uri above p v) n all → holding k ≡ Named
       → argument k v ≡ Some l → slice_get (members_of l) r ≡ Some (name, u) → (m : ℕ) × (slice_get
-      (numbers_of_keyword (keyword_name k) (held_by_place n v)) r ≡ Some m) × StandsAt all d (p ++ k ∷ name ∷ []) m
+      (numbers_of_keyword (which_keyword k) (held_by_place n v)) r ≡ Some m) × StandsAt all d (p ++ k ∷ name ∷ []) m
   ranked_at n above p v k name l u r s e f g =
       let there = keyword_at all checked_sites d uri are n above p v k l s f (holds_object k e) in
-      member_ranked there.0 p k name l u r (numbers_of_keyword (keyword_name k) (held_by_place n v)) e g there.1
+      member_ranked there.0 p k name l u r (numbers_of_keyword (which_keyword k) (held_by_place n v)) e g there.1
 
 pub ranked_by : (documents : Documents) → AreRead documents → (n : ℕ) (s : Site) → slice_get (sites documents) n
     ≡ Some s → (k : Text) (step : Step) (r : ℕ) (u : Value) → HoldsAtRank s.schema k step r u
     → IsRanked documents s k step r
-    (option_map_or (numbers_of_keyword (keyword_name k)) (slice_get (edges_from 0 documents) n) [])
+    (option_map_or (numbers_of_keyword (which_keyword k)) (slice_get (edges_from 0 documents) n) [])
 ranked_by documents read n s e k Alone r u h =
     let ascends = (standing documents read.ordered read.short n s e).ascends in
     let f = found_by documents read n s e k Alone u (holds_ranked s.schema k Alone r u ascends h) in
-    let numbers = option_map_or (numbers_of_keyword (keyword_name k)) (slice_get (edges_from 0 documents) n) [] in
+    let numbers = option_map_or (numbers_of_keyword (which_keyword k)) (slice_get (edges_from 0 documents) n) [] in
     record
     { number = f.number; is = subst (λ i. slice_get numbers i ≡ Some f.number) (sym h.1.2.1) f.is; finds = f.finds }
 ranked_by documents read n s e k (Index i) r u h =
     let ascends = (standing documents read.ordered read.short n s e).ascends in
     let f = found_by documents read n s e k (Index i) u (holds_ranked s.schema k (Index i) r u ascends h) in
-    let numbers = option_map_or (numbers_of_keyword (keyword_name k)) (slice_get (edges_from 0 documents) n) [] in
+    let numbers = option_map_or (numbers_of_keyword (which_keyword k)) (slice_get (edges_from 0 documents) n) [] in
     record
     { number = f.number; is = subst (λ j. slice_get numbers j ≡ Some f.number) (sym h.1.2.1) f.is; finds = f.finds }
 ranked_by documents read n s e k (Name name) r u h =
@@ -138,7 +138,7 @@ ranked_by documents read n s e k (Name name) r u h =
     (is_named (holding k) name (applies_fits k (Name name) at.0)) at.1.1 at.1.2 in
     record {
       number = m.0;
-      is = subst (λ o. slice_get (option_map_or (numbers_of_keyword (keyword_name k)) o []) r
+      is = subst (λ o. slice_get (option_map_or (numbers_of_keyword (which_keyword k)) o []) r
           ≡ Some m.0) (sym root.held) m.1;
       finds = finds_standing documents read n s e k (Name name) u
           (holds_ranked s.schema k (Name name) r u ascends h) m.0 m.2;
@@ -157,18 +157,18 @@ finds_at documents place k step r v u result (Some s) is e h found =
     found s is (subst (λ x. HoldsAtRank x k step r u) same h)
 
 pub finds_ranked : (docs documents : Documents) (edges : List Edges) (n place : ℕ) (k : Text) (step : Step) (r : ℕ)
-    (v u : Value) (which : KeywordName) (numbers : List ℕ) (result : Option ℕ)
-    → docs ≡ documents → n ≡ place → AreRead docs → map edges_of edges ≡ edges_from 0 docs → which ≡ keyword_name k
+    (v u : Value) (which : Keyword) (numbers : List ℕ) (result : Option ℕ)
+    → docs ≡ documents → n ≡ place → AreRead docs → map edges_of edges ≡ edges_from 0 docs → which ≡ which_keyword k
     → numbers ≡ option_map_or (numbers_of_keyword which) (slice_get (map edges_of edges) n) []
     → ((m : ℕ) → slice_get numbers r ≡ Some m → result ≡ Some m)
     → option_map (λ s. s.schema) (place_at documents place) ≡ Some v → HoldsAtRank v k step r u
     → Finds documents result (option_and_then (λ s. below documents s k step) (place_at documents place))
 finds_ranked docs documents edges n place k step r v u which numbers result same number read has name are found e h =
     let numbers_are : numbers
-    ≡ option_map_or (numbers_of_keyword (keyword_name k)) (slice_get (edges_from 0 documents) place) [] =
+    ≡ option_map_or (numbers_of_keyword (which_keyword k)) (slice_get (edges_from 0 documents) place) [] =
     are ∙ ap (λ w. option_map_or (numbers_of_keyword w) (slice_get (map edges_of edges) n) []) name ∙ ap
-    (λ es. option_map_or (numbers_of_keyword (keyword_name k)) (slice_get es n) []) (has ∙ ap (edges_from 0) same)
-    ∙ ap (λ m. option_map_or (numbers_of_keyword (keyword_name k)) (slice_get (edges_from 0 documents) m) []) number in
+    (λ es. option_map_or (numbers_of_keyword (which_keyword k)) (slice_get es n) []) (has ∙ ap (edges_from 0) same)
+    ∙ ap (λ m. option_map_or (numbers_of_keyword (which_keyword k)) (slice_get (edges_from 0 documents) m) []) number in
     finds_at documents place k step r v u result (place_at documents place) refl e h
     (λ s is g.
     let f = ranked_by documents (subst (λ ds. AreRead ds) same read) place s is k step r u g in

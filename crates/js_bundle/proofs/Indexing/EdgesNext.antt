@@ -9,7 +9,7 @@ use Rattle.js_doc.specs.declared.doc.Doc.{Doc}
 use Rattle.js_bundle.specs.declared.document.Document as rust
 use Rattle.js_bundle.specs.declared.index.edges.Edges.{Edges}
 use Rattle.js_bundle.specs.Keyword.{Text}
-use Rattle.js_bundle.specs.KeywordName.{keyword_name}
+use Rattle.js_keyword.specs.Keyword.{which_keyword}
 use Rattle.js_bundle.specs.Place.{holding}
 use Rattle.js_bundle.specs.Seen.{document_of}
 use Rattle.js_bundle.specs.code.Edges.{HeldNumbers, count, count_of_keyword, edges_at, edges_from, edges_held, edges_of}
@@ -132,14 +132,14 @@ keyword_edges_next l k v ms old new whole same e h =
 pub keyword_held_next : (l k : Text) (v : Value) (ms : Members) (old new : List Edges)
     (before after whole : List HeldNumbers) → l ≡ k
     → map edges_of new ≡ map edges_of old ++ edges_held (holding l) (length old) v
-    → after ≡ before ++ one_entry (holding l) (keyword_name l, numbers_held (holding l) (length old) v)
+    → after ≡ before ++ one_entry (holding l) (which_keyword l, numbers_held (holding l) (length old) v)
     → before ++ held_by_keywords (length old) (member k v ms) ≡ whole
     → after ++ held_by_keywords (length new) ms ≡ whole
 keyword_held_next l k v ms old new before after whole same e p h =
     let here = subst (λ x. map edges_of new ≡ map edges_of old ++ edges_held (holding x) (length old) v) same e in
     let put = subst (λ x. after
-    ≡ before ++ one_entry (holding x) (keyword_name x, numbers_held (holding x) (length old) v)) same p in
-    further before after (one_entry (holding k) (keyword_name k, numbers_held (holding k) (length old) v))
+    ≡ before ++ one_entry (holding x) (which_keyword x, numbers_held (holding x) (length old) v)) same p in
+    further before after (one_entry (holding k) (which_keyword k, numbers_held (holding k) (length old) v))
     (λ m. held_by_keywords m ms) (length old) (length new) (count_of_keyword k v) whole put
     (grown old new (edges_held (holding k) (length old) v) (count_of_keyword k v) here
     (keyword_edges (holding k) (length old) v)) h

@@ -6,8 +6,8 @@ use Rattle.url.specs.Parts.{Parts}
 use Rattle.js_doc.specs.Pointer.{Tokens}
 use Rattle.js_doc.specs.Value.{Value, null, truth, whole, text, list, object, Items}
 use Rattle.js_doc.specs.Value.{no_items, item, Members, no_members, member}
-use Rattle.js_bundle.specs.declared.scan.holding.Holding.{Holding}
-use Rattle.js_bundle.specs.declared.scan.holding.Holding.TheVariants.{One, Listed, Named, Nothing}
+use Rattle.js_keyword.specs.declared.argument_form.Holding.{Holding}
+use Rattle.js_keyword.specs.declared.argument_form.Holding.TheVariants.{One, Listed, Named, Nothing}
 use Rattle.js_bundle.specs.Document.{Documents}
 use Rattle.js_bundle.specs.Place.{holding, Located, SchemaPlace, places_held, places_at, places_of_keywords}
 use Rattle.js_bundle.specs.Place.{places_in_list, places_of_items, places_in_object, places_of_members, places_from}

@@ -4,12 +4,12 @@ use Rattle.std.specs.Prelude.{ℕ, suc, ◌+◌, List, [], ◌∷◌, ◌++◌, 
 use Rattle.js_doc.specs.Value.{Value, list, object, Items, no_items, item, Members, no_members, member}
 use Rattle.js_bundle.specs.declared.index.edges.Edges.{Edges}
 use Rattle.js_bundle.specs.declared.index.edges.HeldPlaces.{HeldPlaces}
-use Rattle.js_bundle.specs.declared.scan.holding.Holding.{Holding}
-use Rattle.js_bundle.specs.declared.scan.holding.Holding.TheVariants.{One, Listed, Named, Nothing}
-use Rattle.js_bundle.specs.declared.keyword_name.KeywordName.{KeywordName}
+use Rattle.js_keyword.specs.declared.argument_form.Holding.{Holding}
+use Rattle.js_keyword.specs.declared.argument_form.Holding.TheVariants.{One, Listed, Named, Nothing}
+use Rattle.js_keyword.specs.declared.keyword.Keyword.{Keyword}
 use Rattle.js_bundle.specs.Document.{Documents}
 use Rattle.js_bundle.specs.Keyword.{Text}
-use Rattle.js_bundle.specs.KeywordName.{keyword_name}
+use Rattle.js_keyword.specs.Keyword.{which_keyword}
 use Rattle.js_bundle.specs.Place.{holding}
 
 -- what there is of a keyword, as it holds schemas
@@ -74,7 +74,7 @@ numbers_held h n v = by_holding [] h (n ∷ []) (numbers_in_list n v) (numbers_i
 
 -- a keyword that holds schemas, with their numbers
 abbrev pub HeldNumbers : Type 0
-HeldNumbers = KeywordName × List ℕ
+HeldNumbers = Keyword × List ℕ
 
 -- an entry for a keyword that holds schemas, none for another one
 abbrev pub one_entry : {A : Type 0} → Holding → A → List A
@@ -82,7 +82,7 @@ one_entry h entry = by_holding [] h (entry ∷ []) (entry ∷ []) (entry ∷ [])
 
 abbrev pub held_by_keywords : ℕ → Members → List HeldNumbers
 held_by_keywords n no_members = []
-held_by_keywords n (member k v ms) = one_entry (holding k) (keyword_name k, numbers_held (holding k) n v)
+held_by_keywords n (member k v ms) = one_entry (holding k) (which_keyword k, numbers_held (holding k) n v)
     ++ held_by_keywords (n + count_of_keyword k v) ms
 
 -- what the keywords of the place with this number hold

@@ -8,8 +8,8 @@ use Rattle.std.specs.Ordering.{is_lt}
 use Rattle.js_doc.specs.Members.{name_cmp}
 use Rattle.js_doc.specs.Pointer.{Tokens}
 use Rattle.js_doc.specs.Value.{Value}
-use Rattle.js_bundle.specs.contracts.keyword_name.KeywordNamePartialEq.TheImpl.{ghosts}
-use Rattle.js_bundle.specs.declared.keyword_name.KeywordName.{KeywordName}
+use Rattle.js_keyword.specs.contracts.keyword.KeywordPartialEq.TheImpl.{ghosts}
+use Rattle.js_keyword.specs.declared.keyword.Keyword.{Keyword}
 use Rattle.js_bundle.specs.code.Edges.{HeldNumbers}
 use Rattle.js_bundle.specs.code.CheckedSite.{CheckedSite}
 use Rattle.js_bundle.specs.Keyword.{Text, argument}
@@ -37,7 +37,7 @@ IsSmall _ = Unit {0}
 -- ---- by number
 
 -- the numbers that a keyword has
-abbrev pub numbers_of_keyword : KeywordName → List HeldNumbers → List ℕ
+abbrev pub numbers_of_keyword : Keyword → List HeldNumbers → List ℕ
 numbers_of_keyword keyword [] = []
 numbers_of_keyword keyword (h ∷ hs) = if ghosts.eq h.0 keyword then h.1 else numbers_of_keyword keyword hs
 

@@ -13,6 +13,7 @@ use crate::refusal::RefusalKind;
 use crate::scan::site::Site;
 use js_assert::{Assertion, Pattern, PatternFault};
 use js_doc::{Doc, Members, Memory, Text};
+use js_keyword::Keyword;
 use std::alloc::Global;
 
 /// What is built from the keywords of places, place by place.
@@ -154,11 +155,11 @@ pub(crate) fn read_names(
     ensures err { IfErr result (IsStopped
         (name_rules (site_of at.entry.site.now) at.entry.keyword.now (value_of argument.now))) }
 {
-    match at.keyword {
-        "patternProperties" => match argument {
-            Doc::Members(members) => read_patterns(out, at, members),
-            _ => Ok(()),
-        },
+    if at.keyword != Keyword::PatternProperties.name() {
+        return Ok(());
+    }
+    match argument {
+        Doc::Members(members) => read_patterns(out, at, members),
         _ => Ok(()),
     }
 }

@@ -13,7 +13,8 @@ ghost use Rattle.js_bundle.specs.code.PartsByPlace.{ArePartsByPlace};
 ghost use Rattle.js_bundle.specs.code.Index.{IsIndexOf};
 ghost use Rattle.js_bundle.specs.code.Positions.{BeginTexts, IsLast, ArePositionsOf, HasPositionAdded};
 ghost use Rattle.js_bundle.specs.Keyword as words;
-ghost use Rattle.js_bundle.specs.KeywordName.{member_keywords};
+ghost use Rattle.js_keyword.specs.Keyword.{which_keyword};
+ghost use Rattle.js_bundle.specs.MemberKeywords.{member_keywords};
 ghost use Rattle.js_bundle.specs.Refusals.{when, decided, on_text, text_rules, at_member, at_site, first_pass};
 ghost use Rattle.js_bundle.specs.code.Scan.{site_of};
 
@@ -21,22 +22,29 @@ use crate::check::assertions_and_patterns::{Built, BuiltTable, keep_assertion, r
 use crate::check::fault::{CheckFault, refuse_keyword};
 use crate::check::lookup::{Lookup, SiteKeyword};
 use crate::check::rules::{
-    check_anchor, check_dialect, check_id, check_place, is_shaped, read_assertion,
+    check_anchor, check_dialect, check_id, check_place, has_form, read_assertion,
 };
 use crate::index::keyword_table::KeywordTable;
 use crate::index::positions::{Positions, TextPrefixes};
 use crate::refusal::RefusalKind;
 use crate::scan::site::Site;
 use js_doc::{Doc, Members, Memory};
+use js_keyword::{Keyword, OtherKeyword};
 use std::alloc::Global;
 
-fn check_shape(alloc: Global, at: SiteKeyword<'_>, argument: &Doc) -> Result<(), CheckFault>
+fn check_shape(
+    alloc: Global,
+    at: SiteKeyword<'_>,
+    which: Keyword,
+    argument: &Doc,
+) -> Result<(), CheckFault>
+    requires { which ≡ which_keyword at.keyword.now }
     ensures ok { OnOk result (IsClear (when (not (is_shaped at.entry.keyword.now (value_of argument.now)))
         (decided (site_of at.entry.site.now) (at.entry.keyword.now ∷ []) BadKeyword))) }
     ensures err { IfErr result (IsStopped (when (not (is_shaped at.entry.keyword.now (value_of argument.now)))
         (decided (site_of at.entry.site.now) (at.entry.keyword.now ∷ []) BadKeyword))) }
 {
-    if is_shaped(at.keyword, argument) {
+    if has_form(which.form(), argument) {
         Ok(())
     } else {
         Err(refuse_keyword(alloc, at, RefusalKind::BadKeyword))
@@ -44,7 +52,13 @@ fn check_shape(alloc: Global, at: SiteKeyword<'_>, argument: &Doc) -> Result<(),
 }
 
 // The rules of a keyword whose argument is a text.
-fn check_text(known: Lookup<'_>, at: SiteKeyword<'_>, text: &str) -> Result<(), CheckFault>
+fn check_text(
+    known: Lookup<'_>,
+    at: SiteKeyword<'_>,
+    which: Keyword,
+    text: &str,
+) -> Result<(), CheckFault>
+    requires which { which ≡ which_keyword at.keyword.now }
     requires index { IsIndexOf known.index.now (map site_of known.sites.now) }
     requires argument { words.argument at.keyword.now (value_of at.site.now.schema.now) ≡ Some (spec.text text.now) }
     ensures ok { OnOk result (IsClear
@@ -52,16 +66,25 @@ fn check_text(known: Lookup<'_>, at: SiteKeyword<'_>, text: &str) -> Result<(), 
     ensures err { IfErr result (IsStopped
         (text_rules (map site_of known.entry.sites.now) (site_of at.entry.site.now) at.entry.keyword.now text.now)) }
 {
-    match at.keyword {
-        "$schema" => check_dialect(known.alloc, at, text),
-        "$id" => check_id(known, at, text),
-        "$anchor" => check_anchor(known, at, text),
-        "$dynamicAnchor" => check_anchor(known, at, text),
+    match which {
+        Keyword::Other(other) => match other {
+            OtherKeyword::Schema => check_dialect(known.alloc, at, text),
+            OtherKeyword::Id => check_id(known, at, text),
+            OtherKeyword::Anchor => check_anchor(known, at, text),
+            OtherKeyword::DynamicAnchor => check_anchor(known, at, text),
+            _ => Ok(()),
+        },
         _ => Ok(()),
     }
 }
 
-fn check_argument(known: Lookup<'_>, at: SiteKeyword<'_>, argument: &Doc) -> Result<(), CheckFault>
+fn check_argument(
+    known: Lookup<'_>,
+    at: SiteKeyword<'_>,
+    which: Keyword,
+    argument: &Doc,
+) -> Result<(), CheckFault>
+    requires which { which ≡ which_keyword at.keyword.now }
     requires index { IsIndexOf known.index.now (map site_of known.sites.now) }
     requires argument { words.argument at.keyword.now (value_of at.site.now.schema.now) ≡ Some (value_of argument.now) }
     ensures ok { OnOk result (IsClear (on_text
@@ -72,7 +95,7 @@ fn check_argument(known: Lookup<'_>, at: SiteKeyword<'_>, argument: &Doc) -> Res
         (value_of argument.now))) }
 {
     match argument {
-        Doc::Text(text) => check_text(known, at, text.as_str()),
+        Doc::Text(text) => check_text(known, at, which, text.as_str()),
         _ => Ok(()),
     }
 }
@@ -82,9 +105,11 @@ fn check_keyword(
     built: &mut Built,
     known: Lookup<'_>,
     at: SiteKeyword<'_>,
+    which: Keyword,
     argument: &Doc,
     siblings: &Members,
 ) -> Result<(), CheckFault>
+    requires which { which ≡ which_keyword at.keyword.now }
     requires index { IsIndexOf known.index.now (map site_of known.sites.now) }
     requires argument { words.argument at.keyword.now (value_of at.site.now.schema.now) ≡ Some (value_of argument.now) }
     ensures clear { OnOk result (IsClear
@@ -98,10 +123,10 @@ fn check_keyword(
         (at_member (map site_of known.entry.sites.now) (site_of at.entry.site.now)
         (at.entry.keyword.now, value_of argument.now))) }
 {
-    check_shape(known.alloc, at, argument)?;
+    check_shape(known.alloc, at, which, argument)?;
     let assertion = read_assertion(known.alloc, at, argument, siblings)?;
     keep_assertion(&mut built.assertions, assertion)?;
-    check_argument(known, at, argument)?;
+    check_argument(known, at, which, argument)?;
     read_names(&mut built.patterns, at, argument)
 }
 
@@ -128,7 +153,8 @@ fn check_keywords(
             site: &*site, // lent again, for as long as the name is
             keyword: keyword.as_str(),
         };
-        check_keyword(built, known, at, argument, members)?;
+        let which = Keyword::of(at.keyword);
+        check_keyword(built, known, at, which, argument, members)?;
     }
     Ok(())
 }

@@ -10,7 +10,7 @@ ghost use Rattle.js_bundle.specs.code.PlaceNumbers.{under_number};
 ghost use Rattle.js_bundle.specs.code.SparseList.{IsSparseList, HasEntryAdded};
 ghost use Rattle.js_bundle.specs.code.PartsByPlace.{ArePartsByPlace};
 ghost use Rattle.js_bundle.specs.code.Index.{IsIndexOf};
-ghost use Rattle.js_bundle.specs.KeywordName.{member_keywords};
+ghost use Rattle.js_bundle.specs.MemberKeywords.{member_keywords};
 ghost use Rattle.js_bundle.specs.Names.{makes};
 ghost use Rattle.js_bundle.specs.Refusals.{at_joined_reference, at_reference_text, at_reference, at_references};
 ghost use Rattle.js_bundle.specs.Refusals.{second_pass};
@@ -26,12 +26,12 @@ use crate::index::parts_by_place::part_of_place;
 use crate::index::place_by_uri::{NameFault, number_named};
 use crate::index::sparse_list::add_entry;
 use crate::keyword::text_argument;
-use crate::keyword_name::KeywordName;
 use crate::refusal::RefusalKind;
 use crate::scan::site::Site;
 use crate::uri::{self, LONGEST};
 use indexmap::IndexMap;
 use js_doc::Memory;
+use js_keyword::{Keyword, OtherKeyword};
 use std::alloc::Global;
 use url::{ParseError, Url};
 
@@ -98,7 +98,7 @@ fn resolve_plain(known: Lookup<'_>, at: SiteKeyword<'_>) -> Result<Option<usize>
 fn makes_dynamically(site: &Site<'_>, name: &[u8]) -> bool
     ensures { result ≡ makes (codes "$dynamicAnchor") name.now (site_of site.now) }
 {
-    match text_argument(site.schema, "$dynamicAnchor") {
+    match text_argument(site.schema, OtherKeyword::DynamicAnchor.name()) {
         Some(text) => name == text.as_bytes(),
         None => false,
     }
@@ -134,7 +134,7 @@ fn resolve_dynamic_url(
     let name = uri::decoded_fragment(known.alloc, &url)?;
     let at = SiteKeyword {
         site,
-        keyword: "$dynamicRef",
+        keyword: Keyword::DynamicRef.name(),
     };
     match resolve_url(known, at, url)? {
         Some(target) => Ok(Some(reference_to(known.sites, target, name.as_slice()))),
@@ -154,13 +154,11 @@ fn resolve_dynamic(
     ensures err { IfErr result (IsStopped
         (at_reference (map site_of known.entry.sites.now) (codes "$dynamicRef") (site_of site.now))) }
 {
-    let Some(text) = text_argument(site.schema, "$dynamicRef") else {
+    let keyword = Keyword::DynamicRef.name();
+    let Some(text) = text_argument(site.schema, keyword) else {
         return Ok(None);
     };
-    let at = SiteKeyword {
-        site,
-        keyword: "$dynamicRef",
-    };
+    let at = SiteKeyword { site, keyword };
     let url = joined_reference(known.alloc, at, text)?;
     resolve_dynamic_url(known, site, url)
 }
@@ -183,18 +181,14 @@ fn resolve_both(known: Lookup<'_>, site: &Site<'_>) -> Result<Targets, CheckFaul
     let dynamic = resolve_dynamic(known, site)?;
     let at = SiteKeyword {
         site,
-        keyword: "$ref",
+        keyword: Keyword::Ref.name(),
     };
     let plain = resolve_plain(known, at)?;
     Ok(Targets { dynamic, plain })
 }
 
 // The same for a place whose keywords are these. Most have no reference: nothing is looked up for them.
-fn targets_of(
-    known: Lookup<'_>,
-    site: &Site<'_>,
-    names: &[KeywordName],
-) -> Result<Targets, CheckFault>
+fn targets_of(known: Lookup<'_>, site: &Site<'_>, names: &[Keyword]) -> Result<Targets, CheckFault>
     requires index { IsIndexOf known.index.now (map site_of known.sites.now) }
     requires names { names.now ≡ member_keywords (site_of site.now) }
     ensures clear { OnOk result (IsClear (at_references (map site_of known.entry.sites.now) (site_of site.now))) }
@@ -203,10 +197,10 @@ fn targets_of(
         (λ t. t.plain ≡ number_of_target (map site_of known.entry.sites.now) (codes "$ref") (site_of site.now)) }
     ensures err { IfErr result (IsStopped (at_references (map site_of known.entry.sites.now) (site_of site.now))) }
 {
-    if names.contains(&KeywordName::Ref) {
+    if names.contains(&Keyword::Ref) {
         return resolve_both(known, site);
     }
-    if names.contains(&KeywordName::DynamicRef) {
+    if names.contains(&Keyword::DynamicRef) {
         return resolve_both(known, site);
     }
     Ok(Targets {

@@ -6,7 +6,7 @@ ghost use Rattle.js_doc.specs.Seen.{value_of};
 ghost use Rattle.js_doc.specs.Value as spec;
 ghost use Rattle.js_bundle.specs.declared.refusal.RefusalKind.TheVariants.{TooManyPlaces, NotASchema, DuplicateUri};
 ghost use Rattle.js_bundle.specs.Candidate.{IsClear, IsStopped};
-ghost use Rattle.js_bundle.specs.Shape.{is_shaped, is_filled_list, is_schema};
+ghost use Rattle.js_bundle.specs.Shape.{has_form, is_filled_list, is_schema};
 ghost use Rattle.js_bundle.specs.code.Index.{IsIndexOf};
 ghost use Rattle.js_bundle.specs.Keyword.{argument};
 ghost use Rattle.js_bundle.specs.Names.{is_root, is_anchor_name, begins_name, continues_name};
@@ -25,6 +25,7 @@ use crate::scan::site::Site;
 use crate::uri::{self, LONGEST};
 use js_assert::{Assertion, KeywordFault};
 use js_doc::{Doc, Members, Memory};
+use js_keyword::ArgumentForm;
 use std::alloc::Global;
 use url::Url;
 
@@ -86,21 +87,17 @@ fn is_filled(docs: &[Doc]) -> bool
 }
 
 /// Whether the argument has the shape that the keyword asks for, assertions aside.
-pub(crate) fn is_shaped(keyword: &str, argument: &Doc) -> bool
-    ensures { result ≡ is_shaped keyword.now (value_of argument.now) }
+pub(crate) fn has_form(form: ArgumentForm, argument: &Doc) -> bool
+    ensures { result ≡ has_form form (value_of argument.now) }
 {
-    match keyword {
-        "$schema" | "$id" | "$ref" | "$dynamicRef" | "$anchor" | "$dynamicAnchor" => {
-            matches!(argument, Doc::Text(_))
-        }
-        "allOf" | "anyOf" | "oneOf" | "prefixItems" => match argument {
+    match form {
+        ArgumentForm::Text => matches!(argument, Doc::Text(_)),
+        ArgumentForm::ListedSchemas => match argument {
             Doc::List(items) => is_filled(items.as_slice()),
             _ => false,
         },
-        "$defs" | "definitions" | "properties" | "patternProperties" | "dependentSchemas" => {
-            matches!(argument, Doc::Members(_))
-        }
-        _ => true,
+        ArgumentForm::NamedSchemas => matches!(argument, Doc::Members(_)),
+        ArgumentForm::OneSchema | ArgumentForm::Anything => true,
     }
 }
 

@@ -15,6 +15,7 @@ use crate::keyword::text_argument;
 use crate::place::Place;
 use crate::schemas::Schemas;
 use indexmap::IndexMap;
+use js_keyword::OtherKeyword;
 
 // The place that a dynamic reference names, and the name by which it leads to another one in a dynamic scope.
 #[derive(Clone, Copy)]
@@ -82,7 +83,7 @@ impl Schemas {
             number: reference.target,
         };
         if reference.by_name {
-            text_argument(self.schema(first), "$dynamicAnchor")
+            text_argument(self.schema(first), OtherKeyword::DynamicAnchor.name())
         } else {
             None
         }

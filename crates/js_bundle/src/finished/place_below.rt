@@ -6,7 +6,7 @@ ghost use Rattle.js_doc.specs.Seen.{value_of};
 ghost use Rattle.js_bundle.specs.code.Edges.{edges_of, held_of};
 ghost use Rattle.js_bundle.specs.code.PlaceBelow.{held_in, holds_at_step, value_at_step};
 ghost use Rattle.js_bundle.specs.code.PlaceBelow.{numbers_of_keyword, stands_before, IsNumberAt, IsRankOf, IsSmall};
-ghost use Rattle.js_bundle.specs.KeywordName.{keyword_name};
+ghost use Rattle.js_keyword.specs.Keyword.{which_keyword};
 ghost use Rattle.js_bundle.specs.Place.{holding, items_in};
 ghost use Rattle.js_bundle.specs.PlaceNumber.{is_place, place_at};
 ghost use Rattle.js_bundle.specs.Schemas.{below, fits, step_of, Finds, FindsSchema, Holds};
@@ -15,11 +15,11 @@ ghost use Rattle.js_bundle.specs.code.CheckedSite.{checked_site_of};
 use crate::check::checked_site::CheckedSite;
 use crate::index::edges::{Edges, HeldPlaces};
 use crate::keyword::argument;
-use crate::keyword_name::KeywordName;
 use crate::place::{Place, Step};
-use crate::scan::holding::{Holding, holding_of};
+use crate::scan::holding::holding_of;
 use crate::schemas::Schemas;
 use js_doc::Doc;
+use js_keyword::{Holding, Keyword};
 
 impl Schemas {
     ghost use Rattle.js_doc.specs.Value.{Value};
@@ -62,7 +62,7 @@ impl Schemas {
             → FindsSchema self.now (option_map (λ e. e.0) result) u }
     {
         let edges = self.checked.edges.as_slice();
-        let places = places_under(edges, place.number, KeywordName::of(keyword));
+        let places = places_under(edges, place.number, Keyword::of(keyword));
         match held_by(schema, keyword, step) {
             Some(held) => place_with(self.checked.sites.as_slice(), places, step, held),
             None => None,
@@ -143,7 +143,7 @@ fn fits(holding: Holding, step: Step<'_>) -> bool
 }
 
 /// The places that the keyword of the place with this number holds.
-pub(crate) fn places_under(edges: &[Edges], number: usize, keyword: KeywordName) -> &[usize]
+pub(crate) fn places_under(edges: &[Edges], number: usize, keyword: Keyword) -> &[usize]
     ensures { result.now ≡ option_map_or (numbers_of_keyword keyword) (slice_get (map edges_of edges.now) number) [] }
 {
     match edges.get(number) {
@@ -152,7 +152,7 @@ pub(crate) fn places_under(edges: &[Edges], number: usize, keyword: KeywordName)
     }
 }
 
-fn numbers_of_keyword(keywords: &[HeldPlaces], keyword: KeywordName) -> &[usize]
+fn numbers_of_keyword(keywords: &[HeldPlaces], keyword: Keyword) -> &[usize]
     ensures { result.now ≡ numbers_of_keyword keyword (map held_of keywords.now) }
 {
     for held in keywords {

@@ -1,16 +1,16 @@
 //! What the keywords of a place hold, by rank.
 ghost use Rattle.std.specs.Prelude.{◌≡◌, ℕ, true, slice_get, option_map, option_and_then, MatchOption, Some};
 ghost use Rattle.js_doc.specs.Seen.{value_of};
-ghost use Rattle.js_bundle.specs.KeywordName.{keyword_name};
+ghost use Rattle.js_keyword.specs.Keyword.{which_keyword};
 ghost use Rattle.js_bundle.specs.Ranked.{HoldsAtRank};
 ghost use Rattle.js_bundle.specs.PlaceNumber.{is_place, place_at};
 ghost use Rattle.js_bundle.specs.Schemas.{below, step_of, Finds};
 
 use crate::finished::place_below::places_under;
-use crate::keyword_name::KeywordName;
 use crate::place::{Place, Step};
 use crate::schemas::Schemas;
 use js_doc::Doc;
+use js_keyword::Keyword;
 
 impl Schemas {
     /// The place to which a step leads through a keyword of the place, where it is known what the keyword holds there.
@@ -20,7 +20,7 @@ impl Schemas {
         &self,
         place: Place,
         _schema: &Doc,
-        which: KeywordName,
+        which: Keyword,
         _keyword: &str,
         _step: Step<'_>,
         rank: usize,
@@ -28,7 +28,7 @@ impl Schemas {
     ) -> Option<Place>
         requires place { is_place self.now place ≡ true }
         requires schema { option_map (λ s. s.schema) (place_at self.now place) ≡ Some (value_of _schema.now) }
-        requires which { which ≡ keyword_name _keyword.now }
+        requires which { which ≡ which_keyword _keyword.now }
         requires held { HoldsAtRank (value_of _schema.now) _keyword.now (step_of _step) rank (value_of _held.now) }
         ensures found { Finds self.now result
             (option_and_then (λ s. below self.now s _keyword.now (step_of _step.entry)) (place_at self.now place)) }

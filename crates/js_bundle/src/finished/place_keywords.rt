@@ -1,10 +1,10 @@
 //! What a place has by its keywords.
 ghost use Rattle.std.specs.Prelude.{◌≡◌, ◌∷◌, [], Some, true, codes, find, bytes_eq, option_map, option_and_then};
 ghost use Rattle.std.specs.Ordering.{is_lt};
-ghost use Rattle.js_assert.specs.Keyword.{name_of};
+ghost use Rattle.js_keyword.specs.AssertionKeyword.{name_of};
 ghost use Rattle.js_bundle.specs.AssertionsAndPatterns.{assertions_at, patterns_at};
 ghost use Rattle.js_doc.specs.Members.{name_cmp};
-ghost use Rattle.js_bundle.specs.KeywordName.{member_keywords};
+ghost use Rattle.js_bundle.specs.MemberKeywords.{member_keywords};
 ghost use Rattle.js_bundle.specs.PlaceNumber.{is_place, place_at};
 ghost use Rattle.js_bundle.specs.Schemas.{has_keyword, assertion, pattern};
 ghost use Rattle.js_bundle.specs.Seen.{AreRead};
@@ -14,10 +14,10 @@ use crate::check::assertions_and_patterns::BuiltPattern;
 use crate::finished::dynamic_target::reference_under;
 use crate::finished::target::target_under;
 use crate::index::parts_by_place::part_of_place;
-use crate::keyword_name::KeywordName;
 use crate::place::Place;
 use crate::schemas::Schemas;
 use js_assert::{Assertion, Pattern};
+use js_keyword::Keyword;
 
 impl Schemas {
     /// The assertion that the keyword is at the place. None if the place doesn't have the keyword, or the keyword is no
@@ -57,7 +57,7 @@ impl Schemas {
 
     /// Which keyword of the standard each of the place's keywords is, in the order of the schema's members: by name
     /// ascending. A schema that is `true` or `false` has none.
-    pub fn keyword_names(&self, place: Place) -> &[KeywordName]
+    pub fn keyword_names(&self, place: Place) -> &[Keyword]
         requires { is_place self.now place ≡ true }
         ensures { option_map member_keywords (place_at self.now place) ≡ Some result.now }
     {

@@ -2,7 +2,7 @@
 ghost use Rattle.std.specs.Prelude.{◌≡◌, ◌++◌, ◌∷◌, ◌<◌, [], length, map, slice_set, OnOk, IfOk};
 ghost use Rattle.js_doc.specs.Seen.{value_of};
 ghost use Rattle.js_doc.specs.Value as spec;
-ghost use Rattle.js_bundle.specs.KeywordName.{keyword_name};
+ghost use Rattle.js_keyword.specs.Keyword.{which_keyword};
 ghost use Rattle.js_bundle.specs.Place.{holding};
 ghost use Rattle.js_bundle.specs.Seen.{document_of};
 ghost use Rattle.js_bundle.specs.code.Edges.{edges_at, edges_from, edges_held};
@@ -11,15 +11,15 @@ ghost use Rattle.js_bundle.specs.code.Edges.{held_by_keywords, held_of, numbers_
 ghost use Rattle.js_bundle.specs.code.Edges.{numbers_of_members, one_entry};
 
 use crate::document::Document;
-use crate::keyword_name::KeywordName;
-use crate::scan::holding::{Holding, holding_of};
+use crate::scan::holding::holding_of;
 use js_doc::{Doc, Members, Memory};
+use js_keyword::{Holding, Keyword};
 use std::alloc::Global;
 
 /// A keyword of a place, and the places that it holds, in the order of its argument.
 #[derive(Drop)]
 pub(crate) struct HeldPlaces {
-    pub(crate) keyword: KeywordName,
+    pub(crate) keyword: Keyword,
     pub(crate) places: Vec<usize>,
 }
 
@@ -111,7 +111,7 @@ fn link_keyword(
         ++ edges_held (holding keyword.now) (length edges.old.items) (value_of argument.now)) }
     ensures held { OnOk result (map held_of held.new.items ≡ map held_of held.old.items
         ++ one_entry (holding keyword.now) (
-          keyword_name keyword.now,
+          which_keyword keyword.now,
           numbers_held (holding keyword.now) (length edges.old.items) (value_of argument.now),
         )) }
 {
@@ -122,7 +122,7 @@ fn link_keyword(
     let mut places = Vec::new(*edges.allocator());
     link_held(edges, &mut places, holding, argument)?;
     held.push(HeldPlaces {
-        keyword: KeywordName::of(keyword),
+        keyword: Keyword::of(keyword),
         places,
     })?;
     Ok(())

@@ -1,30 +1,31 @@
 //! Which keyword of the standard each keyword of each place is.
 ghost use Rattle.std.specs.Prelude.{◌≡◌, ◌++◌, ◌∷◌, [], length, map, OnOk, IfOk};
-ghost use Rattle.js_bundle.specs.KeywordName.{keyword_name, member_keywords};
+ghost use Rattle.js_keyword.specs.Keyword.{which_keyword};
+ghost use Rattle.js_bundle.specs.MemberKeywords.{member_keywords};
 ghost use Rattle.js_bundle.specs.code.Scan.{site_of};
 
-use crate::keyword_name::KeywordName;
 use crate::scan::site::Site;
 use js_doc::{Doc, Members, Memory};
+use js_keyword::Keyword;
 use std::alloc::Global;
 
 /// Which keyword each is, place by place in scan order.
 pub(crate) struct KeywordTable {
-    pub(crate) names: Vec<KeywordName>,
+    pub(crate) names: Vec<Keyword>,
     /// Where those of each place end.
     pub(crate) ends: Vec<usize>,
 }
 
-fn push_members(names: &mut Vec<KeywordName>, members: &Members) -> Result<(), Memory>
-    ensures { OnOk result (names.new.items ≡ names.old.items ++ map (λ m. keyword_name m.0) members.now) }
+fn push_members(names: &mut Vec<Keyword>, members: &Members) -> Result<(), Memory>
+    ensures { OnOk result (names.new.items ≡ names.old.items ++ map (λ m. which_keyword m.0) members.now) }
 {
     for (name, _) in members.pairs() {
-        names.push(KeywordName::of(name.as_str()))?;
+        names.push(Keyword::of(name.as_str()))?;
     }
     Ok(())
 }
 
-fn push_names(names: &mut Vec<KeywordName>, site: &Site<'_>) -> Result<(), Memory>
+fn push_names(names: &mut Vec<Keyword>, site: &Site<'_>) -> Result<(), Memory>
     ensures { OnOk result (names.new.items ≡ names.old.items ++ member_keywords (site_of site.now)) }
 {
     match site.schema {

@@ -5,7 +5,7 @@ ghost use Rattle.js_bundle.specs.code.PartsByPlace.{ArePartsByPlace};
 ghost use Rattle.js_bundle.specs.code.Index.{IsIndexOf};
 ghost use Rattle.js_bundle.specs.code.Positions.{ArePositionsOf};
 ghost use Rattle.js_bundle.specs.Keyword.{text_argument};
-ghost use Rattle.js_bundle.specs.KeywordName.{member_keywords};
+ghost use Rattle.js_bundle.specs.MemberKeywords.{member_keywords};
 ghost use Rattle.js_bundle.specs.Names.{belongs_to, same_tokens};
 ghost use Rattle.js_bundle.specs.ResourceNumber.{begins_resource, roots, number_of_resource};
 ghost use Rattle.js_bundle.specs.ResourceTable.{AreAnchors, AreEmpty, AreNamed, AreRooted, IsOpened, IsResourceTable};
@@ -20,9 +20,9 @@ use crate::index::place_by_uri::number_at;
 use crate::index::positions::Positions;
 use crate::index::sparse_list::mark_at;
 use crate::keyword::text_argument;
-use crate::keyword_name::{KeywordName, OtherName};
 use crate::scan::site::Site;
 use js_doc::{Memory, Pointer};
+use js_keyword::{Keyword, OtherKeyword};
 use std::alloc::Global;
 
 /// What is kept of resources.
@@ -189,12 +189,12 @@ fn numbers_of(
 }
 
 // The name that a place with these keywords makes by `$dynamicAnchor`. Few do: nothing is looked up for the others.
-fn dynamic_name<'s>(site: &'s Site<'_>, names: &[KeywordName]) -> Option<&'s str>
+fn dynamic_name<'s>(site: &'s Site<'_>, names: &[Keyword]) -> Option<&'s str>
     requires { names.now ≡ member_keywords (site_of site.now) }
     ensures { option_copied result ≡ text_argument (codes "$dynamicAnchor") (site_of site.now).schema }
 {
-    if names.contains(&KeywordName::Other(OtherName::DynamicAnchor)) {
-        return text_argument(site.schema, "$dynamicAnchor");
+    if names.contains(&Keyword::Other(OtherKeyword::DynamicAnchor)) {
+        return text_argument(site.schema, OtherKeyword::DynamicAnchor.name());
     }
     None
 }
@@ -205,7 +205,7 @@ fn name(
     anchors: &mut Vec<Numbering>,
     resource: usize,
     site: &Site<'_>,
-    names: &[KeywordName],
+    names: &[Keyword],
     number: usize,
 ) -> Result<(), Memory>
     requires resource { resource < length anchors.now.items }

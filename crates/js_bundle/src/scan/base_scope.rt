@@ -8,6 +8,7 @@ ghost use Rattle.js_bundle.specs.code.Identity.{is_bare, is_bare_by};
 use crate::keyword::{argument, as_text};
 use crate::uri::{LONGEST, has_no_fragment, without_fragment};
 use js_doc::{Doc, Memory, Pointer};
+use js_keyword::OtherKeyword;
 use std::alloc::Global;
 use std::sync::Arc;
 use url::{ParseError, Url};
@@ -146,7 +147,7 @@ pub(crate) fn base_scopes_at(
         (λ s. s.identifies ≡ is_some (identified above.now.value.base (value_of schema.now))) }
     ensures bare { IfOk result (λ s. s.bare ≡ is_bare above.now.value.base (value_of schema.now)) }
 {
-    match argument(schema, "$id") {
+    match argument(schema, OtherKeyword::Id.name()) {
         Some(id) => {
             let identity = identity_by(&above.base, id)?;
             scopes_by(alloc, above, pointer, identity)

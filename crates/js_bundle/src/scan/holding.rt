@@ -1,20 +1,9 @@
-//! How the arguments of keywords hold schemas.
+//! How members hold schemas.
 ghost use Rattle.std.specs.Prelude.{◌≡◌};
 ghost use Rattle.js_bundle.specs.Place.{holding};
 ghost use Rattle.js_bundle.specs.code.Scan.{holding_as};
 
-/// How a keyword's argument holds schemas.
-#[derive(Clone, Copy, Drop)]
-pub(crate) enum Holding {
-    /// It is a schema.
-    One,
-    /// Its items are schemas.
-    Listed,
-    /// Its members' values are schemas.
-    Named,
-    /// It holds none.
-    Nothing,
-}
+use js_keyword::{Holding, Keyword};
 
 /// What the members of an object are.
 #[derive(Clone, Copy)]
@@ -25,28 +14,12 @@ pub(crate) enum Role {
     Schemas,
 }
 
-/// How the argument of the keyword with this name holds them.
+/// How the argument of the keyword with this name holds schemas.
 #[tactic(auto, unfolding(crate::specs::Place::holding))]
-pub(crate) fn holding_of(keyword: &str) -> Holding
-    ensures { result ≡ holding keyword.now }
+pub(crate) fn holding_of(name: &str) -> Holding
+    ensures { result ≡ holding name.now }
 {
-    match keyword {
-        "not"
-        | "if"
-        | "then"
-        | "else"
-        | "items"
-        | "contains"
-        | "additionalProperties"
-        | "propertyNames"
-        | "unevaluatedItems"
-        | "unevaluatedProperties" => Holding::One,
-        "allOf" | "anyOf" | "oneOf" | "prefixItems" => Holding::Listed,
-        "$defs" | "definitions" | "properties" | "patternProperties" | "dependentSchemas" => {
-            Holding::Named
-        }
-        _ => Holding::Nothing,
-    }
+    Keyword::subschemas_of(name)
 }
 
 /// How a member with this name holds schemas.

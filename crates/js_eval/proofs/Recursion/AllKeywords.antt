@@ -10,7 +10,7 @@ use Rattle.js_doc.specs.Value.{Value}
 use Rattle.js_doc.specs.Members.{IsAscending}
 use Rattle.js_assert.specs.Argument.{entries}
 use Rattle.js_tree.specs.Forest.{Forest}
-use Rattle.js_eval.specs.Keywords.{Keyword, keywords}
+use Rattle.js_eval.specs.Keywords.{Member, keywords}
 use Rattle.js_eval.specs.Location.{Location}
 use Rattle.js_eval.specs.Note.{Note, schema_note}
 use Rattle.js_eval.specs.Result.{OutputUnit, AreKeywordNodes, keyword_unit, schema_unit}
@@ -34,7 +34,7 @@ one_less n h = omega (arith, h)
 
 -- what the keywords before one say of it: the lemma of Before
 pub record IsAsBefore {P : Type 0} (S : SchemaSet P) (m : ℕ) (above : List P) (place : P) (v : Value)
-    (done : List Keyword) (k : Keyword) : Type 0 where
+    (done : List Member) (k : Member) : Type 0 where
   pub same_asks : asked_by S m (above ++ place ∷ []) place v k (condition_in S (within S m) above place v done)
       (names_in S (within S m) above place v done) (indexes_in S (within S m) above place v done)
       ≡ asks S (within S m) above place v k
@@ -43,11 +43,11 @@ pub record IsAsBefore {P : Type 0} (S : SchemaSet P) (m : ℕ) (above : List P) 
       ≡ keyword_unit S m above place at v k
 
 module _ {P : Type 0} (S : SchemaSet P) (m : ℕ) (above : List P) (place : P) (v : Value) where
-  abbrev all : List Keyword
+  abbrev all : List Member
   all = keywords (S.schema place)
 
   -- their nodes, and the events since the schema's node opened
-  pub record KeywordsReported {C : Type 0} (takes : C → Event → C → Type 0) (at : Location) (done : List Keyword)
+  pub record KeywordsReported {C : Type 0} (takes : C → Event → C → Type 0) (at : Location) (done : List Member)
       (c d : C) : Type 0 where
     pub forest : Forest OutputUnit
     pub nodes : AreKeywordNodes S m above place at v done forest

@@ -21,8 +21,8 @@ use Rattle.js_assert.specs.Assertion.{asserted}
 use Rattle.js_assert.specs.ErrorText as text
 use Rattle.js_eval.specs.Applications.{Application, application, asks_of}
 use Rattle.js_eval.specs.Evaluated.{names_origin, indexes_origin}
-use Rattle.js_eval.specs.Keywords.{Keyword, keywords, keywords_that, comes_before_else, comes_after_else, is_else}
-use Rattle.js_bundle.specs.KeywordName.{keyword_name}
+use Rattle.js_eval.specs.Keywords.{Member, keywords, keywords_that, comes_before_else, comes_after_else, is_else}
+use Rattle.js_keyword.specs.Keyword.{which_keyword}
 use Rattle.js_eval.specs.Unevaluated.{is_unevaluated_items, is_unevaluated_properties}
 use Rattle.js_doc.specs.Pointer.{pointer_text}
 use Rattle.js_eval.specs.Location.{Location, at_keyword_named}
@@ -32,9 +32,9 @@ use Rattle.js_eval.specs.Passes.{passes_of}
 use Rattle.js_eval.specs.SchemaSet.{Text, SchemaSet, Alone}
 use Rattle.js_eval.specs.Verdict as verdict
 use Rattle.js_eval.specs.Verdict.{Known, within, asks, passes}
-use Rattle.js_bundle.specs.declared.keyword_name.KeywordName.{KeywordName}
-use Rattle.js_bundle.specs.declared.keyword_name.KeywordName.TheVariants.{Then, Else, Assertion}
-use Rattle.js_bundle.specs.declared.keyword_name.KeywordName.TheVariants.{UnevaluatedItems, UnevaluatedProperties}
+use Rattle.js_keyword.specs.declared.keyword.Keyword.{Keyword}
+use Rattle.js_keyword.specs.declared.keyword.Keyword.TheVariants.{Then, Else, Assertion}
+use Rattle.js_keyword.specs.declared.keyword.Keyword.TheVariants.{UnevaluatedItems, UnevaluatedProperties}
 use Rattle.js_eval.proofs.Standard.{by_keyword}
 use Rattle.js_eval.proofs.FoundByName.{IsAmong, AreAmong, all_of_filter, keywords_among}
 use Rattle.js_eval.proofs.NoCircle.{names_in_no_circle, indexes_in_no_circle}
@@ -57,18 +57,18 @@ pub record CountsLater : Type 0 where
       → option_map_or (λ a. text.error a v m) (asserted name argument siblings) None
       ≡ option_map_or (λ a. text.error a v n) (asserted name argument siblings) None
 
-module _ (later : CountsLater) (siblings : Named) (v : Value) (m n : ℕ) (k : Keyword)
+module _ (later : CountsLater) (siblings : Named) (v : Value) (m n : ℕ) (k : Member)
     (first : comes_before_else k.0 ≡ true) where
-  pub passes_first : (verdicts : List Bool) (κ : KeywordName)
+  pub passes_first : (verdicts : List Bool) (κ : Keyword)
       → passes_of siblings v m k verdicts κ ≡ passes_of siblings v n k verdicts κ
-  passes_first verdicts Assertion = later.says k.0 k.1 siblings v m n first
+  passes_first verdicts (Assertion _) = later.says k.0 k.1 siblings v m n first
   passes_first verdicts _ = refl
 
-  pub note_first : {P : Type 0} (apps holding : List (Application P)) (b : Bool) (κ : KeywordName)
+  pub note_first : {P : Type 0} (apps holding : List (Application P)) (b : Bool) (κ : Keyword)
       → keyword_note siblings v m k apps holding b κ ≡ keyword_note siblings v n k apps holding b κ
-  note_first apps holding true Assertion = refl
+  note_first apps holding true (Assertion _) = refl
   note_first apps holding true _ = refl
-  note_first apps holding false Assertion = ap error_or_none (later.error k.0 k.1 siblings v m n first)
+  note_first apps holding false (Assertion _) = ap error_or_none (later.error k.0 k.1 siblings v m n first)
   note_first apps holding false _ = refl
 
 -- ---- ascending names
@@ -92,24 +92,24 @@ ascends : (ms : Named) → IsAscending ms → Ascends ms
 ascends [] a = tt
 ascends (m ∷ ms) a = (above_all ms m.0 a.0 a.1, ascends ms a.1)
 
-ascends_at : (t : Keyword → Bool) (b : Bool) (m : Keyword) (ms : Named) → Above m.0 ms → Ascends (filter t ms)
+ascends_at : (t : Member → Bool) (b : Bool) (m : Member) (ms : Named) → Above m.0 ms → Ascends (filter t ms)
     → Ascends (cond b (m ∷ filter t ms) (filter t ms))
 ascends_at t true m ms h r = (all_of_filter (λ x. name_cmp m.0 x.0 ≡ Less) t ms h, r)
 ascends_at t false m ms h r = r
 
-ascends_chosen : (t : Keyword → Bool) (ms : Named) → Ascends ms → Ascends (filter t ms)
+ascends_chosen : (t : Member → Bool) (ms : Named) → Ascends ms → Ascends (filter t ms)
 ascends_chosen t [] a = tt
 ascends_chosen t (m ∷ ms) a = ascends_at t (t m) m ms a.0 (ascends_chosen t ms a.1)
 
-after_it : (l more : Named) (k : Keyword) → Ascends (l ++ k ∷ more) → Above k.0 more
+after_it : (l more : Named) (k : Member) → Ascends (l ++ k ∷ more) → Above k.0 more
 after_it [] more k a = a.0
 after_it (x ∷ l) more k a = after_it l more k a.1
 
-below_it : (x k : Keyword) (l more : Named) → Above x.0 (l ++ k ∷ more) → name_cmp x.0 k.0 ≡ Less
+below_it : (x k : Member) (l more : Named) → Above x.0 (l ++ k ∷ more) → name_cmp x.0 k.0 ≡ Less
 below_it x k [] more a = a.0
 below_it x k (y ∷ l) more a = below_it x k l more a.1
 
-before_it : (l more : Named) (k : Keyword) → Ascends (l ++ k ∷ more) → AllByRecursion (λ x. name_cmp x.0 k.0 ≡ Less) l
+before_it : (l more : Named) (k : Member) → Ascends (l ++ k ∷ more) → AllByRecursion (λ x. name_cmp x.0 k.0 ≡ Less) l
 before_it [] more k a = tt
 before_it (x ∷ l) more k a = (below_it x k l more a.0, before_it l more k a.1)
 
@@ -149,15 +149,15 @@ by_test : {X : Type 0} (p : X → Bool) (R : X → Type 0) → ((x : X) → p x 
 by_test p R f [] = tt
 by_test p R f (x ∷ xs) = by_test_at p R x xs f (by_test p R f xs) (p x) refl
 
-module _ (schema : Value) (ascending : IsAscending (entries schema)) (done more : List Keyword) (k : Keyword)
+module _ (schema : Value) (ascending : IsAscending (entries schema)) (done more : List Member) (k : Member)
     (split : done ++ k ∷ more ≡ keywords schema)
-    (u : Keyword → Bool) (not_first : comes_before_else k.0 ≡ false) (not_else : is_else k.0 ≡ false)
-    (first : (x : Keyword) → comes_before_else x.0 ≡ true → u x ≡ false) (other : (x : Keyword) → is_else x.0 ≡ true
-    → u x ≡ false) (less : (x : Keyword) → name_cmp x.0 k.0 ≡ Less → u x ≡ false) (it : u k ≡ true)
-    {A : Type 0} (f : Keyword → List A) (behind : (x : Keyword) → name_cmp k.0 x.0 ≡ Less → f x ≡ []) where
+    (u : Member → Bool) (not_first : comes_before_else k.0 ≡ false) (not_else : is_else k.0 ≡ false)
+    (first : (x : Member) → comes_before_else x.0 ≡ true → u x ≡ false) (other : (x : Member) → is_else x.0 ≡ true
+    → u x ≡ false) (less : (x : Member) → name_cmp x.0 k.0 ≡ Less → u x ≡ false) (it : u k ≡ true)
+    {A : Type 0} (f : Member → List A) (behind : (x : Member) → name_cmp k.0 x.0 ≡ Less → f x ≡ []) where
   pub all_before : flat_map f (filter (λ x. not (u x)) (keywords schema)) ≡ flat_map f done
   all_before =
-      let q = λ (x : Keyword). not (u x) in
+      let q = λ (x : Member). not (u x) in
       let d = behind_first (λ l. comes_before_else l.0) (keywords_that comes_before_else schema)
       (keywords_that is_else schema ++ keywords_that comes_after_else schema) done more k
       (all_pass (λ l. comes_before_else l.0) (entries schema)) not_first split in
@@ -171,7 +171,7 @@ module _ (schema : Value) (ascending : IsAscending (entries schema)) (done more 
       ∙ (ap (λ l. l ++ k ∷ more) (sym e.1) ∙ s2)) in
       let a : Ascends (e.0 ++ k ∷ more) = subst Ascends (sym s3)
       (ascends_chosen (λ l. comes_after_else l.0) (entries schema) (ascends (entries schema) ascending)) in
-      let pass = λ (x : Keyword) (h : u x ≡ false). let r : not (u x) ≡ true = ap not h in r in
+      let pass = λ (x : Member) (h : u x ≡ false). let r : not (u x) ≡ true = ap not h in r in
       let whole : AllByRecursion (λ x. q x ≡ true) done = subst (AllByRecursion (λ x. q x ≡ true))
       (sym (d.1 ∙ ap (λ l. keywords_that comes_before_else schema ++ l) e.1))
       (all_both_ways (λ x. q x ≡ true) (keywords_that comes_before_else schema) (keywords_that is_else schema ++ e.0)
@@ -198,10 +198,10 @@ nowhere : (s : Origin) → is_nowhere s ≡ true → s ≡ Nowhere
 nowhere Nowhere h = refl
 nowhere _ h = cc
 
-abbrev placed : (KeywordName → Bool) → Text → Text → KeywordName → Bool
+abbrev placed : (Keyword → Bool) → Text → Text → Keyword → Bool
 placed is w n κ = not (is κ) || (not (comes_before_else n) && (not (is_else n) && bytes_eq n w))
 
-abbrev silent_after : (KeywordName → Origin) → Text → Text → KeywordName → Bool
+abbrev silent_after : (Keyword → Origin) → Text → Text → Keyword → Bool
 silent_after source w n κ = not (is_lt (name_cmp w n)) || is_nowhere (source κ)
 
 implied : (a b : Bool) → (not a || b) ≡ true → a ≡ true → b ≡ true
@@ -216,71 +216,73 @@ excluded : (a b : Bool) → (a ≡ true → b ≡ false) → b ≡ true → a �
 excluded true b f h = absurd (let e = f refl in let z : true ≡ false = sym h ∙ e in cc)
 excluded false b f h = refl
 
-module _ (is : KeywordName → Bool) (w : Text) (source : KeywordName → Origin)
-    (where_it_is : (name : Text) → placed is w name (keyword_name name) ≡ true) (silent_behind : (name : Text)
-    → silent_after source w name (keyword_name name) ≡ true) where
-  place_of : (name : Text) → is (keyword_name name) ≡ true
+module _ (is : Keyword → Bool) (w : Text) (source : Keyword → Origin)
+    (where_it_is : (name : Text) → placed is w name (which_keyword name) ≡ true) (silent_behind : (name : Text)
+    → silent_after source w name (which_keyword name) ≡ true) where
+  place_of : (name : Text) → is (which_keyword name) ≡ true
       → (comes_before_else name ≡ false) × (is_else name ≡ false) × (name ≡ w)
   place_of name h =
-      let a = implied (is (keyword_name name)) (not (comes_before_else name) && (not (is_else name) && bytes_eq name w))
+      let a = implied (is (which_keyword name))
+      (not (comes_before_else name) && (not (is_else name) && bytes_eq name w))
       (where_it_is name) h in
       let b = and_parts (not (comes_before_else name)) (not (is_else name) && bytes_eq name w) a in
       let c = and_parts (not (is_else name)) (bytes_eq name w) b.1 in
       (not_so (comes_before_else name) b.0, not_so (is_else name) c.0, (bytes_eq-Decides name w).0 c.1)
 
-  below_not : (k x : Keyword) → is (keyword_name k.0) ≡ true → name_cmp x.0 k.0 ≡ Less → is (keyword_name x.0) ≡ false
-  below_not k x h l = at (is (keyword_name x.0)) refl
+  below_not : (k x : Member) → is (which_keyword k.0) ≡ true → name_cmp x.0 k.0 ≡ Less → is (which_keyword x.0) ≡ false
+  below_not k x h l = at (is (which_keyword x.0)) refl
     where
-      at : (b : Bool) → is (keyword_name x.0) ≡ b → b ≡ false
+      at : (b : Bool) → is (which_keyword x.0) ≡ b → b ≡ false
       at true e = absurd (let p = place_of k.0 h in let q = place_of x.0 e in
           let z : Less ≡ Equal = sym l ∙ (ap (λ n. name_cmp n k.0) (q.2 ∙ sym p.2) ∙ itself k.0) in cc)
       at false e = refl
 
-  behind_silent : (k x : Keyword) → is (keyword_name k.0) ≡ true → name_cmp k.0 x.0 ≡ Less
-      → source (keyword_name x.0) ≡ Nowhere
+  behind_silent : (k x : Member) → is (which_keyword k.0) ≡ true → name_cmp k.0 x.0 ≡ Less
+      → source (which_keyword x.0) ≡ Nowhere
   behind_silent k x h l =
       let p = place_of k.0 h in
-      nowhere (source (keyword_name x.0)) (implied (is_lt (name_cmp w x.0)) (is_nowhere (source (keyword_name x.0)))
+      nowhere (source (which_keyword x.0)) (implied (is_lt (name_cmp w x.0)) (is_nowhere (source (which_keyword x.0)))
       (silent_behind x.0)
       (ap is_lt (ap (λ n. name_cmp n x.0) (sym p.2) ∙ l)))
 
-  module _ (schema : Value) (ascending : IsAscending (entries schema)) (done more : List Keyword) (k : Keyword)
-      (split : done ++ k ∷ more ≡ keywords schema) (h : is (keyword_name k.0) ≡ true)
-      {A : Type 0} (f : Keyword → List A) (f_silent : (x : Keyword) → source (keyword_name x.0) ≡ Nowhere
+  module _ (schema : Value) (ascending : IsAscending (entries schema)) (done more : List Member) (k : Member)
+      (split : done ++ k ∷ more ≡ keywords schema) (h : is (which_keyword k.0) ≡ true)
+      {A : Type 0} (f : Member → List A) (f_silent : (x : Member) → source (which_keyword x.0) ≡ Nowhere
       → f x ≡ []) where
-    pub others_before : flat_map f (filter (λ x. not (is (keyword_name x.0))) (keywords schema)) ≡ flat_map f done
+    pub others_before : flat_map f (filter (λ x. not (is (which_keyword x.0))) (keywords schema)) ≡ flat_map f done
     others_before =
         let p = place_of k.0 h in
-        all_before schema ascending done more k split (λ x. is (keyword_name x.0)) p.0 p.1
-        (λ x c. excluded (is (keyword_name x.0)) (comes_before_else x.0) (λ e. (place_of x.0 e).0) c)
-        (λ x c. excluded (is (keyword_name x.0)) (is_else x.0) (λ e. (place_of x.0 e).1) c)
+        all_before schema ascending done more k split (λ x. is (which_keyword x.0)) p.0 p.1
+        (λ x c. excluded (is (which_keyword x.0)) (comes_before_else x.0) (λ e. (place_of x.0 e).0) c)
+        (λ x c. excluded (is (which_keyword x.0)) (is_else x.0) (λ e. (place_of x.0 e).1) c)
         (λ x l. below_not k x h l) h f (λ x l. f_silent x (behind_silent k x h l))
 
 names_placed : (name : Text) → placed is_unevaluated_properties (codes "unevaluatedProperties") name
-    (keyword_name name) ≡ true
+    (which_keyword name) ≡ true
 names_placed name = by_keyword (placed is_unevaluated_properties (codes "unevaluatedProperties"))
-    (λ n. refl) (λ n other. refl) refl name
+    (λ n a. refl) (λ n other. refl) refl name
 
 or_true : (b : Bool) → (b || true) ≡ true
 or_true true = refl
 or_true false = refl
 
-names_silent : (name : Text) → silent_after names_origin (codes "unevaluatedProperties") name (keyword_name name) ≡ true
+names_silent : (name : Text)
+    → silent_after names_origin (codes "unevaluatedProperties") name (which_keyword name) ≡ true
 names_silent name = by_keyword (silent_after names_origin (codes "unevaluatedProperties"))
-    (λ n. or_true _) (λ n other. or_true _) refl name
+    (λ n a. or_true _) (λ n other. or_true _) refl name
 
-indexes_placed : (name : Text) → placed is_unevaluated_items (codes "unevaluatedItems") name (keyword_name name) ≡ true
+indexes_placed : (name : Text) → placed is_unevaluated_items (codes "unevaluatedItems") name (which_keyword name) ≡ true
 indexes_placed name = by_keyword (placed is_unevaluated_items (codes "unevaluatedItems"))
-    (λ n. refl) (λ n other. refl) refl name
+    (λ n a. refl) (λ n other. refl) refl name
 
-indexes_silent : (name : Text) → silent_after indexes_origin (codes "unevaluatedItems") name (keyword_name name) ≡ true
+indexes_silent : (name : Text) → silent_after indexes_origin (codes "unevaluatedItems") name (which_keyword name) ≡ true
 indexes_silent name = by_keyword (silent_after indexes_origin (codes "unevaluatedItems"))
-    (λ n. or_true _) (λ n other. or_true _) refl name
+    (λ n a. or_true _) (λ n other. or_true _) refl name
 
 module _ {P : Type 0} (later : CountsLater) (S : SchemaSet P) (known : Known P) (above : List P) (place : P) (v : Value)
-    (ascending : IsAscending (entries (S.schema place))) (done more : List Keyword) (k : Keyword)
+    (ascending : IsAscending (entries (S.schema place))) (done more : List Member) (k : Member)
     (split : done ++ k ∷ more ≡ keywords (S.schema place)) where
-  names_before : is_unevaluated_properties (keyword_name k.0) ≡ true
+  names_before : is_unevaluated_properties (which_keyword k.0) ≡ true
       → names_in S known above place v done ≡ verdict.evaluated_names S known above place v
   names_before h =
       sym (others_before is_unevaluated_properties (codes "unevaluatedProperties") names_origin names_placed
@@ -288,7 +290,7 @@ module _ {P : Type 0} (later : CountsLater) (S : SchemaSet P) (known : Known P) 
       (verdict.gives_names S known above place v) (no_names_given S known above place v))
       ∙ names_in_no_circle S known above place v
 
-  indexes_before : is_unevaluated_items (keyword_name k.0) ≡ true
+  indexes_before : is_unevaluated_items (which_keyword k.0) ≡ true
       → indexes_in S known above place v done ≡ verdict.evaluated_indexes S known above place v
   indexes_before h =
       sym (others_before is_unevaluated_items (codes "unevaluatedItems") indexes_origin indexes_placed indexes_silent
@@ -307,7 +309,7 @@ module _ {P : Type 0} (later : CountsLater) (S : SchemaSet P) (known : Known P) 
       (found_before (S.schema place) ascending done more k split (codes "contains") refl h)
 
   -- what is known of the keywords before it serves a keyword as well as what there is to be known
-  asks_before_at : (κ : KeywordName) → keyword_name k.0 ≡ κ
+  asks_before_at : (κ : Keyword) → which_keyword k.0 ≡ κ
       → asks_of S (above ++ place ∷ []) place (entries (S.schema place)) v (condition_in S known above place v done)
       (names_in S known above place v done) (indexes_in S known above place v done) k κ
       ≡ asks_of S (above ++ place ∷ []) place (entries (S.schema place)) v (verdict.condition S known above place v)
@@ -322,39 +324,40 @@ module _ {P : Type 0} (later : CountsLater) (S : SchemaSet P) (known : Known P) 
 
   pub asks_before : asks_of S (above ++ place ∷ []) place (entries (S.schema place)) v
       (condition_in S known above place v done) (names_in S known above place v done)
-      (indexes_in S known above place v done) k (keyword_name k.0) ≡ verdict.asks S known above place v k
-  asks_before = asks_before_at (keyword_name k.0) refl
+      (indexes_in S known above place v done) k (which_keyword k.0) ≡ verdict.asks S known above place v k
+  asks_before = asks_before_at (which_keyword k.0) refl
 
   passes_before_at : (b : Bool) → comes_before_else k.0 ≡ b → (verdicts : List Bool)
-      → passes_of (entries (S.schema place)) v (matching_in S known above place v done) k verdicts (keyword_name k.0)
-      ≡ passes_of (entries (S.schema place)) v (verdict.matching S known above place v) k verdicts (keyword_name k.0)
-  passes_before_at true e verdicts = passes_first later (entries (S.schema place)) v _ _ k e verdicts (keyword_name k.0)
+      → passes_of (entries (S.schema place)) v (matching_in S known above place v done) k verdicts (which_keyword k.0)
+      ≡ passes_of (entries (S.schema place)) v (verdict.matching S known above place v) k verdicts (which_keyword k.0)
+  passes_before_at true e verdicts =
+      passes_first later (entries (S.schema place)) v _ _ k e verdicts (which_keyword k.0)
   passes_before_at false e verdicts =
-      ap (λ m. passes_of (entries (S.schema place)) v m k verdicts (keyword_name k.0)) (matching_before e)
+      ap (λ m. passes_of (entries (S.schema place)) v m k verdicts (which_keyword k.0)) (matching_before e)
 
   pub passes_before : (verdicts : List Bool)
-      → passes_of (entries (S.schema place)) v (matching_in S known above place v done) k verdicts (keyword_name k.0)
-      ≡ passes_of (entries (S.schema place)) v (verdict.matching S known above place v) k verdicts (keyword_name k.0)
+      → passes_of (entries (S.schema place)) v (matching_in S known above place v done) k verdicts (which_keyword k.0)
+      ≡ passes_of (entries (S.schema place)) v (verdict.matching S known above place v) k verdicts (which_keyword k.0)
   passes_before = passes_before_at (comes_before_else k.0) refl
 
   note_before_at : (b : Bool) → comes_before_else k.0 ≡ b → (apps holding : List (Application P)) (p : Bool)
       → keyword_note (entries (S.schema place)) v (matching_in S known above place v done) k apps holding p
-      (keyword_name k.0)
+      (which_keyword k.0)
       ≡ keyword_note (entries (S.schema place)) v (verdict.matching S known above place v) k apps holding p
-      (keyword_name k.0)
+      (which_keyword k.0)
   note_before_at true e apps holding p = note_first later (entries (S.schema place)) v _ _ k e apps holding p
-      (keyword_name k.0)
+      (which_keyword k.0)
   note_before_at false e apps holding p =
-      ap (λ m. keyword_note (entries (S.schema place)) v m k apps holding p (keyword_name k.0)) (matching_before e)
+      ap (λ m. keyword_note (entries (S.schema place)) v m k apps holding p (which_keyword k.0)) (matching_before e)
 
   pub note_before : (apps holding : List (Application P)) (p : Bool)
       → keyword_note (entries (S.schema place)) v (matching_in S known above place v done) k apps holding p
-      (keyword_name k.0)
+      (which_keyword k.0)
       ≡ keyword_note (entries (S.schema place)) v (verdict.matching S known above place v) k apps holding p
-      (keyword_name k.0)
+      (which_keyword k.0)
   note_before = note_before_at (comes_before_else k.0) refl
 
-abbrev unit_with : {P : Type 0} → SchemaSet P → List P → P → Location → Keyword → Bool → Note → OutputUnit
+abbrev unit_with : {P : Type 0} → SchemaSet P → List P → P → Location → Member → Bool → Note → OutputUnit
 unit_with S above place at k b note = record {
   valid = b;
   keyword = pointer_text (at_keyword_named at k.0).keyword;
@@ -365,7 +368,7 @@ unit_with S above place at k b note = record {
 
 -- what the walk knows of the keywords before one serves
 pub is_as_before : {P : Type 0} → CountsLater → (S : SchemaSet P) (m : ℕ) (above : List P) (place : P) (v : Value)
-    → IsAscending (entries (S.schema place)) → (done more : List Keyword) (k : Keyword)
+    → IsAscending (entries (S.schema place)) → (done more : List Member) (k : Member)
     → done ++ k ∷ more ≡ keywords (S.schema place) → IsAsBefore S m above place v done k
 unfolding asked_by passes_by unit_by passes_at
 is_as_before later S m above place v a done more k split =
@@ -379,7 +382,7 @@ is_as_before later S m above place v a done more k split =
           (asks S (within S m) above place v k)) (passes S (within S m) above place v k) in
           ap (λ b. unit_with S above place at k b (keyword_note (entries (S.schema place)) v (matching_in S
           (within S m) above place v done) k (asks S (within S m) above place v k) (filter (λ x. (within S m).holds
-          (above ++ place ∷ []) x.place x.value) (asks S (within S m) above place v k)) b (keyword_name k.0))) p
+          (above ++ place ∷ []) x.place x.value) (asks S (within S m) above place v k)) b (which_keyword k.0))) p
           ∙ ap (unit_with S above place at k (passes S (within S m) above place v k)) n;
     }
 
@@ -389,7 +392,7 @@ behind_them P [] ys y h = h.0
 behind_them P (x ∷ xs) ys y h = behind_them P xs ys y h.1
 
 pub is_keyword_at : {P : Type 0} (S : SchemaSet P) (place : P) → IsAscending (entries (S.schema place))
-    → (done more : List Keyword) (k : Keyword) → done ++ k ∷ more ≡ keywords (S.schema place) → IsKeywordAt S place k
+    → (done more : List Member) (k : Member) → done ++ k ∷ more ≡ keywords (S.schema place) → IsKeywordAt S place k
 unfolding IsKeywordAt
 is_keyword_at S place a done more k split =
     behind_them (IsAmong (entries (S.schema place))) done more k

@@ -15,7 +15,7 @@ use Rattle.js_eval.specs.Evaluated.{name_in_step, index_in_step, names_origin, i
 use Rattle.js_eval.specs.Location.{Location, at_application, step_tokens}
 use Rattle.js_eval.specs.SchemaSet.{Text, SchemaSet}
 use Rattle.js_eval.specs.Verdict.{within}
-use Rattle.js_bundle.specs.declared.keyword_name.KeywordName.{KeywordName}
+use Rattle.js_keyword.specs.declared.keyword.Keyword.{Keyword}
 use Rattle.js_eval.proofs.Lists.{and_true}
 use Rattle.js_tree.specs.Events.{Event, Passes, events, events_of}
 use Rattle.js_eval.specs.Walk.Keeping.{keeps}
@@ -63,7 +63,7 @@ counted_more p xs x = ap length (filter-append p xs (x ∷ []))
     one true = refl
     one false = refl
 
-module _ {P C : Type 0} (S : SchemaSet P) (n : ℕ) (path : List P) (κ : KeywordName) (takes : C → Event → C
+module _ {P C : Type 0} (S : SchemaSet P) (n : ℕ) (path : List P) (κ : Keyword) (takes : C → Event → C
     → Type 0) where
   -- all but the rest are walked and reported
   pub record EachSoFar (all rest : List (Application P)) (asked succeeded : ℕ) (names names' : List Text)

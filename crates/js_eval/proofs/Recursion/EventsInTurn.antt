@@ -6,7 +6,7 @@ use Rattle.js_doc.specs.Pointer.{Tokens, pointer_text, escape}
 use Rattle.js_doc.specs.Value.{Value}
 use Rattle.js_tree.specs.Forest.{Forest, empty, tree, ◌⊹◌}
 use Rattle.js_eval.specs.Applications.{Application}
-use Rattle.js_eval.specs.Keywords.{Keyword}
+use Rattle.js_eval.specs.Keywords.{Member}
 use Rattle.js_eval.specs.Location.{Location, at_application}
 use Rattle.js_eval.specs.Result.{OutputUnit, ResultTree, IsNode, AreSchemaNodes, AreKeywordNodes, keyword_unit}
 use Rattle.js_eval.specs.Location.{at_keyword_named}
@@ -36,8 +36,8 @@ module _ {P : Type 0} (S : SchemaSet P) (n : ℕ) where
   nodes_more path at (b ∷ apps) empty a t h r = absurd h
   nodes_more path at (b ∷ apps) (tree u below after) a t h r = (h.0, h.1, nodes_more path at apps after a t h.2 r)
 
-  pub keywords_more : (above : List P) (place : P) (at : Location) (v : Value) (ks : List Keyword)
-      (f : Forest OutputUnit) (k : Keyword) (below : Forest OutputUnit)
+  pub keywords_more : (above : List P) (place : P) (at : Location) (v : Value) (ks : List Member)
+      (f : Forest OutputUnit) (k : Member) (below : Forest OutputUnit)
       → AreKeywordNodes S n above place at v ks f → AreSchemaNodes S n (above ++ place ∷ []) (at_keyword_named at k.0)
       (asks S (within S n) above place v k) below
       → AreKeywordNodes S n above place at v (ks ++ k ∷ []) (f ⊹ tree (keyword_unit S n above place at v k) below empty)

@@ -13,8 +13,8 @@ use Rattle.js_doc.specs.Members.{IsAscending}
 use Rattle.js_assert.specs.Argument.{entries}
 use Rattle.js_tree.specs.Forest.{empty, tree, ◌⊹◌}
 use Rattle.js_eval.specs.Applications.{Application}
-use Rattle.js_eval.specs.Keywords.{Keyword, keywords}
-use Rattle.js_bundle.specs.KeywordName.{keyword_name}
+use Rattle.js_eval.specs.Keywords.{Member, keywords}
+use Rattle.js_keyword.specs.Keyword.{which_keyword}
 use Rattle.js_eval.specs.Location.{Location, at_keyword_named}
 use Rattle.js_eval.specs.Note.{Note, schema_note}
 use Rattle.js_eval.specs.Result.{AreSchemaNodes, keyword_unit}
@@ -53,17 +53,17 @@ one_gives_more f xs x base list list' given b b' p e h i g =
 
 module _ {P : Type 0} (S : SchemaSet P) (m : ℕ) (above : List P) (place : P) (v : Value) (quiet : Bool) where
   -- those of them that the walk visits
-  abbrev pub visited : List Keyword → List Keyword
+  abbrev pub visited : List Member → List Member
   visited ks = filter (is_visited quiet) ks
 
-  abbrev every : List Keyword
+  abbrev every : List Member
   every = keywords (S.schema place)
 
-  abbrev nodes_of : Keyword → ℕ
+  abbrev nodes_of : Member → ℕ
   nodes_of k = nodes_of_keyword S (within S m) (node_total S m) above place v k
 
   -- all keywords but the rest are walked
-  pub record KeywordsSoFar (done rest : List Keyword) (valid : Bool) (branch : Option Bool) (count : ℕ)
+  pub record KeywordsSoFar (done rest : List Member) (valid : Bool) (branch : Option Bool) (count : ℕ)
       (names names' : List Text) (indexes indexes' : List ℕ) (old left : ℕ) : Type 0 where
     pub split : done ++ rest ≡ every
     pub settled : list_all (keyword_settled S (within S m) above place v) done ≡ true
@@ -75,22 +75,22 @@ module _ {P : Type 0} (S : SchemaSet P) (m : ℕ) (above : List P) (place : P) (
     pub spent : (left + sum_by nodes_of (visited done)) + 1 ≡ old
 
   -- both together, as the loop over the keywords that are visited keeps them; a quiet walk reports nothing
-  pub record KeywordsLoop {C : Type 0} (takes : C → Event → C → Type 0) (listed : List Keyword) (valid : Bool)
+  pub record KeywordsLoop {C : Type 0} (takes : C → Event → C → Type 0) (listed : List Member) (valid : Bool)
       (branch : Option Bool) (count : ℕ) (names names' : List Text) (indexes indexes' : List ℕ) (old left : ℕ)
       (keyword instance : Text) (c d : C) : Type 0 where
-    pub done : List Keyword
-    pub rest : List Keyword
+    pub done : List Member
+    pub rest : List Member
     pub are : listed ≡ visited rest
     pub so : KeywordsSoFar done rest valid branch count names names' indexes indexes' old left
     pub reported : quiet ≡ false → (at : Location) → IsAt at keyword instance
         → KeywordsReported S m above place v takes at done c d
 
   -- the same at the next one that is visited
-  pub record KeywordsNext {C : Type 0} (takes : C → Event → C → Type 0) (k : Keyword) (listed : List Keyword)
+  pub record KeywordsNext {C : Type 0} (takes : C → Event → C → Type 0) (k : Member) (listed : List Member)
       (valid : Bool) (branch : Option Bool) (count : ℕ) (names names' : List Text) (indexes indexes' : List ℕ)
       (old left : ℕ) (keyword instance : Text) (c d : C) : Type 0 where
-    pub done : List Keyword
-    pub rest : List Keyword
+    pub done : List Member
+    pub rest : List Member
     pub here : is_visited quiet k ≡ true
     pub are : listed ≡ visited rest
     pub so : KeywordsSoFar done (k ∷ rest) valid branch count names names' indexes indexes' old left
@@ -106,7 +106,7 @@ module _ {P : Type 0} (S : SchemaSet P) (m : ℕ) (above : List P) (place : P) (
         → KeywordsReported S m above place v takes at every c d
 
   -- a keyword that isn't visited changes nothing
-  pass_over : (k : Keyword) (done rest : List Keyword) (valid : Bool) (branch : Option Bool) (count : ℕ)
+  pass_over : (k : Member) (done rest : List Member) (valid : Bool) (branch : Option Bool) (count : ℕ)
       (names names' : List Text) (indexes indexes' : List ℕ) (old left : ℕ)
       → is_visited quiet k ≡ false → KeywordsSoFar done (k ∷ rest) valid branch count names names' indexes indexes' old
       left → KeywordsSoFar (done ++ k ∷ []) rest valid branch count names names' indexes indexes' old left
@@ -143,7 +143,7 @@ module _ {P : Type 0} (S : SchemaSet P) (m : ℕ) (above : List P) (place : P) (
 
   module _ {C : Type 0} (takes : C → Event → C → Type 0) (valid : Bool) (branch : Option Bool) (count : ℕ)
       (names names' : List Text) (indexes indexes' : List ℕ) (old left : ℕ) (keyword instance : Text) (c d : C) where
-    next_at : (b : Bool) (x k : Keyword) (listed done rest : List Keyword) → is_visited quiet x ≡ b
+    next_at : (b : Bool) (x k : Member) (listed done rest : List Member) → is_visited quiet x ≡ b
         → k ∷ listed ≡ cond b (x ∷ visited rest) (visited rest)
         → KeywordsSoFar done (x ∷ rest) valid branch count names names' indexes indexes' old left
         → (quiet ≡ false → (at : Location) → IsAt at keyword instance
@@ -165,7 +165,7 @@ module _ {P : Type 0} (S : SchemaSet P) (m : ℕ) (above : List P) (place : P) (
         }
     next_at false x k listed done rest h e so reported more = more h e
 
-    next_from : (k : Keyword) (listed done rest : List Keyword) → k ∷ listed ≡ visited rest
+    next_from : (k : Member) (listed done rest : List Member) → k ∷ listed ≡ visited rest
         → KeywordsSoFar done rest valid branch count names names' indexes indexes' old left
         → (quiet ≡ false → (at : Location) → IsAt at keyword instance
         → KeywordsReported S m above place v takes at done c d)
@@ -177,17 +177,17 @@ module _ {P : Type 0} (S : SchemaSet P) (m : ℕ) (above : List P) (place : P) (
         indexes indexes' old left h so)
         (λ q. absurd (apart (is_visited quiet x) (is_visited false x) h (all_visited x) (ap (λ b. is_visited b x) q))))
 
-    pub at_next : (k : Keyword) (listed : List Keyword)
+    pub at_next : (k : Member) (listed : List Member)
         → KeywordsLoop takes (k ∷ listed) valid branch count names names' indexes indexes' old left keyword instance c d
         → KeywordsNext takes k listed valid branch count names names' indexes indexes' old left keyword instance c d
     at_next k listed loop = next_from k listed loop.done loop.rest loop.are loop.so loop.reported
 
-    end_at : (b : Bool) (x : Keyword) (rest : List Keyword) {A : Type 0} → is_visited quiet x ≡ b
+    end_at : (b : Bool) (x : Member) (rest : List Member) {A : Type 0} → is_visited quiet x ≡ b
         → [] ≡ cond b (x ∷ visited rest) (visited rest) → (is_visited quiet x ≡ false → [] ≡ visited rest → A) → A
     end_at true x rest h e more = absurd (let z : (x ∷ visited rest) ≡ [] = sym e in cc)
     end_at false x rest h e more = more h e
 
-    end_from : (done rest : List Keyword) → [] ≡ visited rest
+    end_from : (done rest : List Member) → [] ≡ visited rest
         → KeywordsSoFar done rest valid branch count names names' indexes indexes' old left
         → (quiet ≡ false → (at : Location) → IsAt at keyword instance
         → KeywordsReported S m above place v takes at done c d)
@@ -228,7 +228,7 @@ module _ {P : Type 0} (S : SchemaSet P) (m : ℕ) (above : List P) (place : P) (
       alone true = refl
       alone false = refl
 
-  module _ (k : Keyword) (done rest : List Keyword) (valid : Bool) (branch : Option Bool) (count : ℕ)
+  module _ (k : Member) (done rest : List Member) (valid : Bool) (branch : Option Bool) (count : ℕ)
       (names names' : List Text) (indexes indexes' : List ℕ) (old left : ℕ)
       (so : KeywordsSoFar done (k ∷ rest) valid branch count names names' indexes indexes' old left)
       (before : IsAsBefore S m above place v done k) where
@@ -251,8 +251,8 @@ module _ {P : Type 0} (S : SchemaSet P) (m : ℕ) (above : List P) (place : P) (
         (indexes'' : List ℕ) (left' : ℕ)
         → KeywordWalked S m (above ++ place ∷ []) place v k count apps b succeeded names' names''
         indexes' indexes'' left left'
-        → KeywordsSoFar (done ++ k ∷ []) rest (valid && b) (condition_step (keyword_name k.0) succeeded branch)
-        (matching_step (keyword_name k.0) succeeded count) names names'' indexes indexes'' old left'
+        → KeywordsSoFar (done ++ k ∷ []) rest (valid && b) (condition_step (which_keyword k.0) succeeded branch)
+        (matching_step (which_keyword k.0) succeeded count) names names'' indexes indexes'' old left'
     unfolding names_given indexes_given passes_by unit_by
     keyword_more here b succeeded names'' indexes'' left' w =
         let e = apps_is in
@@ -276,12 +276,12 @@ module _ {P : Type 0} (S : SchemaSet P) (m : ℕ) (above : List P) (place : P) (
               and_more (accepts (S.schema place)) (list_all (passes S (within S m) above place v) (visited done))
               (passes S (within S m) above place v k) valid b _ so.verdict r q;
           of_names = one_gives_more (gives_names S (within S m) above place v) done k names names' names''
-              (names_given S m (above ++ place ∷ []) (keyword_name k.0)) _ _ p e w.of_names refl so.of_names;
+              (names_given S m (above ++ place ∷ []) (which_keyword k.0)) _ _ p e w.of_names refl so.of_names;
           of_indexes = one_gives_more (gives_indexes S (within S m) above place v) done k indexes indexes' indexes''
-              (indexes_given S m (above ++ place ∷ []) (keyword_name k.0)) _ _ p e w.of_indexes refl so.of_indexes;
-          condition = ap (condition_step (keyword_name k.0) succeeded) so.condition
+              (indexes_given S m (above ++ place ∷ []) (which_keyword k.0)) _ _ p e w.of_indexes refl so.of_indexes;
+          condition = ap (condition_step (which_keyword k.0) succeeded) so.condition
               ∙ sym (condition_more S (within S m) above place v done k succeeded h);
-          matching = ap (matching_step (keyword_name k.0) succeeded) so.matching
+          matching = ap (matching_step (which_keyword k.0) succeeded) so.matching
               ∙ sym (matching_more S (within S m) above place v done k succeeded h);
           spent =
               let f = ap (sum_by (nodes_at S m (above ++ place ∷ []))) e in

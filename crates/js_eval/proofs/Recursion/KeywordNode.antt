@@ -9,14 +9,14 @@ use Rattle.js_doc.specs.Value.{Value, Named}
 use Rattle.js_assert.specs.Argument.{entries}
 use Rattle.js_eval.specs.Applications.{Application}
 use Rattle.js_eval.specs.Evaluated.{names_of, indexes_of}
-use Rattle.js_eval.specs.Keywords.{Keyword}
-use Rattle.js_bundle.specs.KeywordName.{keyword_name}
+use Rattle.js_eval.specs.Keywords.{Member}
+use Rattle.js_keyword.specs.Keyword.{which_keyword}
 use Rattle.js_eval.specs.Location.{Location, at_keyword_named}
 use Rattle.js_eval.specs.Note.{Note, keyword_note}
 use Rattle.js_eval.specs.Passes.{how_many}
 use Rattle.js_eval.specs.SchemaSet.{Text, SchemaSet}
-use Rattle.js_bundle.specs.declared.keyword_name.KeywordName.{KeywordName}
-use Rattle.js_bundle.specs.declared.keyword_name.KeywordName.TheVariants.{AnyOf, Properties}
+use Rattle.js_keyword.specs.declared.keyword.Keyword.{Keyword}
+use Rattle.js_keyword.specs.declared.keyword.Keyword.TheVariants.{AnyOf, Properties}
 use Rattle.js_eval.proofs.HowMany.{count_of}
 use Rattle.js_tree.specs.Events.{Event, opening, closing, opening_of, closing_of, events_of}
 use Rattle.js_eval.specs.Walk.Said.{keyword_says}
@@ -26,8 +26,8 @@ use Rattle.js_eval.specs.Walk.Progress.{names_given, indexes_given, passes_by, u
 use Rattle.js_tree.proofs.EventSequences.{passes-append}
 use Rattle.js_eval.proofs.Recursion.EventsInTurn.{pointer_text_append}
 
-says_is : {P : Type 0} (siblings : Named) (v : Value) (matching : ℕ) (k : Keyword) (apps holding : List (Application P))
-    (names : List Text) (indexes : List ℕ) (b : Bool) (κ : KeywordName)
+says_is : {P : Type 0} (siblings : Named) (v : Value) (matching : ℕ) (k : Member) (apps holding : List (Application P))
+    (names : List Text) (indexes : List ℕ) (b : Bool) (κ : Keyword)
     → keyword_says siblings v matching k (length holding) (names_of apps holding names κ)
     (indexes_of apps holding indexes κ) b κ ≡ keyword_note siblings v matching k apps holding b κ
 says_is siblings v matching k apps holding names indexes true Properties = refl
@@ -40,7 +40,7 @@ stays_if : {A : Type 0} (b : Bool) (base given list : List A) → list ≡ base 
 stays_if true base given list e = e
 stays_if false base given list e = ap (take (length base)) e ∙ (take-append_seam base given ∙ sym (append-nil base))
 
-module _ {P : Type 0} (S : SchemaSet P) (n : ℕ) (path : List P) (place : P) (v : Value) (k : Keyword) (matching : ℕ)
+module _ {P : Type 0} (S : SchemaSet P) (n : ℕ) (path : List P) (place : P) (v : Value) (k : Member) (matching : ℕ)
     (apps : List (Application P)) where
   pub keyword_walked : (b : Bool) (asked succeeded : ℕ) (names names₁ names₂ : List Text)
       (indexes indexes₁ indexes₂ : List ℕ) (old left₀ left : ℕ)
@@ -60,10 +60,10 @@ module _ {P : Type 0} (S : SchemaSet P) (n : ℕ) (path : List P) (place : P) (v
         settled = w.settled;
         verdict = r;
         holding = w.holding;
-        of_names = f ∙ (stays_if b names (names_given S n path (keyword_name k.0) apps) names₁ w.of_names
-            ∙ ap (λ c. names ++ cond c (names_given S n path (keyword_name k.0) apps) []) r);
-        of_indexes = g ∙ (stays_if b indexes (indexes_given S n path (keyword_name k.0) apps) indexes₁ w.of_indexes
-            ∙ ap (λ c. indexes ++ cond c (indexes_given S n path (keyword_name k.0) apps) []) r);
+        of_names = f ∙ (stays_if b names (names_given S n path (which_keyword k.0) apps) names₁ w.of_names
+            ∙ ap (λ c. names ++ cond c (names_given S n path (which_keyword k.0) apps) []) r);
+        of_indexes = g ∙ (stays_if b indexes (indexes_given S n path (which_keyword k.0) apps) indexes₁ w.of_indexes
+            ∙ ap (λ c. indexes ++ cond c (indexes_given S n path (which_keyword k.0) apps) []) r);
         spent = let s = w.spent in omega (arith, s, e);
       }
 
@@ -94,16 +94,16 @@ module _ {P : Type 0} (S : SchemaSet P) (n : ℕ) (path : List P) (place : P) (v
       let reported = each (at_keyword_named at k.0) here in
       let u = unit_by S n path place v k at matching apps in
       let n₁ : said ≡ u.note =
-      s ∙ (ap (λ m. keyword_says (entries (S.schema place)) v matching k m seg seg' b (keyword_name k.0)) w.holding
+      s ∙ (ap (λ m. keyword_says (entries (S.schema place)) v matching k m seg seg' b (which_keyword k.0)) w.holding
       ∙ (ap (λ l. keyword_says (entries (S.schema place)) v matching k
-      (length (filter (holds_at S n path) apps)) l seg' b (keyword_name k.0)) x
+      (length (filter (holds_at S n path) apps)) l seg' b (which_keyword k.0)) x
       ∙ (ap (λ l. keyword_says (entries (S.schema place)) v matching k (length (filter (holds_at S n path) apps))
-      (names_given S n path (keyword_name k.0) apps) l b (keyword_name k.0)) y
+      (names_given S n path (which_keyword k.0) apps) l b (which_keyword k.0)) y
       ∙ (ap (λ q. keyword_says (entries (S.schema place)) v matching k (length (filter (holds_at S n path) apps))
-      (names_given S n path (keyword_name k.0) apps) (indexes_given S n path (keyword_name k.0) apps) q
-      (keyword_name k.0)) p
+      (names_given S n path (which_keyword k.0) apps) (indexes_given S n path (which_keyword k.0) apps) q
+      (which_keyword k.0)) p
       ∙ says_is (entries (S.schema place)) v matching k apps (filter (holds_at S n path) apps) _ _
-      (passes_by S n path place v k matching apps) (keyword_name k.0))))) in
+      (passes_by S n path place v k matching apps) (which_keyword k.0))))) in
       let i : opening text absolute instance ≡ opening_of u = let q = here.schemas in let r = here.value in cc in
       let j : closing b said ≡ closing_of u = cc in
       record {

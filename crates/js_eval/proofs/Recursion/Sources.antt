@@ -7,12 +7,12 @@ use Rattle.std.proofs.lemmas.List.Concat.{flat_map-append}
 use Rattle.js_doc.specs.Value.{Value}
 use Rattle.js_eval.specs.Applications.{Application}
 use Rattle.js_eval.specs.Evaluated.{from_origin, names_origin, indexes_origin, name_in_step, index_in_step}
-use Rattle.js_eval.specs.Keywords.{Keyword}
-use Rattle.js_bundle.specs.KeywordName.{keyword_name}
+use Rattle.js_eval.specs.Keywords.{Member}
+use Rattle.js_keyword.specs.Keyword.{which_keyword}
 use Rattle.js_eval.specs.SchemaSet.{SchemaSet}
 use Rattle.js_eval.specs.Verdict as verdict
 use Rattle.js_eval.specs.Verdict.{Known, within, schema_settled, schema_passes}
-use Rattle.js_bundle.specs.declared.keyword_name.KeywordName.{KeywordName}
+use Rattle.js_keyword.specs.declared.keyword.Keyword.{Keyword}
 use Rattle.js_eval.specs.Walk.Keeping.{keeps}
 use Rattle.js_eval.specs.declared.evaluation.keeping.Origin.{Origin}
 use Rattle.js_eval.specs.declared.evaluation.keeping.Origin.TheVariants.{Applied, Holding, Below, Nowhere}
@@ -23,7 +23,7 @@ either_none true xs e = e
 either_none false xs e = refl
 
 -- a keyword whose kind gives nothing gives nothing
-module _ {P : Type 0} (S : SchemaSet P) (known : Known P) (above : List P) (place : P) (v : Value) (k : Keyword) where
+module _ {P : Type 0} (S : SchemaSet P) (known : Known P) (above : List P) (place : P) (v : Value) (k : Member) where
   abbrev asked : List (Application P)
   asked = verdict.asks S known above place v k
 
@@ -36,13 +36,13 @@ module _ {P : Type 0} (S : SchemaSet P) (known : Known P) (above : List P) (plac
   none_given s own below h = either_none (verdict.passes S known above place v k) _
       (ap (λ o. from_origin o (flat_map own asked) (flat_map own holding) (flat_map below holding)) h)
 
-  pub no_names_given : names_origin (keyword_name k.0) ≡ Nowhere → verdict.gives_names S known above place v k ≡ []
-  no_names_given h = none_given (names_origin (keyword_name k.0)) (λ a. name_in_step a.at)
+  pub no_names_given : names_origin (which_keyword k.0) ≡ Nowhere → verdict.gives_names S known above place v k ≡ []
+  no_names_given h = none_given (names_origin (which_keyword k.0)) (λ a. name_in_step a.at)
       (λ a. known.names (above ++ place ∷ []) a.place a.value) h
 
-  pub no_indexes_given : indexes_origin (keyword_name k.0) ≡ Nowhere
+  pub no_indexes_given : indexes_origin (which_keyword k.0) ≡ Nowhere
       → verdict.gives_indexes S known above place v k ≡ []
-  no_indexes_given h = none_given (indexes_origin (keyword_name k.0)) (λ a. index_in_step a.at)
+  no_indexes_given h = none_given (indexes_origin (which_keyword k.0)) (λ a. index_in_step a.at)
       (λ a. known.indexes (above ++ place ∷ []) a.place a.value) h
 
 source_more : {A : Type 0} (s : Origin) (xs ys zs : List A) (b : Bool) (own given : List A)
@@ -90,7 +90,7 @@ module _ {P : Type 0} (S : SchemaSet P) where
   indexes_if_holds (suc n) above place v h =
       given_at (schema_settled S (within S n) above place v) (schema_passes S (within S n) above place v) _ h
 
-  module _ (n : ℕ) (path : List P) (κ : KeywordName) where
+  module _ (n : ℕ) (path : List P) (κ : Keyword) where
     pub names_of_none : names_given S n path κ [] ≡ []
     unfolding names_given
     names_of_none = from_none (names_origin κ)

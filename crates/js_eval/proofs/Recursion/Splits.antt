@@ -5,7 +5,7 @@ use Rattle.std.specs.String.Boundary.{IsSplitPoint}
 use Rattle.std.proofs.Common.{sym, subst, arith}
 use Rattle.std.proofs.lemmas.List.{length-append}
 use Rattle.js_doc.specs.Pointer.{Tokens, pointer_text}
-use Rattle.js_eval.specs.Keywords.{Keyword}
+use Rattle.js_eval.specs.Keywords.{Member}
 use Rattle.js_eval.specs.Location.{step_tokens}
 use Rattle.js_eval.specs.SchemaSet.{Text, Step}
 use Rattle.js_eval.specs.Walk.Progress.{at_name, at_step}
@@ -23,7 +23,7 @@ seam s (x ∷ t) = (
       let f : 128 ≤ 47 = subst (λ n. 128 ≤ n) e r in omega (arith, f)),
 )
 
-pub split_at_name : (old new : Text) (k : Keyword) (mark : ℕ) → mark ≡ length old → new ≡ at_name old k
+pub split_at_name : (old new : Text) (k : Member) (mark : ℕ) → mark ≡ length old → new ≡ at_name old k
     → IsSplitPoint new mark
 unfolding at_name
 split_at_name old new k mark m e =

@@ -10,11 +10,11 @@ use Rattle.js_doc.specs.Value.{Value}
 use Rattle.js_assert.specs.Argument.{entries}
 use Rattle.js_tree.specs.Forest.{empty}
 use Rattle.js_eval.specs.Applications.{Application}
-use Rattle.js_eval.specs.Keywords.{Keyword, keywords}
-use Rattle.js_bundle.specs.KeywordName.{keyword_name}
+use Rattle.js_eval.specs.Keywords.{Member, keywords}
+use Rattle.js_keyword.specs.Keyword.{which_keyword}
 use Rattle.js_eval.specs.Location.{step_tokens}
 use Rattle.js_eval.specs.SchemaSet.{Text, SchemaSet, Step}
-use Rattle.js_bundle.specs.declared.keyword_name.KeywordName.{KeywordName}
+use Rattle.js_keyword.specs.declared.keyword.Keyword.{Keyword}
 use Rattle.js_tree.specs.Events.{Event, Passes, opening, closing}
 use Rattle.js_tree.specs.Note.{silent}
 use Rattle.js_eval.specs.Walk.Keeping.{condition_step, matching_step}
@@ -45,7 +45,7 @@ use Rattle.js_eval.proofs.Recursion.AllKeywords.{node_walked}
 use Rattle.js_eval.proofs.Recursion.KeywordByKeyword.{keyword_reported_more, keyword_is_none, ended}
 use Rattle.js_eval.proofs.Recursion.KeywordByKeyword.{ended_too_large, ended_reported}
 
-pub asked_same : {P : Type 0} (S : SchemaSet P) (n : ℕ) (path : List P) (place : P) (v : Value) (k : Keyword)
+pub asked_same : {P : Type 0} (S : SchemaSet P) (n : ℕ) (path : List P) (place : P) (v : Value) (k : Member)
     (c : Option Bool) (ns : List Text) (is : List ℕ)
     → asked_by S 0 path place v k c ns is ≡ asked_by S n path place v k c ns is
 unfolding asked_by
@@ -64,7 +64,7 @@ pub kept_whole : {A : Type 0} (b : Bool) (xs : List A) → xs ≡ cond b xs (tak
 kept_whole true xs = refl
 kept_whole false xs = sym (take-length xs)
 
-pub trail_back : (old new : Text) (k : Keyword) (mark : ℕ) → mark ≡ length old
+pub trail_back : (old new : Text) (k : Member) (mark : ℕ) → mark ≡ length old
     → new ≡ at_name old k → take mark new ≡ old
 unfolding at_name
 trail_back old new k mark m e = ap (λ n. take n new) m
@@ -75,7 +75,7 @@ unfolding at_step
 step_back old new s mark m e = ap (λ n. take n new) m
     ∙ (ap (take (length old)) e ∙ take-append_seam old (pointer_text (step_tokens s)))
 
-pub kind_is : (k : Keyword) → kind_at k ≡ keyword_name k.0
+pub kind_is : (k : Member) → kind_at k ≡ which_keyword k.0
 unfolding kind_at
 kind_is k = refl
 
@@ -89,36 +89,36 @@ on_too_large P Q TooLarge f h = f h
 
 module _ {C P : Type 0} (S : SchemaSet P) (takes : C → Event → C
     → Type 0) (n : ℕ) (above : List P) (place : P) (v : Value) (quiet : Bool) where
-  pub loop_as : (k : Keyword) (rest : List Keyword) (valid b valid' : Bool) (branch branch' : Option Bool)
-      (count count' succeeded : ℕ) (κ : KeywordName) (names names' : List Text) (indexes indexes' : List ℕ)
+  pub loop_as : (k : Member) (rest : List Member) (valid b valid' : Bool) (branch branch' : Option Bool)
+      (count count' succeeded : ℕ) (κ : Keyword) (names names' : List Text) (indexes indexes' : List ℕ)
       (old left : ℕ)
       (keyword instance : Text) (c d : C)
       → valid' ≡ (valid && b) → branch' ≡ condition_step κ succeeded branch
       → count' ≡ matching_step κ succeeded count → κ ≡ kind_at k
-      → KeywordsLoop S n above place v quiet takes rest (valid && b) (condition_step (keyword_name k.0) succeeded
+      → KeywordsLoop S n above place v quiet takes rest (valid && b) (condition_step (which_keyword k.0) succeeded
       branch)
-      (matching_step (keyword_name k.0) succeeded count) names names' indexes indexes' old left keyword instance c d
+      (matching_step (which_keyword k.0) succeeded count) names names' indexes indexes' old left keyword instance c d
       → KeywordsLoop S n above place v quiet takes rest valid' branch' count' names names' indexes indexes' old
       left keyword instance c d
   unfolding kind_at
   loop_as k rest valid b valid' branch branch' count count' succeeded κ names names' indexes indexes' old left keyword
       instance c d e f g h loop =
-      let f' : branch' ≡ condition_step (keyword_name k.0) succeeded branch = f
+      let f' : branch' ≡ condition_step (which_keyword k.0) succeeded branch = f
       ∙ ap (λ q. condition_step q succeeded branch) h in
-      let g' : count' ≡ matching_step (keyword_name k.0) succeeded count = g
+      let g' : count' ≡ matching_step (which_keyword k.0) succeeded count = g
       ∙ ap (λ q. matching_step q succeeded count) h in
       subst (λ x. KeywordsLoop S n above place v quiet takes rest x branch' count' names names' indexes indexes' old
       left keyword instance c d) (sym e)
       (subst (λ x. KeywordsLoop S n above place v quiet takes rest (valid && b) x count' names names' indexes indexes'
       old left keyword instance c d) (sym f')
       (subst (λ x. KeywordsLoop S n above place v quiet takes rest (valid && b)
-      (condition_step (keyword_name k.0) succeeded branch)
+      (condition_step (which_keyword k.0) succeeded branch)
       x names names' indexes indexes' old left keyword instance c d) (sym g') loop))
 
 module _ {M H K C P : Type 0} (S : SchemaSet P) (text_of : M → Text) (takes : C → Event → C → Type 0) (n : ℕ) where
   -- ---- applications
 
-  module _ (path : List P) (κ : KeywordName) (all rest : List (Application P)) (a : Application P) (names : List Text)
+  module _ (path : List P) (κ : Keyword) (all rest : List (Application P)) (a : Application P) (names : List Text)
       (indexes : List ℕ) (old : ℕ) (keyword instance : Text) where
     pub each_step : (len : K → ℕ) (tally : Tally) (w w₁ w₂ w₃ : WalkState M H K) (mark : Mark K) (p : P)
         (path' : List P) (v : Value) (holds : Bool) (c d e : C)
@@ -159,9 +159,9 @@ module _ {M H K C P : Type 0} (S : SchemaSet P) (text_of : M → Text) (takes : 
 
   -- ---- a keyword
 
-  module _ (path : List P) (place : P) (v : Value) (k : Keyword) (matching : ℕ) (apps : List (Application P)) where
+  module _ (path : List P) (place : P) (v : Value) (k : Member) (matching : ℕ) (apps : List (Application P)) where
     pub keyword_step : (len : K → ℕ) (w w₁ w₂ w₃ : WalkState M H K) (here : Mark K) (tally : Tally) (passes : Bool)
-        (path' : List P) (κ : KeywordName) (apps' : List (Application P)) (c c' d' d : C)
+        (path' : List P) (κ : Keyword) (apps' : List (Application P)) (c c' d' d : C)
         → MarkOf len w here → KeywordOpened S text_of takes place k w w₁ c c' → path' ≡ path
         → κ ≡ kind_at k → apps' ≡ apps
         → EachDone S text_of takes n path' κ apps' tally w₁ w₂ c' d'
@@ -210,7 +210,7 @@ module _ {M H K C P : Type 0} (S : SchemaSet P) (text_of : M → Text) (takes : 
         }
 
   -- a keyword that asks for nothing
-  nothing_done : (path : List P) (κ : KeywordName) (w : WalkState M H K) (c : C)
+  nothing_done : (path : List P) (κ : Keyword) (w : WalkState M H K) (c : C)
       → EachDone S text_of takes n path κ [] (record { asked = 0; succeeded = 0 }) w w c c
   nothing_done path κ w c = record {
     walked = record {
@@ -228,7 +228,7 @@ module _ {M H K C P : Type 0} (S : SchemaSet P) (text_of : M → Text) (takes : 
   }
 
   -- a keyword that applies no schema, whose node opens and closes at once
-  pub leaf_step : (path : List P) (place : P) (v : Value) (k : Keyword) (matching : ℕ) (passes : Bool)
+  pub leaf_step : (path : List P) (place : P) (v : Value) (k : Member) (matching : ℕ) (passes : Bool)
       (w w₁ : WalkState M H K) (c d : C)
       → IsJudged S place v k matching (record { asked = 0; succeeded = 0 }) passes
       → LeafReported S takes place v k matching passes 0 w.keyword w.instance c d
@@ -260,7 +260,7 @@ module _ {M H K C P : Type 0} (S : SchemaSet P) (text_of : M → Text) (takes : 
       }
 
   -- one that passes and has no note, of which the reporter keeps nothing
-  pub skipped_step : (path : List P) (place : P) (v : Value) (k : Keyword) (matching : ℕ) (passes : Bool)
+  pub skipped_step : (path : List P) (place : P) (v : Value) (k : Member) (matching : ℕ) (passes : Bool)
       (w w₁ : WalkState M H K) (c : C)
       → passes ≡ true → IsJudged S place v k matching (record { asked = 0; succeeded = 0 }) passes
       → says_at S place v matching k 0 [] [] true ≡ silent → DropsSilent takes c
@@ -290,7 +290,7 @@ module _ {M H K C P : Type 0} (S : SchemaSet P) (text_of : M → Text) (takes : 
   indexes_since w w₁ start m = ap (λ i. drop i w₁.indexes.items) m.indexes
 
   module _ (above : List P) (place : P) (v : Value) (quiet : Bool) where
-    pub node_start : (w w₁ : WalkState M H K) (p r : ℕ) (c d : C) (valid : Bool) (listed : List Keyword)
+    pub node_start : (w w₁ : WalkState M H K) (p r : ℕ) (c d : C) (valid : Bool) (listed : List Member)
         → SchemaOpened S text_of takes place p r w w₁ c d → valid ≡ accepts_at S place
         → listed ≡ filter (is_visited quiet) (keywords_at S place)
         → KeywordsLoop S n above place v quiet takes listed valid None 0 (map text_of w.names.items)
@@ -318,15 +318,15 @@ module _ {M H K C P : Type 0} (S : SchemaSet P) (text_of : M → Text) (takes : 
         })
 
     pub node_more : CountsLater → IsAscending (entries (S.schema place))
-        → (k : Keyword) (rest : List Keyword) (valid : Bool) (branch : Option Bool) (count : ℕ)
+        → (k : Member) (rest : List Member) (valid : Bool) (branch : Option Bool) (count : ℕ)
         (w w₁ w₂ : WalkState M H K) (start : Start) (j : KeywordVerdict) (path' : List P) (c d e : C)
         → StartOf w start → path' ≡ above ++ place ∷ [] → w₁.keyword ≡ w.keyword → w₁.instance ≡ w.instance
         → KeywordsLoop S n above place v quiet takes (k ∷ rest) valid branch count (map text_of w.names.items)
         (map text_of w₁.names.items) w.indexes.items w₁.indexes.items w.left w₁.left w.keyword w.instance c d
         → KeywordDone S text_of takes n path' place v k count (asked_by S n path' place v k branch
         (map text_of (drop start.names w₁.names.items)) (drop start.indexes w₁.indexes.items)) j w₁ w₂ d e
-        → KeywordsLoop S n above place v quiet takes rest (valid && j.passes) (condition_step (keyword_name k.0)
-        j.succeeded branch) (matching_step (keyword_name k.0) j.succeeded count) (map text_of w.names.items)
+        → KeywordsLoop S n above place v quiet takes rest (valid && j.passes) (condition_step (which_keyword k.0)
+        j.succeeded branch) (matching_step (which_keyword k.0) j.succeeded count) (map text_of w.names.items)
         (map text_of w₂.names.items)
         w.indexes.items w₂.indexes.items w.left w₂.left w.keyword w.instance c e
     node_more later ascending k rest valid branch count w w₁ w₂ start j path' c d e m ep ek ei loop done =
@@ -348,7 +348,7 @@ module _ {M H K C P : Type 0} (S : SchemaSet P) (text_of : M → Text) (takes : 
               (rw (ep, x, y) at (done.reported at (record { schemas = ek ∙ h.schemas; value = ei ∙ h.value })));
         }
 
-    pub node_failed : CountsLater → IsAscending (entries (S.schema place)) → (k : Keyword) (rest : List Keyword) (valid
+    pub node_failed : CountsLater → IsAscending (entries (S.schema place)) → (k : Member) (rest : List Member) (valid
         : Bool) (branch : Option Bool) (count : ℕ) (w w₁ : WalkState M H K) (start : Start) (path' : List P) (c d : C)
         → StartOf w start → path' ≡ above ++ place ∷ []
         → KeywordsLoop S n above place v quiet takes (k ∷ rest) valid branch count (map text_of w.names.items)

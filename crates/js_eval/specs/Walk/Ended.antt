@@ -3,7 +3,7 @@ use Rattle.std.specs.Prelude.{ℕ, Bool, List, Option, Result, MatchResult, map,
 use Rattle.js_doc.specs.Value.{Value}
 use Rattle.js_tree.specs.Events.{Event}
 use Rattle.js_eval.specs.Applications.{Application}
-use Rattle.js_eval.specs.Keywords.{Keyword}
+use Rattle.js_eval.specs.Keywords.{Member}
 use Rattle.js_eval.specs.SchemaSet.{Text, SchemaSet}
 use Rattle.js_eval.specs.Walk.Steps.{KeywordDone, NodeDone}
 use Rattle.js_eval.specs.Walk.Progress.{HasNone, KeywordHasNone, asked_by}
@@ -15,14 +15,14 @@ use Rattle.js_eval.specs.declared.evaluation.walk_state.Start.{Start}
 use Rattle.js_eval.specs.declared.evaluation.walk_state.WalkState.{WalkState}
 
 -- the applications that a keyword asks for, of what has been evaluated since its schema's node opened
-abbrev pub asked_since : {M H K P : Type 0} → SchemaSet P → (M → Text) → ℕ → List P → P → Value → Keyword → Option Bool
+abbrev pub asked_since : {M H K P : Type 0} → SchemaSet P → (M → Text) → ℕ → List P → P → Value → Member → Option Bool
     → Start → WalkState M H K → List (Application P)
 asked_since S text_of n path place v k condition start w =
     asked_by S n path place v k condition (map text_of (drop start.names w.names.items))
     (drop start.indexes w.indexes.items)
 
 module _ {M H K C P : Type 0} (S : SchemaSet P) (text_of : M → Text) (takes : C → Event → C → Type 0) where
-  abbrev pub KeywordEnds : (n : ℕ) (path : List P) (place : P) (v : Value) (k : Keyword) (known : Known) (start : Start)
+  abbrev pub KeywordEnds : (n : ℕ) (path : List P) (place : P) (v : Value) (k : Member) (known : Known) (start : Start)
       (result : Result KeywordVerdict WalkFault) (w w' : WalkState M H K) (c d : C) → Type 0
   KeywordEnds n path place v k known start result w w' c d =
       MatchResult result

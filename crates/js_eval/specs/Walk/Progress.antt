@@ -9,8 +9,8 @@ use Rattle.js_assert.specs.Argument.{entries}
 use Rattle.js_tree.specs.Forest.{Forest, empty, tree}
 use Rattle.js_eval.specs.Applications.{Application, asks_of}
 use Rattle.js_eval.specs.Evaluated.{names_of, indexes_of}
-use Rattle.js_eval.specs.Keywords.{Keyword, keywords}
-use Rattle.js_bundle.specs.KeywordName.{keyword_name}
+use Rattle.js_eval.specs.Keywords.{Member, keywords}
+use Rattle.js_keyword.specs.Keyword.{which_keyword}
 use Rattle.js_eval.specs.Location.{Location, at_keyword_named, step_tokens}
 use Rattle.js_eval.specs.Note.{Note, keyword_note, schema_note}
 use Rattle.js_eval.specs.Passes.{passes_of}
@@ -18,7 +18,7 @@ use Rattle.js_eval.specs.Result.{OutputUnit, ResultTree, IsNode, AreSchemaNodes}
 use Rattle.js_eval.specs.SchemaSet.{Text, SchemaSet, Step}
 use Rattle.js_eval.specs.Size.{node_total}
 use Rattle.js_eval.specs.Verdict.{within, accepts}
-use Rattle.js_bundle.specs.declared.keyword_name.KeywordName.{KeywordName}
+use Rattle.js_keyword.specs.declared.keyword.Keyword.{Keyword}
 use Rattle.js_eval.specs.Walk.Said.{keyword_says}
 use Rattle.js_tree.specs.Events.{Event, Passes, closing, events, events_of, opening}
 use Rattle.js_eval.specs.declared.evaluation.walk_state.WalkState.{WalkState}
@@ -30,31 +30,31 @@ pub record IsAt (at : Location) (keyword instance : Text) : Type 0 where
 
 -- what is at a place, in definitions that stay folded in the goals of the walk
 module _ {Place : Type 0} (S : SchemaSet Place) (place : Place) where
-  unfoldable pub keywords_at : List Keyword
+  unfoldable pub keywords_at : List Member
   keywords_at = keywords (S.schema place)
 
   unfoldable pub accepts_at : Bool
   accepts_at = accepts (S.schema place)
 
   -- the schema has this keyword
-  unfoldable pub IsKeywordAt : Keyword → Type 0
+  unfoldable pub IsKeywordAt : Member → Type 0
   IsKeywordAt k = get k.0 (entries (S.schema place)) ≡ Some k.1
 
   unfoldable pub schema_says : Note
   schema_says = schema_note (S.schema place)
 
-  unfoldable pub passes_at : Value → ℕ → Keyword → List Bool → Bool
-  passes_at v matching k verdicts = passes_of (entries (S.schema place)) v matching k verdicts (keyword_name k.0)
+  unfoldable pub passes_at : Value → ℕ → Member → List Bool → Bool
+  passes_at v matching k verdicts = passes_of (entries (S.schema place)) v matching k verdicts (which_keyword k.0)
 
-  unfoldable pub says_at : Value → ℕ → Keyword → ℕ → List Text → List ℕ → Bool → Note
+  unfoldable pub says_at : Value → ℕ → Member → ℕ → List Text → List ℕ → Bool → Note
   says_at v matching k succeeded names indexes b =
-      keyword_says (entries (S.schema place)) v matching k succeeded names indexes b (keyword_name k.0)
+      keyword_says (entries (S.schema place)) v matching k succeeded names indexes b (which_keyword k.0)
 
-unfoldable pub kind_at : Keyword → KeywordName
-kind_at k = keyword_name k.0
+unfoldable pub kind_at : Member → Keyword
+kind_at k = which_keyword k.0
 
 -- the trail at a keyword, and at a step
-unfoldable pub at_name : Text → Keyword → Text
+unfoldable pub at_name : Text → Member → Text
 at_name trail k = trail ++ pointer_text (k.0 ∷ [])
 
 unfoldable pub at_step : Text → Step → Text
@@ -81,17 +81,17 @@ module _ {Place : Type 0} (S : SchemaSet Place) (n : ℕ) where
     nodes_at a = node_total S n path a.place a.value
 
     -- the members and the items that a keyword of this kind with these applications has evaluated if it passes
-    unfoldable pub names_given : KeywordName → List (Application Place) → List Text
+    unfoldable pub names_given : Keyword → List (Application Place) → List Text
     names_given κ apps = names_of apps (filter holds_at apps)
         (flat_map (λ a. (within S n).names path a.place a.value) (filter holds_at apps)) κ
 
-    unfoldable pub indexes_given : KeywordName → List (Application Place) → List ℕ
+    unfoldable pub indexes_given : Keyword → List (Application Place) → List ℕ
     indexes_given κ apps = indexes_of apps (filter holds_at apps)
         (flat_map (λ a. (within S n).indexes path a.place a.value) (filter holds_at apps)) κ
 
     -- they are evaluated: names and indexes grow by what they have evaluated, and their nodes are subtracted from those
     -- left
-    pub record EachWalked (κ : KeywordName) (apps : List (Application Place)) (asked succeeded : ℕ)
+    pub record EachWalked (κ : Keyword) (apps : List (Application Place)) (asked succeeded : ℕ)
         (names names' : List Text)
         (indexes indexes' : List ℕ) (old left : ℕ) : Type 0 where
       pub settled : list_all settled_at apps ≡ true
@@ -112,10 +112,10 @@ module _ {Place : Type 0} (S : SchemaSet Place) (n : ℕ) where
 
     -- ---- a keyword of the place at the path's end, given these facts about the keywords before it
 
-    module _ (place : Place) (v : Value) (k : Keyword) where
+    module _ (place : Place) (v : Value) (k : Member) where
       unfoldable pub asked_by : Option Bool → List Text → List ℕ → List (Application Place)
       asked_by condition names indexes =
-          asks_of S path place (entries (S.schema place)) v condition names indexes k (keyword_name k.0)
+          asks_of S path place (entries (S.schema place)) v condition names indexes k (which_keyword k.0)
 
       unfoldable pub passes_by : ℕ → List (Application Place) → Bool
       passes_by matching apps = passes_at S place v matching k (map holds_at apps)
@@ -127,7 +127,7 @@ module _ {Place : Type 0} (S : SchemaSet Place) (n : ℕ) where
         absolute = S.absolute place (Some k.0);
         instance = pointer_text at.instance;
         note = keyword_note (entries (S.schema place)) v matching k apps (filter holds_at apps)
-            (passes_by matching apps) (keyword_name k.0);
+            (passes_by matching apps) (which_keyword k.0);
       }
 
       pub record KeywordWalked (matching : ℕ) (apps : List (Application Place)) (valid : Bool) (succeeded : ℕ)
@@ -135,8 +135,9 @@ module _ {Place : Type 0} (S : SchemaSet Place) (n : ℕ) where
         pub settled : list_all settled_at apps ≡ true
         pub verdict : valid ≡ passes_by matching apps
         pub holding : succeeded ≡ length (filter holds_at apps)
-        pub of_names : names' ≡ names ++ cond (passes_by matching apps) (names_given (keyword_name k.0) apps) []
-        pub of_indexes : indexes' ≡ indexes ++ cond (passes_by matching apps) (indexes_given (keyword_name k.0) apps) []
+        pub of_names : names' ≡ names ++ cond (passes_by matching apps) (names_given (which_keyword k.0) apps) []
+        pub of_indexes : indexes'
+            ≡ indexes ++ cond (passes_by matching apps) (indexes_given (which_keyword k.0) apps) []
         pub spent : (left + sum_by nodes_at apps) + 1 ≡ old
 
       pub record KeywordReported {C : Type 0} (takes : C → Event → C
@@ -168,7 +169,7 @@ module _ {Place : Type 0} (S : SchemaSet Place) (n : ℕ) where
     HasNone old = ((within S n).settled above place v ≡ false) ⊎ (old < node_total S n above place v)
 
 -- the node of a keyword of the place that applies no schema, below a schema's node at these locations, opens and closes
-module _ {C P : Type 0} (S : SchemaSet P) (takes : C → Event → C → Type 0) (place : P) (v : Value) (k : Keyword) where
+module _ {C P : Type 0} (S : SchemaSet P) (takes : C → Event → C → Type 0) (place : P) (v : Value) (k : Member) where
   abbrev pub LeafReported : (matching : ℕ) (passes : Bool) (succeeded : ℕ) (keyword instance : Text) → C → C → Type 0
   LeafReported matching passes succeeded keyword instance c d =
       Passes takes (opening (at_name keyword k) (S.absolute place (Some k.0)) instance

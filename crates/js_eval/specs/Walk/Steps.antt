@@ -4,11 +4,11 @@ use Rattle.std.specs.Prelude.{Some, None, map, take, drop, length}
 use Rattle.js_doc.specs.Value.{Value}
 use Rattle.js_eval.specs.Applications.{Application}
 use Rattle.js_eval.specs.Evaluated.{name_in_step, index_in_step, names_origin, indexes_origin}
-use Rattle.js_eval.specs.Keywords.{Keyword}
+use Rattle.js_eval.specs.Keywords.{Member}
 use Rattle.js_eval.specs.Location.{Location}
 use Rattle.js_eval.specs.Passes.{how_many}
 use Rattle.js_eval.specs.SchemaSet.{Text, SchemaSet}
-use Rattle.js_bundle.specs.declared.keyword_name.KeywordName.{KeywordName}
+use Rattle.js_keyword.specs.declared.keyword.Keyword.{Keyword}
 use Rattle.js_tree.specs.Events.{Event, opening, closing}
 use Rattle.js_eval.specs.Walk.Keeping.{keeps}
 use Rattle.js_eval.specs.Walk.Progress.{IsAt, IsStateRestored, NodeWalked, NodeReported, KeywordWalked, KeywordReported}
@@ -43,7 +43,7 @@ pub record WentDown {M H K P : Type 0} (a : Application P) (w w' : WalkState M H
   pub left : w'.left ≡ w.left
 
 pub record CameBack {M H K P : Type 0} (text_of : M → Text) (len : K
-    → ℕ) (κ : KeywordName) (a : Application P) (here : Mark K) (holds : Bool) (w w' : WalkState M H K) : Type 0 where
+    → ℕ) (κ : Keyword) (a : Application P) (here : Mark K) (holds : Bool) (w w' : WalkState M H K) : Type 0 where
   pub path : w'.path ≡ w.path
   pub scope : w'.scope ≡ w.scope
   pub keyword : w'.keyword ≡ take (len here.keyword) w.keyword
@@ -55,7 +55,7 @@ pub record CameBack {M H K P : Type 0} (text_of : M → Text) (len : K
   pub left : w'.left ≡ w.left
 
 -- this is whether a keyword passes, of which this many applications hold
-abbrev pub IsJudged : {P : Type 0} → SchemaSet P → P → Value → Keyword → ℕ → Tally → Bool → Type 0
+abbrev pub IsJudged : {P : Type 0} → SchemaSet P → P → Value → Member → ℕ → Tally → Bool → Type 0
 IsJudged S site v k matching tally passes =
     (verdicts : List Bool) → length verdicts ≡ tally.asked → how_many verdicts ≡ tally.succeeded
     → passes ≡ passes_at S site v matching k verdicts
@@ -81,7 +81,7 @@ module _ {M H K C P : Type 0} (S : SchemaSet P) (text_of : M → Text) (takes : 
     pub left : w'.left ≡ w.left
     pub reported : takes c (closing valid (schema_says S site)) d
 
-  pub record KeywordOpened (site : P) (k : Keyword) (w w' : WalkState M H K) (c d : C) : Type 0 where
+  pub record KeywordOpened (site : P) (k : Member) (w w' : WalkState M H K) (c d : C) : Type 0 where
     pub path : w'.path ≡ w.path
     pub scope : w'.scope ≡ w.scope
     pub keyword : w'.keyword ≡ at_name w.keyword k
@@ -91,7 +91,7 @@ module _ {M H K C P : Type 0} (S : SchemaSet P) (text_of : M → Text) (takes : 
     pub left : w'.left + 1 ≡ w.left
     pub reported : takes c (opening (at_name w.keyword k) (S.absolute site (Some k.0)) w.instance) d
 
-  pub record KeywordClosed (len : K → ℕ) (site : P) (v : Value) (k : Keyword) (matching : ℕ) (tally : Tally)
+  pub record KeywordClosed (len : K → ℕ) (site : P) (v : Value) (k : Member) (matching : ℕ) (tally : Tally)
       (here : Mark K) (passes : Bool) (w w' : WalkState M H K) (c d : C) : Type 0 where
     pub verdict : IsJudged S site v k matching tally passes
     pub path : w'.path ≡ w.path
@@ -114,7 +114,7 @@ module _ {M H K C P : Type 0} (S : SchemaSet P) (text_of : M → Text) (takes : 
     pub back : IsStateRestored w w'
     pub falls : w'.left < w.left
 
-  pub record KeywordDone (n : ℕ) (path : List P) (place : P) (v : Value) (k : Keyword) (matching : ℕ)
+  pub record KeywordDone (n : ℕ) (path : List P) (place : P) (v : Value) (k : Member) (matching : ℕ)
       (apps : List (Application P)) (j : KeywordVerdict) (w w' : WalkState M H K) (c d : C) : Type 0 where
     pub walked : KeywordWalked S n path place v k matching apps j.passes j.succeeded (map text_of w.names.items)
         (map text_of w'.names.items) w.indexes.items w'.indexes.items w.left w'.left
@@ -123,7 +123,7 @@ module _ {M H K C P : Type 0} (S : SchemaSet P) (text_of : M → Text) (takes : 
     pub back : IsStateRestored w w'
     pub falls : w'.left < w.left
 
-  pub record EachDone (n : ℕ) (path : List P) (κ : KeywordName) (apps : List (Application P)) (t : Tally)
+  pub record EachDone (n : ℕ) (path : List P) (κ : Keyword) (apps : List (Application P)) (t : Tally)
       (w w' : WalkState M H K) (c d : C) : Type 0 where
     pub walked : EachWalked S n path κ apps t.asked t.succeeded (map text_of w.names.items) (map text_of w'.names.items)
         w.indexes.items w'.indexes.items w.left w'.left

@@ -3,27 +3,27 @@
 use Rattle.std.specs.Prelude.{◌≡◌, ℕ, Bool, true, false, not, ◌||◌, List, [], ◌∷◌, ◌++◌, filter, length}
 use Rattle.std.specs.List.{list_all}
 use Rattle.js_doc.specs.Value.{Value}
-use Rattle.js_eval.specs.Keywords.{Keyword, keywords}
-use Rattle.js_bundle.specs.KeywordName.{keyword_name}
+use Rattle.js_eval.specs.Keywords.{Member, keywords}
+use Rattle.js_keyword.specs.Keyword.{which_keyword}
 use Rattle.js_eval.specs.SchemaSet.{SchemaSet}
-use Rattle.js_bundle.specs.declared.keyword_name.KeywordName.{KeywordName}
-use Rattle.js_bundle.specs.declared.keyword_name.KeywordName.TheVariants.{Assertion, Other}
+use Rattle.js_keyword.specs.declared.keyword.Keyword.{Keyword}
+use Rattle.js_keyword.specs.declared.keyword.Keyword.TheVariants.{Assertion, Other}
 use Rattle.js_eval.specs.declared.evaluation.tally.Others.{Others}
 use Rattle.js_eval.specs.declared.evaluation.tally.Together.{Together}
 use Rattle.js_eval.specs.Walk.Progress.{keywords_at, passes_at}
 
 -- a keyword of this kind may apply schemas
-abbrev pub may_apply : KeywordName → Bool
-may_apply Assertion = false
+abbrev pub may_apply : Keyword → Bool
+may_apply (Assertion _) = false
 may_apply (Other _) = false
 may_apply _ = true
 
-unfoldable pub is_visited : Bool → Keyword → Bool
-is_visited quiet k = not quiet || may_apply (keyword_name k.0)
+unfoldable pub is_visited : Bool → Member → Bool
+is_visited quiet k = not quiet || may_apply (which_keyword k.0)
 
 module _ {Place : Type 0} (S : SchemaSet Place) (place : Place) where
   -- the keywords of a place that a quiet walk doesn't visit
-  abbrev pub others_at : List Keyword
+  abbrev pub others_at : List Member
   others_at = filter (λ k. not (is_visited true k)) (keywords_at S place)
 
   -- this is whether all of them pass, and how many there are, given how many items match the adjacent `contains`
@@ -41,8 +41,8 @@ module _ {Place : Type 0} (S : SchemaSet Place) (place : Place) where
   AppliesNone = filter (is_visited true) (keywords_at S place) ≡ []
 
   -- it is one of the keywords that have a node
-  abbrev pub IsListed : Keyword → Type 0
-  IsListed k = (before : List Keyword) × (after : List Keyword) × (before ++ k ∷ after ≡ keywords (S.schema place))
+  abbrev pub IsListed : Member → Type 0
+  IsListed k = (before : List Member) × (after : List Member) × (before ++ k ∷ after ≡ keywords (S.schema place))
 
   -- what is known of those that a quiet walk doesn't visit, if anything is
   abbrev pub AreTogether : Value → Together → Type 0

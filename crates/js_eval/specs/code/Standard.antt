@@ -5,10 +5,10 @@ use Rattle.js_doc.specs.Escapes.{stands}
 use Rattle.js_doc.specs.Fragment.{fragment_token}
 use Rattle.js_doc.specs.Pointer.{escape}
 use Rattle.js_doc.specs.Value.{Named}
-use Rattle.js_bundle.specs.KeywordName.{keyword_name}
-use Rattle.js_bundle.specs.declared.keyword_name.KeywordName.{KeywordName}
-use Rattle.js_bundle.specs.declared.keyword_name.KeywordName.TheVariants as name
-use Rattle.js_bundle.specs.declared.keyword_name.OtherName.TheVariants.{Unknown}
+use Rattle.js_keyword.specs.Keyword.{which_keyword}
+use Rattle.js_keyword.specs.declared.keyword.Keyword.{Keyword}
+use Rattle.js_keyword.specs.declared.keyword.Keyword.TheVariants as name
+use Rattle.js_keyword.specs.declared.other_keyword.OtherKeyword.TheVariants.{Unknown}
 use Rattle.js_eval.specs.Keywords.{is_after_if}
 use Rattle.js_eval.specs.declared.order.turn.Turn.{Turn}
 use Rattle.js_eval.specs.declared.order.turn.Turn.TheVariants as turn
@@ -17,7 +17,7 @@ use Rattle.js_eval.specs.declared.order.turn.Turn.TheVariants as turn
 abbrev pub turn_by_side : List ℕ → Turn
 turn_by_side name = if is_after_if name then turn.Last else turn.First
 
-abbrev pub turn_by_keyword : KeywordName → List ℕ → Turn
+abbrev pub turn_by_keyword : Keyword → List ℕ → Turn
 turn_by_keyword name.Ref text = turn.First
 turn_by_keyword name.DynamicRef text = turn.First
 turn_by_keyword name.AllOf text = turn.First
@@ -37,13 +37,13 @@ turn_by_keyword name.AdditionalProperties text = turn.First
 turn_by_keyword name.PropertyNames text = turn.Last
 turn_by_keyword name.UnevaluatedItems text = turn.Last
 turn_by_keyword name.UnevaluatedProperties text = turn.Last
-turn_by_keyword name.Assertion text = turn_by_side text
+turn_by_keyword (name.Assertion _) text = turn_by_side text
 turn_by_keyword (name.Other Unknown) text = turn_by_side text
 turn_by_keyword (name.Other _) text = turn.Never
 
 -- of each of a schema's keywords, which keyword of the standard it is
-abbrev pub keyword_names_of : Named → List KeywordName
-keyword_names_of ms = map (λ m. keyword_name m.0) ms
+abbrev pub keyword_names_of : Named → List Keyword
+keyword_names_of ms = map (λ m. which_keyword m.0) ms
 
 -- the name is written as it is
 pub record IsWrittenAsItIs (name : List ℕ) : Type 0 where

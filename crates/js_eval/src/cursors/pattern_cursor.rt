@@ -18,6 +18,7 @@ use crate::searching::pattern_answers::are_few;
 use crate::searching::searchers::{NamedPattern, PatternSearch, pattern_of};
 use js_bundle::{Place, Step};
 use js_doc::{Doc, Members, Memory, Pairs};
+use js_keyword::Keyword;
 
 /// The patterns that are still to come, and the members that are left for the present one.
 #[derive(Drop)]
@@ -62,7 +63,7 @@ impl<'a> PatternCursor<'a> {
             schema_below: schema,
             left: members.pairs(),
             is_kept: !are_few(patterns, members)
-                && argument_in(schema, "additionalProperties").is_some(),
+                && argument_in(schema, Keyword::AdditionalProperties.name()).is_some(),
         }
     }
 

@@ -3,8 +3,8 @@ ghost use Rattle.std.specs.Prelude.{◌≡◌, ◌++◌, OnOk, take, drop, cond,
 ghost use Rattle.js_eval.specs.Evaluated.{origins};
 ghost use Rattle.js_eval.specs.Walk.Keeping.{keeps};
 
-use js_bundle::KeywordName;
 use js_doc::Memory;
+use js_keyword::Keyword;
 
 /// Which members or items a keyword has evaluated.
 #[derive(Clone, Copy)]
@@ -68,27 +68,27 @@ pub(crate) fn cut_unless<M: Copy>(list: &mut Vec<M>, from: usize, stays: bool)
 }
 
 /// Which members, and which items, a keyword of this kind has evaluated.
-pub(crate) fn origins_of(kind: KeywordName) -> (Origin, Origin)
+pub(crate) fn origins_of(kind: Keyword) -> (Origin, Origin)
     ensures { result ≡ origins kind }
 {
     match kind {
-        KeywordName::Properties
-        | KeywordName::PatternProperties
-        | KeywordName::AdditionalProperties
-        | KeywordName::UnevaluatedProperties => (Origin::Applied, Origin::Nowhere),
-        KeywordName::PrefixItems | KeywordName::Items | KeywordName::UnevaluatedItems => {
+        Keyword::Properties
+        | Keyword::PatternProperties
+        | Keyword::AdditionalProperties
+        | Keyword::UnevaluatedProperties => (Origin::Applied, Origin::Nowhere),
+        Keyword::PrefixItems | Keyword::Items | Keyword::UnevaluatedItems => {
             (Origin::Nowhere, Origin::Applied)
         }
-        KeywordName::Contains => (Origin::Nowhere, Origin::Holding),
-        KeywordName::Ref
-        | KeywordName::DynamicRef
-        | KeywordName::AllOf
-        | KeywordName::AnyOf
-        | KeywordName::OneOf
-        | KeywordName::If
-        | KeywordName::Then
-        | KeywordName::Else
-        | KeywordName::DependentSchemas => (Origin::Below, Origin::Below),
+        Keyword::Contains => (Origin::Nowhere, Origin::Holding),
+        Keyword::Ref
+        | Keyword::DynamicRef
+        | Keyword::AllOf
+        | Keyword::AnyOf
+        | Keyword::OneOf
+        | Keyword::If
+        | Keyword::Then
+        | Keyword::Else
+        | Keyword::DependentSchemas => (Origin::Below, Origin::Below),
         _ => (Origin::Nowhere, Origin::Nowhere),
     }
 }

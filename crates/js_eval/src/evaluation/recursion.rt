@@ -20,7 +20,8 @@ use crate::evaluation::steps::{
 use crate::evaluation::tally::{Case, KeywordProgress, KeywordVerdict, Known, Tally, Together};
 use crate::evaluation::walk_state::{Start, WalkState};
 use crate::evaluation::world::World;
-use js_bundle::{KeywordName, Place};
+use js_bundle::Place;
+use js_keyword::Keyword;
 use std::alloc::Global;
 
 /// Evaluates a value against the schema at a place, and reports the schema's node and the nodes below it. Returns the
@@ -234,7 +235,7 @@ pub(crate) fn applications<W: World, H: PointerText + Drop, R: Reporter<W, H>>(
     state: &mut WalkState<W::Name, H>,
     into: &mut R,
     depth: usize,
-    kind: KeywordName,
+    kind: Keyword,
     asking: &mut W::Asking,
 ) -> Result<Tally, WalkFault>
     requires path { list_all (W.is_place world.now) state.old.path ≡ true }

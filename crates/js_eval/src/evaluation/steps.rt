@@ -12,7 +12,7 @@ ghost use Rattle.js_eval.specs.Walk.Reported.{DropsSilent};
 ghost use Rattle.js_eval.specs.Walk.Progress.{IsKeywordAt, asked_by, kind_at, says_at};
 ghost use Rattle.js_tree.specs.Note.{silent};
 ghost use Rattle.js_eval.specs.Walk.Visited.{AreJudged, AreJudgedIf, AreTogether, IsListed};
-ghost use Rattle.js_bundle.specs.declared.keyword_name.KeywordName.TheVariants.{Assertion};
+ghost use Rattle.js_eval.specs.code.Leaves.{is_assertion};
 
 use crate::evaluation::keeping::{cut_unless, keep, origins_of};
 use crate::evaluation::path::ScopedPath;
@@ -21,8 +21,9 @@ use crate::evaluation::reporter::Reporter;
 use crate::evaluation::tally::{Case, KeywordProgress, KeywordVerdict, Others, Tally, Together};
 use crate::evaluation::walk_state::{Mark, Start, WalkState};
 use crate::evaluation::world::World;
-use js_bundle::{KeywordName, Place};
+use js_bundle::Place;
 use js_doc::Memory;
+use js_keyword::Keyword;
 use std::alloc::Global;
 
 /// Opens the node of a schema. The limit must allow one more node.
@@ -315,13 +316,13 @@ fn may_drop<W: World, H: PointerText + Drop, R: Reporter<W, H>>(
     into: &R,
     keyword: W::Keyword,
 ) -> bool
-    ensures assertion { result ≡ true → kind_at (W.keyword_of keyword) ≡ Assertion }
+    ensures assertion { result ≡ true → is_assertion (kind_at (W.keyword_of keyword)) ≡ true }
     ensures silent { (place : Site) (v : JsonValue) (matching succeeded : ℕ) (names : List Bytes) (indexes : List ℕ)
         → result ≡ true → says_at (W.schemas world.now) place v matching (W.keyword_of keyword) succeeded names indexes
         true ≡ silent }
     ensures drops { result ≡ true → DropsSilent R.takes into.now }
 {
-    matches!(world.kind(keyword), KeywordName::Assertion) && into.drops_silent()
+    matches!(world.kind(keyword), Keyword::Assertion(_)) && into.drops_silent()
 }
 
 // Whether all keywords of the place pass that apply no schemas. They are judged if they aren't yet, for
@@ -396,7 +397,7 @@ pub(crate) fn come_back<W: World, H: PointerText + Drop>(
     world: &W,
     state: &mut WalkState<W::Name, H>,
     application: W::Application,
-    kind: KeywordName,
+    kind: Keyword,
     here: Mark<H::Mark>,
     holds: bool,
 ) -> Result<(), Memory>

@@ -2,7 +2,8 @@
 ghost use Rattle.std.specs.Prelude.{◌≡◌, ◌&&◌, ◌≤◌, ◌<◌, ◌+◌, cond, false};
 ghost use Rattle.js_eval.specs.Walk.Keeping.{condition_step, matching_step};
 
-use js_bundle::{KeywordName, Place};
+use js_bundle::Place;
+use js_keyword::Keyword;
 
 /// What is evaluated: a keyword of the schema at a place, on a value.
 #[derive(Clone, Copy)]
@@ -89,7 +90,7 @@ impl Together {
 
 impl Known {
     /// What is known with one more keyword.
-    pub(crate) fn with_keyword(self, kind: KeywordName, passes: bool, succeeded: usize) -> Known
+    pub(crate) fn with_keyword(self, kind: Keyword, passes: bool, succeeded: usize) -> Known
         ensures valid { result.valid ≡ (self.valid && passes) }
         ensures condition { result.condition ≡ condition_step kind succeeded self.condition }
         ensures matching { result.matching ≡ matching_step kind succeeded self.matching }
@@ -102,20 +103,20 @@ impl Known {
     }
 }
 
-fn condition_after(kind: KeywordName, succeeded: usize, before: Option<bool>) -> Option<bool>
+fn condition_after(kind: Keyword, succeeded: usize, before: Option<bool>) -> Option<bool>
     ensures { result ≡ condition_step kind succeeded before }
 {
     match kind {
-        KeywordName::If => Some(succeeded == 1),
+        Keyword::If => Some(succeeded == 1),
         _ => before,
     }
 }
 
-fn matching_after(kind: KeywordName, succeeded: usize, before: u64) -> u64
+fn matching_after(kind: Keyword, succeeded: usize, before: u64) -> u64
     ensures { result ≡ matching_step kind succeeded before }
 {
     match kind {
-        KeywordName::Contains => succeeded as u64,
+        Keyword::Contains => succeeded as u64,
         _ => before,
     }
 }

@@ -19,8 +19,9 @@ use crate::evaluation::path::ScopedPath;
 use crate::evaluation::pointer_text::PointerText;
 use crate::evaluation::tally::{Others, Tally};
 use crate::evaluation::trail::Trail;
-use js_bundle::{KeywordName, Place};
+use js_bundle::Place;
 use js_doc::Memory;
+use js_keyword::Keyword;
 use std::alloc::Global;
 
 /// What a walk needs to know of schemas and of an instance. No type names a lifetime, so that a walk over a `World` may
@@ -62,9 +63,9 @@ pub(crate) trait World {
 
     ghost text_of: { Self.Name → Bytes };
 
-    ghost keyword_of: { Self.Keyword → table.Keyword };
+    ghost keyword_of: { Self.Keyword → table.Member };
 
-    ghost listed: { Self.Keywords → List table.Keyword };
+    ghost listed: { Self.Keywords → List table.Member };
 
     ghost application_of: { Self → Self.Application → Applied Site };
 
@@ -121,7 +122,7 @@ pub(crate) trait World {
         ensures { MatchOption result (listed keywords.old ≡ [])
             (λ k. listed keywords.old ≡ keyword_of k ∷ listed keywords.new) };
 
-    fn kind(&self, keyword: Self::Keyword) -> KeywordName
+    fn kind(&self, keyword: Self::Keyword) -> Keyword
         ensures { result ≡ kind_at (keyword_of keyword) };
 
     /// Whether a keyword may ask for applications.

@@ -18,8 +18,9 @@ use crate::keywords::references::{referred, referred_dynamically};
 use crate::keywords::{arrays, conditional, contains, in_place, objects, unevaluated};
 use crate::order::keyword::KeywordAt;
 use crate::searching::searchers::Searchers;
-use js_bundle::{KeywordName, Schemas};
+use js_bundle::Schemas;
 use js_doc::Memory;
+use js_keyword::Keyword;
 use std::alloc::Global;
 
 /// In which dynamic scope a keyword is evaluated, and on what value.
@@ -76,31 +77,28 @@ pub(crate) fn asking_of_keyword<'a>(
         value,
     };
     match at.keyword.which {
-        KeywordName::Ref => Ok(referred(schemas, at.place, at.schema, value)),
-        KeywordName::DynamicRef => Ok(referred_dynamically(
+        Keyword::Ref => Ok(referred(schemas, at.place, at.schema, value)),
+        Keyword::DynamicRef => Ok(referred_dynamically(
             schemas, at.place, at.schema, path, scope, value,
         )),
-        KeywordName::AllOf => Ok(in_place::each_in_list(&start)),
-        KeywordName::AnyOf => Ok(in_place::each_in_list(&start)),
-        KeywordName::OneOf => Ok(in_place::each_in_list(&start)),
-        KeywordName::Not => Ok(held(&start)),
-        KeywordName::If => Ok(held(&start)),
-        KeywordName::Then => Ok(held_if(&start, condition, true)),
-        KeywordName::Else => Ok(held_if(&start, condition, false)),
-        KeywordName::DependentSchemas => conditional::dependent(&start),
-        KeywordName::PrefixItems => Ok(arrays::prefix(&start)),
-        KeywordName::Items => Ok(arrays::following(&start)),
-        KeywordName::Contains => Ok(contains::every(&start)),
-        KeywordName::Properties => objects::properties(&start),
-        KeywordName::PatternProperties => objects::patterns(&start, searchers),
-        KeywordName::AdditionalProperties => objects::additional(&start),
-        KeywordName::PropertyNames => objects::property_names(&start),
-        KeywordName::UnevaluatedItems => unevaluated::unevaluated_items(&start, facts.indexes),
-        KeywordName::UnevaluatedProperties => unevaluated::unevaluated_properties(
-            &start,
-            facts.names,
-        ),
-        KeywordName::Assertion => Ok(Asking::One(None)),
-        KeywordName::Other(_) => Ok(Asking::One(None)),
+        Keyword::AllOf => Ok(in_place::each_in_list(&start)),
+        Keyword::AnyOf => Ok(in_place::each_in_list(&start)),
+        Keyword::OneOf => Ok(in_place::each_in_list(&start)),
+        Keyword::Not => Ok(held(&start)),
+        Keyword::If => Ok(held(&start)),
+        Keyword::Then => Ok(held_if(&start, condition, true)),
+        Keyword::Else => Ok(held_if(&start, condition, false)),
+        Keyword::DependentSchemas => conditional::dependent(&start),
+        Keyword::PrefixItems => Ok(arrays::prefix(&start)),
+        Keyword::Items => Ok(arrays::following(&start)),
+        Keyword::Contains => Ok(contains::every(&start)),
+        Keyword::Properties => objects::properties(&start),
+        Keyword::PatternProperties => objects::patterns(&start, searchers),
+        Keyword::AdditionalProperties => objects::additional(&start),
+        Keyword::PropertyNames => objects::property_names(&start),
+        Keyword::UnevaluatedItems => unevaluated::unevaluated_items(&start, facts.indexes),
+        Keyword::UnevaluatedProperties => unevaluated::unevaluated_properties(&start, facts.names),
+        Keyword::Assertion(_) => Ok(Asking::One(None)),
+        Keyword::Other(_) => Ok(Asking::One(None)),
     }
 }

@@ -16,6 +16,7 @@ use crate::instance::{Instance, array_in};
 use crate::schema::argument_in;
 use crate::schema_lookup::held_below;
 use js_doc::Doc;
+use js_keyword::Keyword;
 use js_tree::Note;
 
 /// Each schema of `prefixItems`, applied to the item at the same index.
@@ -83,7 +84,7 @@ pub(crate) fn from_index<'a>(start: &CursorStart<'_, 'a>, first: usize) -> Askin
 fn prefix_length_in(schema: &Doc) -> usize
     ensures { result ≡ prefix_length (entries (value_of schema.now)) }
 {
-    match argument_in(schema, "prefixItems") {
+    match argument_in(schema, Keyword::PrefixItems.name()) {
         Some(argument) => array_in(argument).len(),
         None => 0,
     }

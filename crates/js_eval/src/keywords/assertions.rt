@@ -12,7 +12,7 @@ ghost use Rattle.js_assert.specs.ErrorText as texts;
 ghost use Rattle.js_eval.specs.Note as notes;
 
 use crate::instance::Instance;
-use crate::order::keyword::Keyword;
+use crate::order::keyword::Member;
 use crate::searching::searchers::{NamedPattern, Searchers};
 use js_assert::{Assertion, Pattern};
 use js_bundle::{Place, Schemas};
@@ -24,7 +24,7 @@ use std::alloc::Global;
 pub(crate) fn look_up_assertion<'a>(
     schemas: &'a Schemas,
     place: Place,
-    keyword: Keyword<'_>,
+    keyword: Member<'_>,
 ) -> Option<&'a Assertion>
     requires place { is_place schemas.now place ≡ true }
     requires keyword { IsKeywordAt (schemas_of schemas.now) (numbered_site schemas.now place) (keyword_of keyword) }

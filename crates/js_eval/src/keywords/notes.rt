@@ -21,10 +21,11 @@ use crate::keywords::assertions::{error_of, error_or_none, look_up_assertion};
 use crate::keywords::contains::matching_items;
 use crate::keywords::in_place::branches_hold;
 use crate::keywords::objects::{copies, member_names_among, names_on_object};
-use crate::order::keyword::Keyword;
+use crate::order::keyword::Member;
 use js_assert::Assertion;
-use js_bundle::{KeywordName, Place};
+use js_bundle::Place;
 use js_doc::{Doc, Memory, Text};
+use js_keyword::Keyword;
 use js_tree::Note;
 use std::alloc::Global;
 
@@ -68,7 +69,7 @@ pub(crate) fn make_keyword_note<'a>(
     here: &FinishedSchemas<'a>,
     place: Place,
     value: Instance<'a>,
-    keyword: Keyword<'a>,
+    keyword: Member<'a>,
     findings: Findings<'_, 'a>,
 ) -> Result<Note<'a>, Memory>
     requires place { is_place here.now.schemas.now place ≡ true }
@@ -122,8 +123,8 @@ pub(crate) fn make_schema_note<'a>(
 /// `Memory` if an allocation fails.
 fn annotation_of<'a>(
     alloc: Global,
-    kind: KeywordName,
-    keyword: Keyword<'a>,
+    kind: Keyword,
+    keyword: Member<'a>,
     value: Instance<'a>,
     names: &[&'a str],
     indexes: &[usize],
@@ -133,18 +134,16 @@ fn annotation_of<'a>(
         (keyword_of keyword.entry) succeeded (texts_of names.now) indexes.now true kind) }
 {
     match kind {
-        KeywordName::PrefixItems => Ok(true_or_largest(value, indexes)),
-        KeywordName::Items | KeywordName::UnevaluatedItems => Ok(if_any(indexes)),
-        KeywordName::Contains => matching_items(alloc, value, indexes),
-        KeywordName::Properties
-        | KeywordName::AdditionalProperties
-        | KeywordName::UnevaluatedProperties => {
+        Keyword::PrefixItems => Ok(true_or_largest(value, indexes)),
+        Keyword::Items | Keyword::UnevaluatedItems => Ok(if_any(indexes)),
+        Keyword::Contains => matching_items(alloc, value, indexes),
+        Keyword::Properties | Keyword::AdditionalProperties | Keyword::UnevaluatedProperties => {
             Ok(names_on_object(value, copies(alloc, names)?))
         }
-        KeywordName::PatternProperties => {
+        Keyword::PatternProperties => {
             Ok(names_on_object(value, member_names_among(alloc, value, names)?))
         }
-        KeywordName::Other(_) => Ok(Note::Value(keyword.argument)),
+        Keyword::Other(_) => Ok(Note::Value(keyword.argument)),
         _ => Ok(Note::Silent),
     }
 }
@@ -156,21 +155,21 @@ fn annotation_of<'a>(
 /// `Memory` if an allocation fails.
 fn failure_of<'a>(
     alloc: Global,
-    kind: KeywordName,
+    kind: Keyword,
     succeeded: usize,
     error: Option<String>,
 ) -> Result<Note<'a>, Memory>
-    ensures { (siblings : Named) (v : JsonValue) (matching : ℕ) (k : table.Keyword) (names : List Bytes)
+    ensures { (siblings : Named) (v : JsonValue) (matching : ℕ) (k : table.Member) (names : List Bytes)
         (indexes : List ℕ)
         → option_map string_bytes error ≡ option_map_or (λ a. texts.error a v matching) (asserted k.0 k.1 siblings) None
         → IfOk result (λ n. note_of n ≡ keyword_says siblings v matching k succeeded names indexes false kind) }
 {
     match kind {
-        KeywordName::AnyOf => words(alloc, "no branch holds"),
-        KeywordName::OneOf => branches_hold(alloc, succeeded),
-        KeywordName::Not => words(alloc, "the subschema holds"),
-        KeywordName::Contains => words(alloc, "no matching item"),
-        KeywordName::Assertion => Ok(error_or_none(error)),
+        Keyword::AnyOf => words(alloc, "no branch holds"),
+        Keyword::OneOf => branches_hold(alloc, succeeded),
+        Keyword::Not => words(alloc, "the subschema holds"),
+        Keyword::Contains => words(alloc, "no matching item"),
+        Keyword::Assertion(_) => Ok(error_or_none(error)),
         _ => Ok(Note::Silent),
     }
 }

@@ -13,7 +13,7 @@ ghost use Rattle.js_eval.specs.code.NamesLeft.{members_among};
 ghost use Rattle.js_eval.specs.code.Patterns.{ArePatternsAt};
 ghost use Rattle.js_eval.specs.code.Starting.{HoldsBy, HoldsOne, IsAtPlace, by_keyword, on_members, on_namesakes};
 ghost use Rattle.js_eval.specs.code.Terms.{Documents, entries, has, instance_of, keyword_of, texts_of, value_of};
-ghost use Rattle.js_bundle.specs.declared.keyword_name.KeywordName.TheVariants.{PatternProperties};
+ghost use Rattle.js_keyword.specs.declared.keyword.Keyword.TheVariants.{PatternProperties};
 ghost use Rattle.js_tree.specs.Seen.{note_of};
 ghost use Rattle.std.specs.List.{flat_map};
 ghost use Rattle.std.specs.Prelude.{IfOk, filter, map, not, ◌||◌, ◌≡◌};
@@ -30,7 +30,7 @@ use crate::cursors::start::CursorStart;
 use crate::instance::{Instance, names_ascend};
 use crate::keywords::nothing_left::{are_all_named, match_none};
 use crate::order::keyword::KeywordAt;
-use crate::schema::{object_at, patterns_in};
+use crate::schema::{patterns_in, properties_in};
 use crate::schema_lookup::held_below;
 use crate::searching::name_set::{is_in, set_of};
 use crate::searching::pattern_answers::are_few;
@@ -190,7 +190,7 @@ pub(crate) fn additional<'a>(start: &CursorStart<'_, 'a>) -> Result<Asking<'a>, 
     };
     let at = start.at;
     let schema = at.schema;
-    let properties = object_at(schema, "properties");
+    let properties = properties_in(schema);
     if are_all_named(properties, members) {
         return Ok(Asking::One(None));
     }

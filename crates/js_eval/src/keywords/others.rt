@@ -12,8 +12,9 @@ use crate::keywords::assertions::satisfies;
 use crate::schema_lookup::names_at;
 use crate::searching::searchers::Searchers;
 use js_assert::Assertion;
-use js_bundle::{KeywordName, OtherName, Place, Schemas};
+use js_bundle::{Place, Schemas};
 use js_doc::Memory;
+use js_keyword::{Keyword, OtherKeyword};
 use std::alloc::Global;
 
 /// Whether a value passes the keywords at a place that apply no schemas, and how many of them have a node. `matching`:
@@ -56,18 +57,18 @@ fn holds_each<'a>(
     Ok(true)
 }
 
-fn count_of(names: &[KeywordName]) -> usize
+fn count_of(names: &[Keyword]) -> usize
     ensures { result ≡ length (filter has_leaf names.now) }
 {
     names.iter().filter(|name| has_leaf(**name)).count()
 }
 
 // Whether a keyword has a node, and applies no schemas: its node is a leaf of the result.
-fn has_leaf(name: KeywordName) -> bool
+fn has_leaf(name: Keyword) -> bool
     ensures { result ≡ has_leaf name }
 {
     matches!(
         name,
-        KeywordName::Assertion | KeywordName::Other(OtherName::Unknown)
+        Keyword::Assertion(_) | Keyword::Other(OtherKeyword::Unknown)
     )
 }

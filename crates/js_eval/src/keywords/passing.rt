@@ -4,7 +4,7 @@ ghost use Rattle.js_assert.specs.Assertion.{asserted};
 ghost use Rattle.js_eval.specs.Passes.{how_many, passes_of};
 ghost use Rattle.js_eval.specs.Walk.Progress.{IsKeywordAt, passes_at};
 ghost use Rattle.js_eval.specs.code.Terms.{IsSchemaAt, instance_of, keyword_of, numbered_site, schemas_of, value_of};
-ghost use Rattle.js_bundle.specs.declared.keyword_name.KeywordName.TheVariants.{Assertion as AssertionKind};
+ghost use Rattle.js_keyword.specs.declared.keyword.Keyword.TheVariants.{Assertion as AssertionKind};
 ghost use Rattle.std.specs.Option.{option_map_or};
 ghost use Rattle.std.specs.Prelude.{Bool, IfOk, List, length, true, ℕ, ◌≡◌};
 ghost use Rattle.js_assert.specs.Assertion as spec;
@@ -15,11 +15,12 @@ use crate::instance::Instance;
 use crate::keywords::assertions::{look_up_assertion, satisfies};
 use crate::keywords::contains::contains_passes;
 use crate::keywords::in_place::{holds_all, holds_any};
-use crate::order::keyword::Keyword;
+use crate::order::keyword::Member;
 use crate::searching::searchers::Searchers;
 use js_assert::Assertion;
-use js_bundle::{KeywordName, Place, Schemas};
+use js_bundle::{Place, Schemas};
 use js_doc::{Doc, Memory};
+use js_keyword::Keyword;
 use std::alloc::Global;
 
 /// Whether a keyword passes. `tally`: the number of its applications, and of those that succeed; `matching`: the number
@@ -35,7 +36,7 @@ pub(crate) fn judge_keyword<'a>(
     place: Place,
     schema: &Doc,
     value: Instance<'a>,
-    keyword: Keyword<'_>,
+    keyword: Member<'_>,
     tally: Tally,
     matching: u64,
 ) -> Result<bool, Memory>
@@ -48,7 +49,7 @@ pub(crate) fn judge_keyword<'a>(
 {
     let kind = keyword.which;
     let said = match kind {
-        KeywordName::Assertion => match look_up_assertion(schemas, place, keyword) {
+        Keyword::Assertion(_) => match look_up_assertion(schemas, place, keyword) {
             Some(assertion) => satisfies(alloc, searchers, assertion, value, matching)?,
             None => true,
         },
@@ -59,26 +60,26 @@ pub(crate) fn judge_keyword<'a>(
 
 /// Whether a keyword of this kind in `schema` passes. `said`: whether the value satisfies it, if it is an assertion.
 pub(crate) fn passes_by_count(
-    kind: KeywordName,
+    kind: Keyword,
     schema: &Doc,
     value: Instance<'_>,
     said: bool,
     tally: Tally,
 ) -> bool
-    ensures { (matching : ℕ) (k : table.Keyword) (verdicts : List Bool)
+    ensures { (matching : ℕ) (k : table.Member) (verdicts : List Bool)
         → (kind ≡ AssertionKind → option_map_or (λ a. spec.says a (instance_of value.entry) matching)
         (asserted k.0 k.1 (entries (value_of schema.now))) true ≡ said)
         → length verdicts ≡ tally.asked → how_many verdicts ≡ tally.succeeded
         → result ≡ passes_of (entries (value_of schema.now)) (instance_of value.entry) matching k verdicts kind }
 {
     match kind {
-        KeywordName::AnyOf => holds_any(tally),
-        KeywordName::OneOf => tally.succeeded == 1,
-        KeywordName::Not => !holds_any(tally),
-        KeywordName::If => true,
-        KeywordName::Contains => contains_passes(schema, value, tally),
-        KeywordName::Assertion => said,
-        KeywordName::Other(_) => true,
+        Keyword::AnyOf => holds_any(tally),
+        Keyword::OneOf => tally.succeeded == 1,
+        Keyword::Not => !holds_any(tally),
+        Keyword::If => true,
+        Keyword::Contains => contains_passes(schema, value, tally),
+        Keyword::Assertion(_) => said,
+        Keyword::Other(_) => true,
         _ => holds_all(tally),
     }
 }

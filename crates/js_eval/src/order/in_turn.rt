@@ -1,20 +1,20 @@
 //! The members of a schema, one after another, each as a keyword with its turn (see `turn`).
 ghost use Rattle.std.specs.Prelude.{◌≡◌, ◌∷◌, [], List, MatchOption, map};
-ghost use Rattle.js_bundle.specs.declared.keyword_name.KeywordName.{KeywordName as Which};
+ghost use Rattle.js_keyword.specs.declared.keyword.Keyword.{Keyword as Which};
 ghost use Rattle.js_doc.specs.Seen.{pair_of};
 ghost use Rattle.js_eval.specs.code.Standard.{keyword_names_of};
 
 use crate::order::applying::Applying;
-use crate::order::keyword::Keyword;
+use crate::order::keyword::Member;
 use crate::order::keyword_in_turn::keyword_in_turn;
 use crate::order::turn::Turn;
-use js_bundle::KeywordName;
 use js_doc::{Doc, Members, Pairs};
+use js_keyword::{Keyword, OtherKeyword};
 
 /// The members that are left, and which keyword of the standard each of them is.
 #[derive(Drop)]
 pub(crate) struct Every<'a> {
-    names: &'a [KeywordName],
+    names: &'a [Keyword],
     pub(crate) left: Pairs<'a>,
     ghost in_step: { names.now ≡ keyword_names_of (map pair_of left) },
 }
@@ -25,7 +25,7 @@ impl<'a> Every<'a> {
     ghost use Rattle.js_eval.specs.code.Turns.{turn_of};
 
     /// Before the first of the members.
-    pub(crate) fn new(names: &'a [KeywordName], members: &'a Members) -> Every<'a>
+    pub(crate) fn new(names: &'a [Keyword], members: &'a Members) -> Every<'a>
         requires { names.now ≡ keyword_names_of members.now }
         ensures all { map pair_of result.left ≡ members.now }
         ensures ascending { IsAscending members.now }
@@ -38,7 +38,7 @@ impl<'a> Every<'a> {
 
     /// The next member, as a keyword, and its turn.
     #[inline(always)]
-    pub(crate) fn next_member(&mut self) -> Option<(Turn, Keyword<'a>)>
+    pub(crate) fn next_member(&mut self) -> Option<(Turn, Member<'a>)>
         ensures { MatchOption result ((map pair_of self.old.left ≡ []) × (map pair_of self.new.left ≡ []))
             (λ m. (map pair_of self.old.left ≡ keyword_of m.1 ∷ map pair_of self.new.left)
             × (m.0 ≡ turn_of m.1.name.now)) }
@@ -56,13 +56,13 @@ impl<'a> Every<'a> {
 }
 
 // The first name and the others.
-fn first_name(names: &[KeywordName]) -> (KeywordName, &[KeywordName])
+fn first_name(names: &[Keyword]) -> (Keyword, &[Keyword])
     ensures { (which : Which) (others : List Which) → names.now ≡ which ∷ others
         → (result.0 ≡ which) × (result.1.now ≡ others) }
 {
     match names.split_first() {
         Some((first, others)) => (*first, others),
-        None => (KeywordName::Assertion, names), // never: each member has a name
+        None => (Keyword::Other(OtherKeyword::Unknown), names), // never: each member has a name
     }
 }
 
@@ -80,7 +80,7 @@ impl<'a> InTurn<'a> {
 
     /// The next member, as a keyword, and its turn.
     #[inline(always)]
-    pub(crate) fn next_in_turn(&mut self) -> Option<(Turn, Keyword<'a>)>
+    pub(crate) fn next_in_turn(&mut self) -> Option<(Turn, Member<'a>)>
         ensures { MatchOption result ((members_left self.old ≡ []) × (members_left self.new ≡ []))
             (λ m. (members_left self.old ≡ keyword_of m.1 ∷ members_left self.new)
             × (m.0 ≡ turn_of m.1.name.now)) }

@@ -11,10 +11,10 @@ ghost use Rattle.js_eval.specs.Walk.Visited.{is_visited};
 use crate::instance::{names_ascend, object_in};
 use crate::order::applying::{Applying, has_applicator};
 use crate::order::in_turn::{Every, InTurn};
-use crate::order::keyword::Keyword;
+use crate::order::keyword::Member;
 use crate::order::turn::{Turn, is_ever};
-use js_bundle::KeywordName;
 use js_doc::{Doc, Members};
+use js_keyword::Keyword;
 
 /// The keywords of a schema that are still to come.
 #[derive(Drop)]
@@ -31,13 +31,13 @@ pub(crate) enum Keywords<'a> {
 #[derive(Drop)]
 pub(crate) struct KeywordCursor<'a> {
     pub(crate) is_past_if: bool,
-    pub(crate) deferred: Option<Keyword<'a>>,
+    pub(crate) deferred: Option<Member<'a>>,
     pub(crate) left: InTurn<'a>,
 }
 
 impl<'a> Keywords<'a> {
     /// The keywords of a schema that a walk visits. `names`: which keyword of the standard each of its members is.
-    pub(crate) fn new(names: &'a [KeywordName], schema: &'a Doc, quiet: bool) -> Keywords<'a>
+    pub(crate) fn new(names: &'a [Keyword], schema: &'a Doc, quiet: bool) -> Keywords<'a>
         requires { names.now ≡ keyword_names_of (entries (value_of schema.now)) }
         ensures all { keywords_in result ≡ filter (is_visited quiet) (table.keywords (value_of schema.now)) }
         ensures ascending { IsAscending (entries (value_of schema.now)) }
@@ -49,7 +49,7 @@ impl<'a> Keywords<'a> {
     }
 
     /// Whether a keyword of a schema may apply schemas. `names`: which keyword of the standard each of its members is.
-    pub(crate) fn may_apply(names: &[KeywordName], schema: &Doc) -> bool
+    pub(crate) fn may_apply(names: &[Keyword], schema: &Doc) -> bool
         requires { names.now ≡ keyword_names_of (entries (value_of schema.now)) }
         ensures none { result ≡ false → filter (is_visited true) (table.keywords (value_of schema.now)) ≡ [] }
         ensures ascending { IsAscending (entries (value_of schema.now)) }
@@ -63,7 +63,7 @@ impl<'a> Keywords<'a> {
         }
     }
 
-    fn among(names: &'a [KeywordName], members: &'a Members, quiet: bool) -> Keywords<'a>
+    fn among(names: &'a [Keyword], members: &'a Members, quiet: bool) -> Keywords<'a>
         requires { names.now ≡ keyword_names_of members.now }
         ensures all { keywords_in result ≡ in_order (filter (is_visited quiet) members.now) }
         ensures ascending { IsAscending members.now }
@@ -75,7 +75,7 @@ impl<'a> Keywords<'a> {
         }
     }
 
-    fn applying(names: &'a [KeywordName], members: &'a Members) -> Keywords<'a>
+    fn applying(names: &'a [Keyword], members: &'a Members) -> Keywords<'a>
         requires { names.now ≡ keyword_names_of members.now }
         ensures all { keywords_in result ≡ in_order (filter (is_visited true) members.now) }
         ensures ascending { IsAscending members.now }
@@ -86,7 +86,7 @@ impl<'a> Keywords<'a> {
 
     /// The next keyword. It isn't inlined, to keep its locals out of the recursive function's stack frame.
     #[inline(never)]
-    pub(crate) fn next(&mut self) -> Option<Keyword<'a>>
+    pub(crate) fn next(&mut self) -> Option<Member<'a>>
         ensures { MatchOption result (keywords_in self.old ≡ [])
             (λ k. keywords_in self.old ≡ keyword_of k ∷ keywords_in self.new) }
     {
@@ -109,7 +109,7 @@ impl<'a> KeywordCursor<'a> {
         }
     }
 
-    fn next(&mut self) -> Option<Keyword<'a>>
+    fn next(&mut self) -> Option<Member<'a>>
         ensures { MatchOption result (keywords_left self.old ≡ [])
             (λ k. keywords_left self.old ≡ keyword_of k ∷ keywords_left self.new) }
     {
@@ -120,7 +120,7 @@ impl<'a> KeywordCursor<'a> {
         }
     }
 
-    fn next_up_to_if(&mut self) -> Option<Keyword<'a>>
+    fn next_up_to_if(&mut self) -> Option<Member<'a>>
         requires { self.old.is_past_if ≡ false }
         ensures { MatchOption result (keywords_left self.old ≡ [])
             (λ k. keywords_left self.old ≡ keyword_of k ∷ keywords_left self.new) }
@@ -140,7 +140,7 @@ impl<'a> KeywordCursor<'a> {
         self.next_after_if()
     }
 
-    fn next_after_if(&mut self) -> Option<Keyword<'a>>
+    fn next_after_if(&mut self) -> Option<Member<'a>>
         requires { self.old.is_past_if ≡ true }
         ensures { MatchOption result (keywords_left self.old ≡ [])
             (λ k. keywords_left self.old ≡ keyword_of k ∷ keywords_left self.new) }
@@ -156,8 +156,8 @@ impl<'a> KeywordCursor<'a> {
 }
 
 // The keyword that is deferred already, or else this one.
-fn deferred_or<'a>(deferred: Option<Keyword<'a>>, keyword: Keyword<'a>) -> Option<Keyword<'a>>
-    ensures { (others : List table.Keyword)
+fn deferred_or<'a>(deferred: Option<Member<'a>>, keyword: Member<'a>) -> Option<Member<'a>>
+    ensures { (others : List table.Member)
         → deferred_or result others ≡ deferred_or deferred.entry (keyword_of keyword.entry ∷ []) }
 {
     match deferred {
@@ -167,8 +167,8 @@ fn deferred_or<'a>(deferred: Option<Keyword<'a>>, keyword: Keyword<'a>) -> Optio
 }
 
 // Returns the deferred keyword and defers this one in its place; without a deferred one, returns this one.
-fn deferred_before<'a>(deferred: &mut Option<Keyword<'a>>, keyword: Keyword<'a>) -> Keyword<'a>
-    ensures { (left : List table.Keyword)
+fn deferred_before<'a>(deferred: &mut Option<Member<'a>>, keyword: Member<'a>) -> Member<'a>
+    ensures { (left : List table.Member)
         → deferred_or deferred.old [] ++ keyword_of keyword.entry ∷ left
         ≡ keyword_of result ∷ (deferred_or deferred.new [] ++ left) }
 {
@@ -182,7 +182,7 @@ fn deferred_before<'a>(deferred: &mut Option<Keyword<'a>>, keyword: Keyword<'a>)
 }
 
 // The next member that has a node.
-fn next_ever<'a>(left: &mut InTurn<'a>) -> Option<Keyword<'a>>
+fn next_ever<'a>(left: &mut InTurn<'a>) -> Option<Member<'a>>
     ensures { MatchOption result (ever (members_left left.old) ≡ [])
         (λ k. ever (members_left left.old) ≡ keyword_of k ∷ ever (members_left left.new)) }
 {

@@ -6,7 +6,7 @@ use crate::evaluation::{HeldText, KeywordVerdict, Reporter, Trail, World};
 use crate::finished_world::FinishedSchemas;
 use crate::instance::Instance;
 use crate::keywords::notes::{Findings, make_keyword_note, make_schema_note};
-use crate::order::keyword::Keyword;
+use crate::order::keyword::Member;
 use crate::reporters::absolute::{absolute_keyword, absolute_schema};
 use js_bundle::Place;
 use js_doc::{Doc, Memory, Text};
@@ -43,7 +43,7 @@ impl<'a, C: Collector<'a>> Reporter<FinishedSchemas<'a>, HeldText> for Collectin
         alloc: Global,
         world: &FinishedSchemas<'a>,
         place: Place,
-        keyword: Keyword<'a>,
+        keyword: Member<'a>,
         keyword_location: &Trail<HeldText>,
         instance_location: &Trail<HeldText>,
     ) -> Result<(), Memory> {
@@ -58,7 +58,7 @@ impl<'a, C: Collector<'a>> Reporter<FinishedSchemas<'a>, HeldText> for Collectin
         world: &FinishedSchemas<'a>,
         place: Place,
         value: Instance<'a>,
-        keyword: Keyword<'a>,
+        keyword: Member<'a>,
         judged: KeywordVerdict,
         matching: u64,
         names: &[&'a str],
@@ -81,7 +81,7 @@ impl<'a, C: Collector<'a>> Reporter<FinishedSchemas<'a>, HeldText> for Collectin
         world: &FinishedSchemas<'a>,
         place: Place,
         value: Instance<'a>,
-        keyword: Keyword<'a>,
+        keyword: Member<'a>,
         judged: KeywordVerdict,
         matching: u64,
         keyword_location: &mut Trail<HeldText>,

@@ -8,7 +8,7 @@ use crate::evaluation::{HeldText, KeywordVerdict, Reporter, Trail, World};
 use crate::finished_world::FinishedSchemas;
 use crate::instance::Instance;
 use crate::keywords::notes::{Findings, make_keyword_note, make_schema_note};
-use crate::order::keyword::{Keyword, is_written_as_it_is};
+use crate::order::keyword::{Member, is_written_as_it_is};
 use js_bundle::Place;
 use js_doc::{Doc, Memory, push_fragment_token};
 use js_tree::RelativeRows;
@@ -56,7 +56,7 @@ impl<'a> Reporter<FinishedSchemas<'a>, HeldText> for Recording<'a> {
         _alloc: Global,
         world: &FinishedSchemas<'a>,
         place: Place,
-        keyword: Keyword<'a>,
+        keyword: Member<'a>,
         keyword_location: &Trail<HeldText>,
         instance_location: &Trail<HeldText>,
     ) -> Result<(), Memory> {
@@ -85,7 +85,7 @@ impl<'a> Reporter<FinishedSchemas<'a>, HeldText> for Recording<'a> {
         world: &FinishedSchemas<'a>,
         place: Place,
         value: Instance<'a>,
-        keyword: Keyword<'a>,
+        keyword: Member<'a>,
         judged: KeywordVerdict,
         matching: u64,
         names: &[&'a str],
@@ -109,7 +109,7 @@ impl<'a> Reporter<FinishedSchemas<'a>, HeldText> for Recording<'a> {
         world: &FinishedSchemas<'a>,
         place: Place,
         value: Instance<'a>,
-        keyword: Keyword<'a>,
+        keyword: Member<'a>,
         judged: KeywordVerdict,
         matching: u64,
         keyword_location: &mut Trail<HeldText>,
@@ -156,7 +156,7 @@ impl<'a> Recording<'a> {
     // Whether the row of a keyword's leaf may be added at once, below a schema's node at these locations.
     fn takes_leaf(
         &self,
-        keyword: Keyword<'a>,
+        keyword: Member<'a>,
         keyword_location: &Trail<HeldText>,
         instance_location: &Trail<HeldText>,
     ) -> bool

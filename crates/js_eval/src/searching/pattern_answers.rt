@@ -11,8 +11,9 @@ use crate::marks::is_marked;
 use crate::schema::patterns_in;
 use crate::schema_lookup::names_at;
 use crate::searching::searchers::{NamedPattern, Searchers, pattern_of};
-use js_bundle::{KeywordName, Place, Schemas};
+use js_bundle::{Place, Schemas};
 use js_doc::{Doc, Members, Memory, Pairs};
+use js_keyword::Keyword;
 use std::alloc::Global;
 
 /// Where an object has no more members than this, and a schema no more patterns than `FEW_PATTERNS`, what the patterns
@@ -181,9 +182,9 @@ pub(crate) fn keep_all<'p>(
 }
 
 // Whether a schema with these keywords has `patternProperties`.
-fn has_patterns(names: &[KeywordName]) -> bool {
+fn has_patterns(names: &[Keyword]) -> bool {
     for name in names {
-        if matches!(*name, KeywordName::PatternProperties) {
+        if matches!(*name, Keyword::PatternProperties) {
             return true;
         }
     }

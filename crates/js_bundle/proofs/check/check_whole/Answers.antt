@@ -6,7 +6,7 @@ use Rattle.js_bundle.specs.declared.scan.site.Site.{Site}
 use Rattle.js_bundle.specs.Candidate.{IsClear}
 use Rattle.js_bundle.specs.Finding.{dynamic_at, number_of_target}
 use Rattle.js_bundle.specs.code.PlaceNumbers.{under_number}
-use Rattle.js_bundle.specs.KeywordName.{member_keywords}
+use Rattle.js_bundle.specs.MemberKeywords.{member_keywords}
 use Rattle.js_bundle.specs.code.StoredLocation.{stored_location}
 use Rattle.js_bundle.specs.Refusals.{first_pass}
 use Rattle.js_bundle.specs.Resource as places

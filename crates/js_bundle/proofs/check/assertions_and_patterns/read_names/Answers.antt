@@ -1,9 +1,10 @@
 use Rattle.std.proofs.Common.{◌≡◌, List, [], ◌∷◌, ◌++◌, map, OnOk, IfErr, bytes_eq, codes}
-use Rattle.std.proofs.Common.{if◌then◌else◌, sym, ap, ◌∙◌, subst}
+use Rattle.std.proofs.Common.{if◌then◌else◌, Bool, true, false, not, refl, sym, ap, ◌∙◌, subst}
 use Rattle.std.specs.List.{flat_map}
 use Rattle.js_doc.specs.Parts.{members_of}
 use Rattle.js_doc.specs.Seen.{value_of}
 use Rattle.js_doc.specs.Value.{Value, Named, object, members}
+use Rattle.js_doc.proofs.TokenLookup.{is_text-sound}
 use Rattle.js_doc.proofs.PartLists.{member_list-members}
 use Rattle.js_bundle.specs.AssertionsAndPatterns.{pattern_at}
 use Rattle.js_bundle.specs.Candidate.{IsClear, IsStopped}
@@ -26,20 +27,31 @@ rules_are : (place : Site) (ms : Named) {k : Text} {v : Value} → k ≡ codes "
 rules_are place ms {k} is seen =
     made_of (flat_map (λ (n : Text × Value). at_pattern place (k ∷ n.0 ∷ []) n.0)) ms is seen
 
+keyword_is : (differs : Bool) (k name : Text) → differs ≡ not (bytes_eq k name) → differs ≡ false
+    → name ≡ codes "patternProperties" → k ≡ codes "patternProperties"
+keyword_is differs k name e same is = at (bytes_eq k name) refl (sym e ∙ same)
+  where
+    at : (b : Bool) → bytes_eq k name ≡ b → not b ≡ false → k ≡ codes "patternProperties"
+    at true equal h = is_text-sound k name equal ∙ is
+    at false equal h = absurd (let z : true ≡ false = h in cc)
+
 pub returns-in-Members-clause-clear : goal.returns-in-Members-clause-clear
 returns-in-Members-clause-clear c =
+    let is = keyword_is c.ne.result c.args.at.keyword.now c.name.result.now c.ne.ensures c.if-ne.false c.name.ensures in
     subst (λ cs. OnOk c.read_patterns.result (IsClear cs))
-    (rules_are (site_of c.args.at.site.now) _ c.in-patternProperties.is (ap value_of c.in-Members.is))
+    (rules_are (site_of c.args.at.site.now) _ is (ap value_of c.in-Members.is))
     c.read_patterns.ensures.clear
 
 pub returns-in-Members-clause-built : goal.returns-in-Members-clause-built
 returns-in-Members-clause-built c =
+    let is = keyword_is c.ne.result c.args.at.keyword.now c.name.result.now c.ne.ensures c.if-ne.false c.name.ensures in
     subst (λ ps. OnOk c.read_patterns.result (c.read_patterns.new.out.items ≡ c.args.out.now.items ++ ps))
-    (made_of (map pattern_at) c.in-Members.members c.in-patternProperties.is (ap value_of c.in-Members.is))
+    (made_of (map pattern_at) c.in-Members.members is (ap value_of c.in-Members.is))
     c.read_patterns.ensures.built
 
 pub returns-in-Members-clause-err : goal.returns-in-Members-clause-err
 returns-in-Members-clause-err c =
+    let is = keyword_is c.ne.result c.args.at.keyword.now c.name.result.now c.ne.ensures c.if-ne.false c.name.ensures in
     subst (λ cs. IfErr c.read_patterns.result (IsStopped cs))
-    (rules_are (site_of c.args.at.site.now) _ c.in-patternProperties.is (ap value_of c.in-Members.is))
+    (rules_are (site_of c.args.at.site.now) _ is (ap value_of c.in-Members.is))
     c.read_patterns.ensures.err

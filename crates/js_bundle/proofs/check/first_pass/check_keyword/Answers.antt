@@ -1,5 +1,5 @@
 use Rattle.std.proofs.Common.{[], ◌∷◌, ◌++◌, List, not, map, Result, OnOk}
-use Rattle.std.proofs.lemmas.Result.{err_from_is_err_and}
+use Rattle.std.proofs.lemmas.Result.{IfErr-weaker, err_from_is_err_and}
 use Rattle.js_doc.specs.Seen.{value_of}
 use Rattle.js_doc.specs.Value.{Value}
 use Rattle.js_bundle.specs.declared.check.fault.CheckFault.{CheckFault}
@@ -42,6 +42,15 @@ stopped_by_text before site k v e shaped read h =
     (stopped_later (assertion_rules site k v) after e read
     (stopped_here (texts before site k v) (name_rules site k v) e h))
 
+stopped_by_names : (before : List Site) (site : Site) (k : Text) (v : Value) (e : CheckFault) → IsClear (shape site k v)
+    → IsClear (assertion_rules site k v) → IsClear (texts before site k v) → IsStopped (name_rules site k v) e
+    → IsStopped (at_member before site (k, v)) e
+stopped_by_names before site k v e shaped read texted h =
+    let after = texts before site k v ++ name_rules site k v in
+    stopped_later (shape site k v) (assertion_rules site k v ++ after) e shaped
+    (stopped_later (assertion_rules site k v) after e read
+    (stopped_later (texts before site k v) (name_rules site k v) e texted h))
+
 all_clear : {A : Type 0} (before : List Site) (site : Site) (k : Text) (v : Value) (r : Result A CheckFault)
     → IsClear (shape site k v) → IsClear (assertion_rules site k v) → IsClear (texts before site k v)
     → OnOk r (IsClear (name_rules site k v)) → OnOk r (IsClear (at_member before site (k, v)))
@@ -72,6 +81,16 @@ returns-in_err-check_argument-clause-err c =
     rw (p.1, p.2) (stopped_by_text (map site_of c.args.known.sites.now) (site_of c.args.at.site.now)
     c.args.at.keyword.now (value_of c.args.argument.now) c.in_err-check_argument.field-0.0
     c.in_ok-check_shape.ensures.ok c.in_ok-assertion.ensures.clear c.in_err-check_argument.ensures.err)
+
+pub returns-clause-err : goal.returns-clause-err
+returns-clause-err c =
+    let before = map site_of c.args.known.sites.now in
+    let site = site_of c.args.at.site.now in
+    let k = c.args.at.keyword.now in
+    let v = value_of c.args.argument.now in
+    IfErr-weaker c.read_names.result (IsStopped (name_rules site k v)) (IsStopped (at_member before site (k, v)))
+    (λ e h. stopped_by_names before site k v e c.in_ok-check_shape.ensures.ok c.in_ok-assertion.ensures.clear
+    c.in_ok-check_argument.ensures.ok h) c.read_names.ensures.err
 
 pub returns-clause-clear : goal.returns-clause-clear
 returns-clause-clear c =

@@ -1,7 +1,7 @@
 use Rattle.std.proofs.Common.{◌+◌, [], map, take, drop, arith}
 use Rattle.std.proofs.lemmas.Result.{err_from_is_err_and}
 use Rattle.js_bundle.specs.AssertionsAndPatterns.{assertions_at, patterns_at}
-use Rattle.js_bundle.specs.KeywordName.{member_keywords}
+use Rattle.js_bundle.specs.MemberKeywords.{member_keywords}
 use Rattle.js_bundle.specs.Refusals.{at_site, first_pass}
 use Rattle.js_bundle.specs.code.Scan.{site_of}
 use Rattle.js_bundle.proofs.Indexing.PartsOfPlaces.{grouped_next}

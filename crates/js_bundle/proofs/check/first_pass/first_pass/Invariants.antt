@@ -2,7 +2,7 @@ use Rattle.std.proofs.Common.{[], map, take, drop, option_map, MatchOption}
 use Rattle.js_bundle.specs.AssertionsAndPatterns.{assertions_at, patterns_at}
 use Rattle.js_bundle.specs.code.Positions.{BeginTexts, IsLast}
 use Rattle.js_bundle.specs.code.Leads.{Leads}
-use Rattle.js_bundle.specs.KeywordName.{member_keywords}
+use Rattle.js_bundle.specs.MemberKeywords.{member_keywords}
 use Rattle.js_bundle.specs.Refusals.{first_pass}
 use Rattle.js_bundle.specs.code.Scan.{site_of}
 use Rattle.js_bundle.proofs.Indexing.PartsOfPlaces.{ArePartsSoFar}

@@ -1,6 +1,6 @@
 use Rattle.std.proofs.Common.{◌≡◌, find, bytes_eq, drop}
 use Rattle.js_assert.specs.Assertion.{Asserted}
-use Rattle.js_assert.specs.Keyword.{name_of}
+use Rattle.js_keyword.specs.AssertionKeyword.{name_of}
 use Rattle.js_bundle.proofs.finished.place_keywords.find_assertion.Given as goal
 
 abbrev pub invariant-loop-one : goal.invariant-loop-one

@@ -11,7 +11,8 @@ use Rattle.js_assert.specs.Argument.{entries}
 use Rattle.js_doc.specs.Members.{get}
 use Rattle.js_doc.specs.Seen.{value_of}
 use Rattle.js_eval.proofs.AskedNothing.{none_of_each}
-use Rattle.js_eval.proofs.NothingStandsIn.{patterns_named}
+use Rattle.js_keyword.proofs.KeywordNames.{known_by_name}
+use Rattle.js_keyword.specs.declared.keyword.Keyword.TheVariants.{PatternProperties}
 use Rattle.js_eval.proofs.PatternsAt.{patterns_are}
 use Rattle.js_eval.proofs.keywords.objects.patterns.Goals as goal
 
@@ -24,7 +25,7 @@ on_matching-requires-clause-patterns c =
     let at = c.args.start.now.at.now in
     let schema = value_of at.schema.now in
     let argument = value_of at.keyword.argument.now in
-    let named = patterns_named at.keyword.name.now (sym at.keyword.known ∙ c.requires.kind) in
+    let named = known_by_name at.keyword.name.now PatternProperties (sym at.keyword.known ∙ c.requires.kind) refl in
     let has : get (codes "patternProperties") (entries schema) ≡ Some argument =
     subst (λ name. get name (entries schema) ≡ Some argument) named c.requires.keyword in
     patterns_are documents at.place schema c.requires.place argument has c.in-Some.patterns.now
