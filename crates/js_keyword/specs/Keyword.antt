@@ -1,5 +1,5 @@
--- The keywords of JSON Schema 2020-12, in one table: of each its name, what it does, and what its argument is; and which
--- keyword a name is.
+-- The keywords of JSON Schema 2020-12: of each its name, what it does, and what its argument is, in one table; and
+-- which keyword a name is.
 use Rattle.std.specs.Prelude.{ℕ, List, [], ◌∷◌, ◌++◌, Bool, true, false, Option, Some, None, codes, map, unwrap_or}
 use Rattle.std.specs.Prelude.{if◌then◌else◌}
 use Rattle.std.specs.Str.{bytes_eq}
