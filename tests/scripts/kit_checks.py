@@ -8,7 +8,7 @@ from tests.support.programs import HOME, TimeoutExpired, answer_of, no_end
 
 BENCHES = {"benchmarks/finish": ["--most", "1000", "places"], "benchmarks/merge": ["alike"],
            "benchmarks/walk": ["items"]}
-BENCH_CRATES = ("js_doc", "js_assert", "js_bundle", "js_tree", "js_eval")
+BENCH_CRATES = ("js_doc", "js_keyword", "js_assert", "js_bundle", "js_tree", "js_eval")
 
 
 def of_benches(room):
