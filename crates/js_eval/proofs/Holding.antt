@@ -4,8 +4,9 @@ use Rattle.std.proofs.Common.{sym, ◌∙◌, ap}
 use Rattle.js_assert.specs.Argument.{entries, values}
 use Rattle.js_bundle.specs.Place.{items_in}
 use Rattle.js_bundle.specs.Place as bundle
-use Rattle.js_bundle.specs.Ranked.{HoldsAtRank, applies_at, is_alone, is_index, is_name}
-use Rattle.js_bundle.specs.Schemas.{Step, Alone, Index, Name}
+use Rattle.js_bundle.specs.Ranked.{HoldsAtRank, applies_at}
+use Rattle.js_keyword.specs.declared.argument_form.Holding.TheVariants as held
+use Rattle.js_bundle.specs.Schemas.{Step, Alone, Index, Name, fits}
 use Rattle.js_doc.specs.Members.{get}
 use Rattle.js_doc.specs.Parts.{item_list, members_of}
 use Rattle.js_doc.specs.Value.{Value, null, truth, whole, text, list, object, Items, no_items, item}
@@ -36,13 +37,13 @@ ranked_by : (w : Keyword) (name : List ℕ) (step : Step) → w ≡ which_keywor
     → applies_at (which_keyword name) step ≡ true
 ranked_by w name step e h = ap (λ x. applies_at x step) (sym e) ∙ h
 
-pub one_ranked : (w : Keyword) (v : Value) (k : Member) → w ≡ which_keyword k.0 → applies_at w ≡ is_alone
+pub one_ranked : (w : Keyword) (v : Value) (k : Member) → w ≡ which_keyword k.0 → applies_at w ≡ fits held.One
     → IsIn v k → HoldsAtRank v k.0 Alone 0 k.1
 one_ranked w v k d f g =
     (ranked_by w k.0 Alone d (ap (λ t. t Alone) f), (k.1, argument_is v k g, (refl, refl)))
 
 pub item_ranked : (w : Keyword) (v : Value) (k : Member) (i : ℕ) (u : Value) → w ≡ which_keyword k.0
-    → applies_at w ≡ is_index → IsIn v k → slice_get (values k.1) i ≡ Some u
+    → applies_at w ≡ fits held.Listed → IsIn v k → slice_get (values k.1) i ≡ Some u
     → HoldsAtRank v k.0 (Index i) i u
 item_ranked w v k i u d f g h = (
   ranked_by w k.0 (Index i) d (ap (λ t. t (Index i)) f),
@@ -50,7 +51,7 @@ item_ranked w v k i u d f g h = (
 )
 
 pub member_ranked : (w : Keyword) (v : Value) (k : Member) (name : List ℕ) (r : ℕ) (u : Value)
-    → w ≡ which_keyword k.0 → applies_at w ≡ is_name → IsIn v k
+    → w ≡ which_keyword k.0 → applies_at w ≡ fits held.Named → IsIn v k
     → slice_get (entries k.1) r ≡ Some (name, u) → HoldsAtRank v k.0 (Name name) r u
 member_ranked w v k name r u d f g h = (
   ranked_by w k.0 (Name name) d (ap (λ t. t (Name name)) f),

@@ -7,7 +7,7 @@ use Rattle.std.proofs.Common.{sym, ◌∙◌, ap, subst}
 use Rattle.std.proofs.lemmas.Bool.{and_parts}
 use Rattle.std.proofs.lemmas.Slice.Eq.{bytes_eq-Decides}
 use Rattle.js_keyword.proofs.KeywordNames as names
-use Rattle.js_keyword.proofs.KeywordNames.{is_known, is_applicator, assertion_which, known_by_name, which_by_name}
+use Rattle.js_keyword.proofs.KeywordNames.{is_known, is_listed, assertion_which, known_by_name, which_by_name}
 use Rattle.js_keyword.specs.AssertionKeyword.{name_of, keyword_named}
 use Rattle.js_keyword.specs.declared.assertion_keyword.AssertionKeyword.{AssertionKeyword}
 use Rattle.js_keyword.specs.declared.assertion_keyword.AssertionKeyword.TheVariants.{«Type»}
@@ -70,7 +70,7 @@ module _ (q : List ℕ → Keyword → Bool) (name : List ℕ) where
       → list_all (λ k. q (row_of k).name k) applicators ≡ true
       → (o : Option Keyword) → among applicators name ≡ o → q name (which_keyword name) ≡ true
   by_applicator f h rows (Some k) e =
-      ap (q name) (sym (is_applicator name k e)) ∙ among_has q applicators name k rows e
+      ap (q name) (sym (is_listed applicators name k e)) ∙ among_has q applicators name k rows e
   by_applicator f h rows None e = by_assertion f h e (keyword_named name) refl
 
 pub by_keyword : (q : List ℕ → Keyword → Bool) → ((name : List ℕ) (a : AssertionKeyword) → q name (Assertion a) ≡ true)

@@ -45,7 +45,7 @@ impl<'a> World for FinishedSchemas<'a> {
 
     type Schema = &'a Doc;
 
-    type Keyword = Keyword<'a>;
+    type Keyword = Member<'a>;
 
     type Keywords = Keywords<'a>;
 

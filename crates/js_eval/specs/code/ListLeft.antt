@@ -4,7 +4,9 @@ use Rattle.js_assert.specs.Argument.{values}
 use Rattle.js_bundle.specs.Document.{Documents}
 use Rattle.js_bundle.specs.Resource.{Site}
 use Rattle.js_doc.specs.Seen.{value_of}
-use Rattle.js_bundle.specs.Ranked.{applies_at, is_index}
+use Rattle.js_bundle.specs.Ranked.{applies_at}
+use Rattle.js_keyword.specs.declared.argument_form.Holding.TheVariants as held
+use Rattle.js_bundle.specs.Schemas.{fits}
 use Rattle.js_eval.specs.Applications.{Application, application, indexed_from}
 use Rattle.js_eval.specs.Bundle.{schemas_of}
 use Rattle.js_eval.specs.SchemaSet.{Alone, Index}
@@ -23,6 +25,6 @@ list_asked documents c =
 -- the list is that of the keyword of a place with this schema
 abbrev pub IsList : Documents → ListCursor → Type 0
 IsList documents c =
-    IsSchemaAt documents c.at.place (value_of c.at.schema.now) × (applies_at c.at.keyword.which ≡ is_index)
+    IsSchemaAt documents c.at.place (value_of c.at.schema.now) × (applies_at c.at.keyword.which ≡ fits held.Listed)
     × IsIn (value_of c.at.schema.now) (keyword_of c.at.keyword)
     × (map value_of c.list.now ≡ values (value_of c.at.keyword.argument.now))

@@ -7,7 +7,9 @@ use Rattle.js_doc.specs.Seen.{pair_of, value_of}
 use Rattle.js_doc.specs.Members.{IsAscending}
 use Rattle.js_doc.specs.Value as doc
 use Rattle.js_doc.specs.declared.doc.Doc.{Doc}
-use Rattle.js_bundle.specs.Ranked.{applies_at, is_name}
+use Rattle.js_bundle.specs.Ranked.{applies_at}
+use Rattle.js_keyword.specs.declared.argument_form.Holding.TheVariants as held
+use Rattle.js_bundle.specs.Schemas.{fits}
 use Rattle.js_eval.specs.Applications.{Application, application}
 use Rattle.js_eval.specs.Bundle.{schemas_of}
 use Rattle.js_eval.specs.SchemaSet.{Name, Text}
@@ -44,7 +46,7 @@ AreLeft all rank names = map pair_of names ≡ drop rank all
 -- the names are those of the keyword of a place with this schema, and both sides ascend
 abbrev pub IsNames : Documents → NameCursor → Type 0
 IsNames documents c =
-    IsSchemaAt documents c.at.place (value_of c.at.schema.now) × (applies_at c.at.keyword.which ≡ is_name)
+    IsSchemaAt documents c.at.place (value_of c.at.schema.now) × (applies_at c.at.keyword.which ≡ fits held.Named)
     × IsIn (value_of c.at.schema.now) (keyword_of c.at.keyword)
     × AreLeft (entries (value_of c.at.keyword.argument.now)) c.rank c.names × (c.rank + length c.names < 2 ^ 64)
     × IsAscending (map pair_of c.names) × IsAscending (members_among c.among)

@@ -3,7 +3,9 @@ use Rattle.std.specs.Prelude.{◌≡◌, ℕ, Bool, true, false, List, Option, m
 use Rattle.js_doc.specs.Seen.{value_of}
 use Rattle.js_doc.specs.Value.{Named, Value}
 use Rattle.js_bundle.specs.Document.{Documents}
-use Rattle.js_bundle.specs.Ranked.{applies_at, is_alone}
+use Rattle.js_bundle.specs.Ranked.{applies_at}
+use Rattle.js_keyword.specs.declared.argument_form.Holding.TheVariants as held
+use Rattle.js_bundle.specs.Schemas.{fits}
 use Rattle.js_bundle.specs.Resource.{Site}
 use Rattle.js_eval.specs.Applications.{Application, application, if_fails, if_holds}
 use Rattle.js_eval.specs.Bundle.{schemas_of}
@@ -24,7 +26,7 @@ HoldsBy steps k = (applies_at k.keyword.which ≡ steps) × IsIn (value_of k.sch
 
 -- the place has the schema, and the schema has the keyword, which holds one schema
 abbrev pub HoldsOne : Documents → KeywordAt → Type 0
-HoldsOne documents k = IsAtPlace documents k × HoldsBy is_alone k
+HoldsOne documents k = IsAtPlace documents k × HoldsBy (fits held.One) k
 
 -- the schema that a step through the keyword leads to, on a value that a step leads to
 abbrev pub by_keyword : Documents → KeywordAt → Step → Step → Value → Application Site

@@ -4,7 +4,8 @@
 ghost use Rattle.std.specs.Prelude.{◌≡◌, ◌∷◌, ◌+◌, ◌<◌, ◌^◌, [], MatchOption, Some, filter, length, map, slice_get};
 ghost use Rattle.js_doc.specs.Members.{IsAscending};
 ghost use Rattle.js_doc.specs.Value as doc;
-ghost use Rattle.js_bundle.specs.Ranked.{is_name};
+ghost use Rattle.js_keyword.specs.declared.argument_form.Holding.TheVariants as held;
+ghost use Rattle.js_bundle.specs.Schemas.{fits};
 ghost use Rattle.js_eval.specs.code.Asked.{IsApplied, IsNext};
 ghost use Rattle.js_eval.specs.code.NamesLeft.{AreLeft, IsNames, members_among, names_asked, names_left};
 ghost use Rattle.js_eval.specs.code.Starting.{HoldsBy, IsAtPlace, on_namesakes};
@@ -39,7 +40,7 @@ pub(crate) enum Among<'a> {
 impl<'a> NameCursor<'a> {
     /// The schema of each name that a member has, applied to the member.
     pub fn new(at: &KeywordAt<'a>, named: &'a Members, among: Among<'a>) -> NameCursor<'a>
-        requires at { HoldsBy is_name at.now }
+        requires at { HoldsBy (fits held.Named) at.now }
         requires named { named.now ≡ entries (value_of at.now.keyword.argument.now) }
         requires ascend { IsAscending (members_among among) }
         ensures asked { (documents : Documents) → names_asked documents result

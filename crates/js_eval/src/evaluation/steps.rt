@@ -322,7 +322,15 @@ fn may_drop<W: World, H: PointerText + Drop, R: Reporter<W, H>>(
         true ≡ silent }
     ensures drops { result ≡ true → DropsSilent R.takes into.now }
 {
-    matches!(world.kind(keyword), Keyword::Assertion(_)) && into.drops_silent()
+    is_assertion(world.kind(keyword)) && into.drops_silent()
+}
+
+// Whether it judges a value by itself.
+#[inline(always)]
+fn is_assertion(kind: Keyword) -> bool
+    ensures { result ≡ is_assertion kind }
+{
+    matches!(kind, Keyword::Assertion(_))
 }
 
 // Whether all keywords of the place pass that apply no schemas. They are judged if they aren't yet, for

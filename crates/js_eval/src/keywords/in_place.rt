@@ -1,6 +1,7 @@
 //! Keywords that apply schemas to the value itself: `allOf`, `anyOf`, `oneOf` and `not` (Core, section 10.2.1). What
 //! they apply, when they pass, and their errors.
-ghost use Rattle.js_bundle.specs.Ranked.{is_index};
+ghost use Rattle.js_keyword.specs.declared.argument_form.Holding.TheVariants as held;
+ghost use Rattle.js_bundle.specs.Schemas.{fits};
 ghost use Rattle.js_eval.specs.Applications.{indexed};
 ghost use Rattle.js_eval.specs.Passes.{all, any, how_many};
 ghost use Rattle.js_eval.specs.code.Asked.{IsAsking, asked};
@@ -25,7 +26,7 @@ use std::alloc::Global;
 
 /// Each schema of a keyword's list, applied to the value itself.
 pub(crate) fn each_in_list<'a>(start: &CursorStart<'_, 'a>) -> Asking<'a>
-    requires { HoldsBy is_index start.now.at.now }
+    requires { HoldsBy (fits held.Listed) start.now.at.now }
     ensures asked { (documents : Documents) → asked documents result
         ≡ map (λ e. by_keyword documents start.now.at.now (spec.Index e.0) spec.Alone (instance_of start.now.value))
         (indexed (value_of start.now.at.now.keyword.argument.now)) }

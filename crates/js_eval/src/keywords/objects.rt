@@ -1,7 +1,8 @@
 //! Keywords for objects: what they apply, and their annotations (Core, section 10.3.2). They apply nothing if the
 //! value, or an argument that should be an object, isn't one.
 ghost use Rattle.js_assert.specs.Pattern.{matches};
-ghost use Rattle.js_bundle.specs.Ranked.{is_name};
+ghost use Rattle.js_keyword.specs.declared.argument_form.Holding.TheVariants as held;
+ghost use Rattle.js_bundle.specs.Schemas.{fits};
 ghost use Rattle.js_doc.specs.Members.{IsAscending};
 ghost use Rattle.js_doc.specs.Value.{text};
 ghost use Rattle.js_eval.specs.Applications.{among_names, is_property, matches_pattern};
@@ -55,7 +56,7 @@ const PER_NAME: usize = 2;
 /// # Errors
 /// `Memory` if an allocation fails.
 pub(crate) fn properties<'a>(start: &CursorStart<'_, 'a>) -> Result<Asking<'a>, Memory>
-    requires { HoldsBy is_name start.now.at.now }
+    requires { HoldsBy (fits held.Named) start.now.at.now }
     ensures asked { IfOk result (λ a. (documents : Documents) → asked documents a
         ≡ on_namesakes documents start.now.at.now
         (filter (λ m. has m.0 (entries (value_of start.now.at.now.keyword.argument.now)))
@@ -78,7 +79,7 @@ fn named_members<'a>(
     named: &'a Members,
     members: &'a Members,
 ) -> Result<Asking<'a>, Memory>
-    requires at { HoldsBy is_name at.now }
+    requires at { HoldsBy (fits held.Named) at.now }
     requires named { named.now ≡ entries (value_of at.now.keyword.argument.now) }
     ensures asked { IfOk result (λ a. (documents : Documents) → asked documents a
         ≡ on_namesakes documents at.now (filter (λ m. has m.0 named.now) members.now)) }

@@ -4,6 +4,7 @@ ghost use Rattle.js_assert.specs.Assertion.{asserted};
 ghost use Rattle.js_eval.specs.Passes.{how_many, passes_of};
 ghost use Rattle.js_eval.specs.Walk.Progress.{IsKeywordAt, passes_at};
 ghost use Rattle.js_eval.specs.code.Terms.{IsSchemaAt, instance_of, keyword_of, numbered_site, schemas_of, value_of};
+ghost use Rattle.js_keyword.specs.declared.assertion_keyword.AssertionKeyword.{AssertionKeyword};
 ghost use Rattle.js_keyword.specs.declared.keyword.Keyword.TheVariants.{Assertion as AssertionKind};
 ghost use Rattle.std.specs.Option.{option_map_or};
 ghost use Rattle.std.specs.Prelude.{Bool, IfOk, List, length, true, ℕ, ◌≡◌};
@@ -67,7 +68,8 @@ pub(crate) fn passes_by_count(
     tally: Tally,
 ) -> bool
     ensures { (matching : ℕ) (k : table.Member) (verdicts : List Bool)
-        → (kind ≡ AssertionKind → option_map_or (λ a. spec.says a (instance_of value.entry) matching)
+        → ((which : AssertionKeyword) → kind ≡ AssertionKind which
+        → option_map_or (λ a. spec.says a (instance_of value.entry) matching)
         (asserted k.0 k.1 (entries (value_of schema.now))) true ≡ said)
         → length verdicts ≡ tally.asked → how_many verdicts ≡ tally.succeeded
         → result ≡ passes_of (entries (value_of schema.now)) (instance_of value.entry) matching k verdicts kind }

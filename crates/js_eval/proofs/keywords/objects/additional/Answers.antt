@@ -17,8 +17,9 @@ returns-clause-asked c =
     ∙ ap (λ ms. on_members s.schemas.now s.at.now (filter (λ m. not (is_named c.properties_in-properties.result m.0
     || is_matched c.patterns_in-patterns.result m.0)) ms)) c.in-Some.ensures
     ∙ ap (on_members s.schemas.now s.at.now)
-    (additional_by c.properties_in-properties.result c.patterns_in-patterns.result (entries (value_of s.at.now.schema.now))
-    (entries (instance_of s.value)) c.properties_in-properties.ensures c.patterns_in-patterns.ensures.is)
+    (additional_by c.properties_in-properties.result c.patterns_in-patterns.result
+    (entries (value_of s.at.now.schema.now)) (entries (instance_of s.value)) c.properties_in-properties.ensures
+    c.patterns_in-patterns.ensures.is)
 
 pub invariant_of-choice-clause-there : goal.invariant_of-choice-clause-there
 invariant_of-choice-clause-there c = c.requires.0.0
@@ -35,5 +36,6 @@ returns-then-are_all_named-clause-asked c =
     let keywords = entries (value_of s.at.now.schema.now) in
     sym (ap (on_members s.schemas.now s.at.now)
     (ap (filter (λ m. not (is_property keywords m.0 || matches_pattern keywords m.0))) (sym c.in-Some.ensures)
-    ∙ none_additional c.properties_in-properties.result keywords c.in-Some.members.now c.properties_in-properties.ensures
+    ∙ none_additional c.properties_in-properties.result keywords c.in-Some.members.now
+    c.properties_in-properties.ensures
     (c.are_all_named.ensures c.if-are_all_named.true)))
