@@ -1,4 +1,4 @@
--- What an assertion says of a value (JSON Schema Validation, section 6). Each family of keywords has a table of its own.
+-- What an assertion says of a value (JSON Schema Validation, section 6). Each family has a table of its own.
 use Rattle.std.specs.Prelude.{ℕ, List, Bool, Option, Some, None, option_map, codes, refl}
 use Rattle.std.specs.Coded.{Coded, code_by, coded×, coded_bool}
 use Rattle.js_doc.specs.Value.{Value, Named}
