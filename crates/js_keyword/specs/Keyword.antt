@@ -1,4 +1,4 @@
--- The keywords of JSON Schema 2020-12, in one table: of each its name, what it does, and what its argument is; and which
+-- The keywords of JSON Schema 2020-12, in one table: of each its name, what it does and what its argument is; and which
 -- keyword a name is.
 use Rattle.std.specs.Prelude.{ℕ, List, [], ◌∷◌, ◌++◌, Bool, true, false, Option, Some, None, codes, map, unwrap_or}
 use Rattle.std.specs.Prelude.{if◌then◌else◌}
