@@ -15,7 +15,13 @@ use Rattle.js_doc.proofs.PlainTokens.{all_kept, all_plain, all_stand, kept_too}
 use Rattle.js_keyword.proofs.KeywordNames.{is_known, known_by_name}
 use Rattle.js_keyword.specs.AssertionKeyword.{name_of}
 use Rattle.js_keyword.specs.declared.assertion_keyword.AssertionKeyword.{AssertionKeyword}
-use Rattle.js_keyword.specs.declared.assertion_keyword.AssertionKeyword.TheVariants.{«Type»}
+use Rattle.js_keyword.specs.declared.assertion_keyword.AssertionKeyword.TheVariants.{AnyType, Number, String, Array}
+use Rattle.js_keyword.specs.declared.assertion_keyword.AssertionKeyword.TheVariants.{Object}
+use Rattle.js_keyword.specs.declared.assertion_keyword.AnyTypeKeyword.TheVariants.{«Type»}
+use Rattle.js_keyword.specs.declared.assertion_keyword.NumberKeyword.TheVariants.{MultipleOf}
+use Rattle.js_keyword.specs.declared.assertion_keyword.StringKeyword.TheVariants.{MaxLength}
+use Rattle.js_keyword.specs.declared.assertion_keyword.ArrayKeyword.TheVariants.{MaxItems}
+use Rattle.js_keyword.specs.declared.assertion_keyword.ObjectKeyword.TheVariants.{MaxProperties}
 use Rattle.js_keyword.specs.Keyword.{row_of, which_keyword}
 use Rattle.js_eval.specs.code.Standard.{IsWrittenAsItIs}
 use Rattle.js_keyword.specs.declared.keyword.Keyword.{Keyword}
@@ -28,7 +34,11 @@ abbrev IsPlain : List ℕ → Type 0
 IsPlain name = list_all is_plain name ≡ true
 
 plain_assertion : (a : AssertionKeyword) → IsPlain (name_of a)
-plain_assertion «Type» = refl
+plain_assertion (AnyType «Type») = refl
+plain_assertion (Number MultipleOf) = refl
+plain_assertion (String MaxLength) = refl
+plain_assertion (Array MaxItems) = refl
+plain_assertion (Object MaxProperties) = refl
 plain_assertion _ = refl
 
 plain_unless_other : (k : Keyword) → ((other : OtherKeyword) → k ≡ Other other → ⊥) → IsPlain (row_of k).name

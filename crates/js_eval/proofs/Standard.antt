@@ -10,7 +10,13 @@ use Rattle.js_keyword.proofs.KeywordNames as names
 use Rattle.js_keyword.proofs.KeywordNames.{is_known, is_listed, assertion_which, known_by_name, which_by_name}
 use Rattle.js_keyword.specs.AssertionKeyword.{name_of, keyword_named}
 use Rattle.js_keyword.specs.declared.assertion_keyword.AssertionKeyword.{AssertionKeyword}
-use Rattle.js_keyword.specs.declared.assertion_keyword.AssertionKeyword.TheVariants.{«Type»}
+use Rattle.js_keyword.specs.declared.assertion_keyword.AssertionKeyword.TheVariants.{AnyType, Number, String, Array}
+use Rattle.js_keyword.specs.declared.assertion_keyword.AssertionKeyword.TheVariants.{Object}
+use Rattle.js_keyword.specs.declared.assertion_keyword.AnyTypeKeyword.TheVariants.{«Type»}
+use Rattle.js_keyword.specs.declared.assertion_keyword.NumberKeyword.TheVariants.{MultipleOf}
+use Rattle.js_keyword.specs.declared.assertion_keyword.StringKeyword.TheVariants.{MaxLength}
+use Rattle.js_keyword.specs.declared.assertion_keyword.ArrayKeyword.TheVariants.{MaxItems}
+use Rattle.js_keyword.specs.declared.assertion_keyword.ObjectKeyword.TheVariants.{MaxProperties}
 use Rattle.js_assert.specs.Argument.{entries}
 use Rattle.js_bundle.specs.Document.{Documents}
 use Rattle.js_keyword.specs.Keyword.{row_of, applicators, others, among, which_keyword}
@@ -124,7 +130,11 @@ side_turn false = refl
 
 assertion_turn : (a : AssertionKeyword) → turn_of (name_of a) ≡ turn_by_side (name_of a)
 unfolding turn_of
-assertion_turn «Type» = refl
+assertion_turn (AnyType «Type») = refl
+assertion_turn (Number MultipleOf) = refl
+assertion_turn (String MaxLength) = refl
+assertion_turn (Array MaxItems) = refl
+assertion_turn (Object MaxProperties) = refl
 assertion_turn _ = refl
 
 known_turn : (k : Keyword) → is_known k ≡ true → turn_of (row_of k).name ≡ turn_by_keyword k (row_of k).name

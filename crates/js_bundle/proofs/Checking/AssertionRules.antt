@@ -10,7 +10,8 @@ use Rattle.js_assert.specs.Shape as assertion
 use Rattle.js_assert.specs.Shape.{takes, is_string, IsKeywordFault}
 use Rattle.js_assert.specs.Pattern.{is_in_grammar, nests_too_deep, is_pattern}
 use Rattle.js_keyword.proofs.KeywordNames.{named_by_name}
-use Rattle.js_keyword.specs.declared.assertion_keyword.AssertionKeyword.TheVariants.{Pattern}
+use Rattle.js_keyword.specs.declared.assertion_keyword.AssertionKeyword.TheVariants.{String}
+use Rattle.js_keyword.specs.declared.assertion_keyword.StringKeyword.TheVariants.{Pattern}
 use Rattle.js_bundle.specs.declared.refusal.RefusalKind.{RefusalKind}
 use Rattle.js_bundle.specs.declared.refusal.RefusalKind.TheVariants as kind
 use Rattle.js_bundle.specs.declared.check.fault.CheckFault.{CheckFault}
@@ -83,7 +84,7 @@ stopped_shape place k argument e h r =
 -- the shape of a pattern's argument is a text
 string_shaped : (k : Text) (v : Value) → k ≡ codes "pattern" → assertion.has_shape k v ≡ is_string v
 string_shaped k v e = ap (λ x. assertion.has_shape x v) e
-    ∙ ap (λ o. option_map_or (takes v) o true) (named_by_name Pattern)
+    ∙ ap (λ o. option_map_or (takes v) o true) (named_by_name (String Pattern))
 
 given_one : (b : Bool) (place : Site) (further : Tokens) (what : RefusalKind) (e : CheckFault)
     → IsRefusalOrMemory (refusal_at place further what) e → IsStopped (given b place further what) e

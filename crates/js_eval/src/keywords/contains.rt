@@ -17,7 +17,7 @@ use crate::keywords::arrays::{are_all_items, from_index};
 use crate::keywords::in_place::holds_any;
 use crate::schema::argument_in;
 use js_doc::{Doc, Memory, Whole};
-use js_keyword::AssertionKeyword;
+use js_keyword::{ArrayKeyword, AssertionKeyword};
 use js_tree::{Indexes, Note};
 use std::alloc::Global;
 
@@ -47,7 +47,7 @@ pub(crate) fn contains_passes(schema: &Doc, value: Instance<'_>, tally: Tally) -
 fn may_hold_none(schema: &Doc) -> bool
     ensures { result ≡ may_contain_none (entries (value_of schema.now)) }
 {
-    match argument_in(schema, AssertionKeyword::MinContains.name()) {
+    match argument_in(schema, AssertionKeyword::Array(ArrayKeyword::MinContains).name()) {
         Some(least) => *least == Doc::Whole(Whole::from_u64(0)),
         None => false,
     }
