@@ -221,10 +221,10 @@ fn joined_kind(base: &Url, text: &str) -> Result<Option<UpgradeFaultKind>, Memor
 /// `Memory`.
 pub(crate) fn reference_kind(
     alloc: Global,
-    scope: Scope<'_>,
+    scope: &Scope<'_>,
     found: Option<&Doc>,
 ) -> Result<Option<UpgradeFaultKind>, Memory>
-    ensures { IfOk result (λ k. k ≡ reference_kind (all_of scope.entry.resources.now) scope.entry.base.now
+    ensures { IfOk result (λ k. k ≡ reference_kind (all_of scope.now.resources.now) scope.now.base.now
         (option_map (λ d. value_of d.now) found.entry)) }
 {
     match found {
@@ -242,11 +242,11 @@ pub(crate) fn reference_kind(
 
 fn text_kind(
     alloc: Global,
-    scope: Scope<'_>,
+    scope: &Scope<'_>,
     reference: &str,
 ) -> Result<Option<UpgradeFaultKind>, Memory>
     ensures { IfOk result (λ k. k
-        ≡ target_kind (all_of scope.entry.resources.now) (uri_joined scope.entry.base.now reference.now)) }
+        ≡ target_kind (all_of scope.now.resources.now) (uri_joined scope.now.base.now reference.now)) }
 {
     if usual_target(scope, reference).is_some() {
         return Ok(None);
@@ -256,11 +256,11 @@ fn text_kind(
 
 fn unusual_kind(
     alloc: Global,
-    scope: Scope<'_>,
+    scope: &Scope<'_>,
     reference: &str,
 ) -> Result<Option<UpgradeFaultKind>, Memory>
     ensures { IfOk result (λ k. k
-        ≡ target_kind (all_of scope.entry.resources.now) (uri_joined scope.entry.base.now reference.now)) }
+        ≡ target_kind (all_of scope.now.resources.now) (uri_joined scope.now.base.now reference.now)) }
 {
     match local_fragment(reference) {
         Some(fragment) => {

@@ -21,6 +21,14 @@ pub(crate) struct Scope<'r> {
     ghost local: { here ≡ position_from (has_uri (local_uri base.now)) 0 (all_of resources.now) },
 }
 
+/// Where a schema stands among the roots that copies are made of, and among all resources.
+#[derive(Clone, Copy)]
+pub(crate) struct Scopes<'r> {
+    pub roots: Scope<'r>,
+    pub all: Scope<'r>,
+    ghost based: { roots.base.now ≡ all.base.now },
+}
+
 /// The number of the resource that a reference leads to which is a fragment alone.
 ///
 /// # Errors

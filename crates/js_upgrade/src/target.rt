@@ -38,9 +38,9 @@ use url::Url;
 ///
 /// # Errors
 /// `Memory`.
-pub(crate) fn rewritten(alloc: Global, scope: Scope<'_>, value: &Doc) -> Result<Doc, Memory>
+pub(crate) fn rewritten(alloc: Global, scope: &Scope<'_>, value: &Doc) -> Result<Doc, Memory>
     ensures { IfOk result (λ d. value_of d
-        ≡ rewritten (all_of scope.entry.resources.now) scope.entry.base.now (value_of value.now)) }
+        ≡ rewritten (all_of scope.now.resources.now) scope.now.base.now (value_of value.now)) }
 {
     match value {
         Doc::Text(text) => Ok(Doc::Text(text_rewritten(alloc, scope, text.as_str())?)),
@@ -48,9 +48,9 @@ pub(crate) fn rewritten(alloc: Global, scope: Scope<'_>, value: &Doc) -> Result<
     }
 }
 
-fn text_rewritten(alloc: Global, scope: Scope<'_>, reference: &str) -> Result<Text, Memory>
+fn text_rewritten(alloc: Global, scope: &Scope<'_>, reference: &str) -> Result<Text, Memory>
     ensures { IfOk result (λ t. t
-        ≡ followed (all_of scope.entry.resources.now) reference.now (uri_joined scope.entry.base.now reference.now)) }
+        ≡ followed (all_of scope.now.resources.now) reference.now (uri_joined scope.now.base.now reference.now)) }
 {
     match usual_target(scope, reference) {
         Some(target) => usual_text(alloc, target, reference),
@@ -58,9 +58,9 @@ fn text_rewritten(alloc: Global, scope: Scope<'_>, reference: &str) -> Result<Te
     }
 }
 
-fn unusual_rewritten(alloc: Global, scope: Scope<'_>, reference: &str) -> Result<String, Memory>
+fn unusual_rewritten(alloc: Global, scope: &Scope<'_>, reference: &str) -> Result<String, Memory>
     ensures { IfOk result (λ s. string_bytes s
-        ≡ followed (all_of scope.entry.resources.now) reference.now (uri_joined scope.entry.base.now reference.now)) }
+        ≡ followed (all_of scope.now.resources.now) reference.now (uri_joined scope.now.base.now reference.now)) }
 {
     match local_fragment(reference) {
         Some(fragment) => {
