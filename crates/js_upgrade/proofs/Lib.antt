@@ -8,6 +8,7 @@ pub mod AsciiNames
 pub mod ByCases
 pub mod ClearDocuments
 pub mod ClearValues
+pub mod CopiedTargets
 pub mod CopiesAscend
 pub mod CopyLoops
 pub mod DocumentExamples
@@ -37,6 +38,7 @@ pub mod NamesApart
 pub mod OneStep
 pub mod OriginalExamples
 pub mod Origins
+pub mod OwnNames
 pub mod Outcome
 pub mod PartsAt
 pub mod Placing

@@ -36,7 +36,7 @@ use Rattle.js_upgrade.specs.code.Local.{is_fragment_byte, kept_fragment, local_f
 
 -- ---- what such a reference consists of
 
-abbrev IsLocal : Text → Text → Type 0
+abbrev pub IsLocal : Text → Text → Type 0
 IsLocal t fragment = (t ≡ 35 ∷ fragment) × (nat_lt uri_limit (length t) ≡ false)
     × (list_all is_fragment_byte fragment ≡ true)
 
@@ -56,7 +56,7 @@ local_by b bs fragment true is found =
     (ap (λ c. c ∷ bs) (eqb-true b 35 is)) found
 local_by b bs fragment false is found = absurd (cc)
 
-is_local : (t fragment : Text) → local_fragment t ≡ Some fragment → IsLocal t fragment
+pub is_local : (t fragment : Text) → local_fragment t ≡ Some fragment → IsLocal t fragment
 is_local [] fragment is = absurd (cc)
 is_local (b ∷ bs) fragment is = local_by b bs fragment (b == 35) refl is
 

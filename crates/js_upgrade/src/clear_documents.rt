@@ -2,6 +2,7 @@
 ghost use Rattle.std.specs.Prelude.{◌≡◌, ◌++◌, IfOk, None, OnOk, false, map, true};
 ghost use Rattle.js_doc.specs.Seen.{value_of};
 ghost use Rattle.js_upgrade.specs.Fault.{schema_fault};
+ghost use Rattle.js_upgrade.specs.Resource.{own_base};
 ghost use Rattle.js_upgrade.specs.Seen.{resource_seen, source_of};
 ghost use Rattle.js_upgrade.specs.Upgrade.{own_dialect};
 ghost use Rattle.js_upgrade.specs.code.Clear.{AreClear, IsClearBelow, IsClearDocument, IsClearInside, IsClearRoot};
@@ -161,6 +162,7 @@ fn is_clear_below<'r>(
     base: &'r Url,
     siblings: &Members,
 ) -> Result<bool, Memory>
+    requires { base.now ≡ own_base dialect uri.now siblings.now }
     ensures { IfOk result (λ b. b ≡ true
         → IsClearBelow (all_of roots.now) (all_of resources.now) dialect uri.now base.now siblings.now) }
 {
@@ -190,6 +192,7 @@ fn has_fault(
     uri: &Url,
     siblings: &Members,
 ) -> Result<bool, Memory>
+    requires { scope.now.base.now ≡ own_base dialect uri.now siblings.now }
     ensures { IfOk result (λ b. b ≡ false → schema_fault AnyOfThese (all_of scope.now.resources.now)
         dialect dialect uri.now scope.now.base.now siblings.now ≡ None) }
 {

@@ -177,7 +177,8 @@ fn target_in<'t>(resource: &Resource<'_>, reference: &'t str) -> Option<UsualTar
     })
 }
 
-fn has_in(definitions: Option<&Members>, name: &str) -> bool
+/// Whether the definitions have the name.
+pub(crate) fn has_in(definitions: Option<&Members>, name: &str) -> bool
     ensures { result ≡ has_in definitions.entry name.now }
 {
     match definitions {

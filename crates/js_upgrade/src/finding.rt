@@ -4,6 +4,7 @@ ghost use Rattle.js_doc.specs.Seen.{value_of};
 ghost use Rattle.js_doc.specs.Value.{items, members, object};
 ghost use Rattle.js_upgrade.specs.Fault.{at_keyword, deeper, fault_in, item_fault, member_fault, other_fault};
 ghost use Rattle.js_upgrade.specs.Fault.{name_fault, reference_fault, schema_fault, unevaluated_fault};
+ghost use Rattle.js_upgrade.specs.Resource.{own_base};
 ghost use Rattle.js_upgrade.specs.Seen.{found_of};
 ghost use Rattle.js_upgrade.specs.Upgrade.{holding_in};
 ghost use Rattle.js_upgrade.specs.code.FaultBelow.{fault_below};
@@ -97,11 +98,12 @@ fn schema_fault(
     base: &Url,
     siblings: &Members,
 ) -> Result<Option<FoundFault>, Memory>
+    requires { scope.now.base.now ≡ own_base own base.now siblings.now }
     ensures { IfOk result (λ f. option_map found_of f ≡ schema_fault pass (all_of scope.now.resources.now)
         dialect own base.now scope.now.base.now siblings.now) }
 {
     match pass {
-        Pass::Names => name_fault(alloc, dialect, own, base, siblings),
+        Pass::Names => name_fault(alloc, dialect, own, base, scope.base, siblings),
         Pass::References => reference_fault(alloc, scope, own, siblings),
         Pass::Unevaluated => unevaluated_fault(alloc, own, siblings),
         Pass::Contained => at_keyword(alloc, "contains", contained_kind(own, siblings)),
@@ -121,10 +123,11 @@ pub(crate) fn any_fault(
     base: &Url,
     siblings: &Members,
 ) -> Result<Option<FoundFault>, Memory>
+    requires { scope.now.base.now ≡ own_base own base.now siblings.now }
     ensures { IfOk result (λ f. option_map found_of f ≡ schema_fault AnyOfThese (all_of scope.now.resources.now)
         dialect own base.now scope.now.base.now siblings.now) }
 {
-    let name = name_fault(alloc, dialect, own, base, siblings)?;
+    let name = name_fault(alloc, dialect, own, base, scope.base, siblings)?;
     if name.is_some() {
         return Ok(name);
     }
@@ -135,20 +138,24 @@ pub(crate) fn any_fault(
     unevaluated_fault(alloc, own, siblings)
 }
 
+// `below` is the schema's own base.
 fn name_fault(
     alloc: Global,
     dialect: Dialect,
     own: Dialect,
     base: &Url,
+    below: &Url,
     siblings: &Members,
 ) -> Result<Option<FoundFault>, Memory>
+    requires { below.now ≡ own_base own base.now siblings.now }
     ensures { IfOk result (λ f. option_map found_of f ≡ name_fault dialect own base.now siblings.now) }
 {
     let declared = declared_kind(dialect, siblings);
     if declared.is_some() {
         return at_keyword(alloc, "$schema", declared);
     }
-    at_keyword(alloc, identifier(own), own_kind(own, base, siblings)?)
+    let named = own_kind(own, base, below, siblings)?;
+    at_keyword(alloc, identifier(own), named)
 }
 
 fn reference_fault(
@@ -274,6 +281,7 @@ fn fault_below(
     base: &Url,
     siblings: &Members,
 ) -> Result<Option<FoundFault>, Memory>
+    requires { scope.now.base.now ≡ own_base own base.now siblings.now }
     ensures { IfOk result (λ f. option_map found_of f ≡ fault_below pass (all_of scope.now.resources.now)
         dialect own base.now scope.now.base.now siblings.now) }
 {

@@ -5,12 +5,14 @@ ghost use Rattle.js_upgrade.specs.Fault.{anchor_kind, contained_kind, contains_k
 ghost use Rattle.js_upgrade.specs.Fault.{dialect_kind, has_recursive_name, unevaluated_kind};
 ghost use Rattle.js_upgrade.specs.Fault.{identifier_kind, joined_kind, no_dialect, own_kind, part_at, recursion_kind};
 ghost use Rattle.js_upgrade.specs.Fault.{recursive_kind, reference_kind, target_tokens, target_kind, unnamed};
+ghost use Rattle.js_upgrade.specs.Resource.{own_base};
 ghost use Rattle.js_upgrade.specs.Seen.{resource_seen};
 ghost use Rattle.js_upgrade.specs.Url.{uri_joined};
 ghost use Rattle.js_upgrade.specs.code.Table.{all_of};
 ghost use Rattle.js_upgrade.specs.declared.fault.UpgradeFaultKind.TheVariants.{Unresolved};
 
 use crate::containing::holder;
+use crate::copied_target::copied_target;
 use crate::definitions::usual_target;
 use crate::dialect::Dialect;
 use crate::fault::UpgradeFaultKind;
@@ -163,22 +165,25 @@ fn has_recursive_name(found: Option<&Doc>) -> bool
     }
 }
 
-/// Of the schema's identifier, unless a reference hides it.
+/// Of the schema's identifier, unless a reference hides it. `below` is the schema's own base: where it isn't that around
+/// the schema, the identifier was joined with that.
 ///
 /// # Errors
 /// `Memory`.
 pub(crate) fn own_kind(
     own: Dialect,
     base: &Url,
+    below: &Url,
     siblings: &Members,
 ) -> Result<Option<UpgradeFaultKind>, Memory>
+    requires { below.now ≡ own_base own base.now siblings.now }
     ensures { IfOk result (λ k. k ≡ own_kind own base.now siblings.now) }
 {
     let uri = found(siblings, identifier(own));
     if uri.is_none() {
         return Ok(None);
     }
-    if hides(own, siblings) {
+    if hides(own, siblings) || uri_printed(below) != uri_printed(base) {
         Ok(None)
     } else {
         identifier_kind(base, uri)
@@ -248,7 +253,7 @@ fn text_kind(
     ensures { IfOk result (λ k. k
         ≡ target_kind (all_of scope.now.resources.now) (uri_joined scope.now.base.now reference.now)) }
 {
-    if usual_target(scope, reference).is_some() {
+    if usual_target(scope, reference).is_some() || copied_target(scope, reference).is_some() {
         return Ok(None);
     }
     unusual_kind(alloc, scope, reference)

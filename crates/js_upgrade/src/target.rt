@@ -16,6 +16,7 @@ ghost use Rattle.js_upgrade.specs.code.Table.{all_of};
 ghost use Rattle.js_upgrade.specs.declared.holding.SchemaHolding.TheVariants.{One};
 
 use crate::anchor_name::{is_settled, spelled_text};
+use crate::copied_target::{copied_target, copied_text};
 use crate::copy_name::redirected;
 use crate::definitions::{usual_target, usual_text};
 use crate::dialect::Dialect;
@@ -54,6 +55,17 @@ fn text_rewritten(alloc: Global, scope: &Scope<'_>, reference: &str) -> Result<T
 {
     match usual_target(scope, reference) {
         Some(target) => usual_text(alloc, target, reference),
+        None => text_unusual(alloc, scope, reference),
+    }
+}
+
+// Of a reference that isn't usual.
+fn text_unusual(alloc: Global, scope: &Scope<'_>, reference: &str) -> Result<Text, Memory>
+    ensures { IfOk result (λ t. t
+        ≡ followed (all_of scope.now.resources.now) reference.now (uri_joined scope.now.base.now reference.now)) }
+{
+    match copied_target(scope, reference) {
+        Some(name) => copied_text(alloc, name),
         None => Ok(Text::new(unusual_rewritten(alloc, scope, reference)?)),
     }
 }

@@ -182,3 +182,9 @@ fault_in_schema-returns-in-None t c =
     (ap (λ u. unwrap_or u base) (sym c.in-None.is ∙ c.in_ok-found.ensures)) in
     let call = c.fault_below-in-None in
     subst (λ f. IfOk call.result (λ g. option_map found_of g ≡ f)) same call.ensures
+
+pub fault_in_schema-fault_below-requires : goal.fault_in_schema-fault_below-requires
+fault_in_schema-fault_below-requires t c = (
+  omega (arith, c.decreases),
+  ap (λ u. unwrap_or u c.args.scope.now.base.now) (sym c.in-Some.is ∙ c.in_ok-found.ensures),
+)

@@ -1,4 +1,4 @@
-use Rattle.std.proofs.Common.{ℕ, List, ap, ◌∙◌, arith, map, refl, subst, sym}
+use Rattle.std.proofs.Common.{ℕ, List, ap, arith, map, refl, subst, sym}
 use Rattle.std.proofs.lemmas.List.{drop_all}
 use Rattle.js_doc.specs.Seen.{value_of, pair_of}
 use Rattle.js_doc.specs.Value.{items, members}
