@@ -38,7 +38,6 @@ pub mod NamesApart
 pub mod OneStep
 pub mod OriginalExamples
 pub mod Origins
-pub mod OwnNames
 pub mod Outcome
 pub mod PartsAt
 pub mod Placing
