@@ -157,7 +157,8 @@ fn is_text(found: Option<&Doc>) -> bool
 #[cycle(clear)]
 pub(crate) fn are_clear_keywords(scopes: &Scopes<'_>, dialect: Dialect, siblings: &Members) -> bool
     ensures { result ≡ true → AreClearMembers (all_of scopes.now.roots.resources.now)
-        (all_of scopes.now.all.resources.now) (holding_in dialect siblings.now) dialect scopes.now.all.base.now (members siblings.now) }
+        (all_of scopes.now.all.resources.now) (holding_in dialect siblings.now) dialect scopes.now.all.base.now
+        (members siblings.now) }
 {
     let hidden = hides(dialect, siblings);
     for (name, argument) in siblings.pairs() {

@@ -165,8 +165,8 @@ fn has_recursive_name(found: Option<&Doc>) -> bool
     }
 }
 
-/// Of the schema's identifier, unless a reference hides it. `below` is the schema's own base: where it isn't that around
-/// the schema, the identifier was joined with that.
+/// Of the schema's identifier, unless a reference hides it. `below` is the schema's own base: where it isn't the one
+/// around the schema, the identifier could be joined.
 ///
 /// # Errors
 /// `Memory`.

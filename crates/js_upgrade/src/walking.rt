@@ -1,11 +1,11 @@
 //! A value in which schemas are upgraded, and their references rewritten where it is known where they may lead.
-ghost use Rattle.std.specs.Prelude.{◌≡◌, IfOk, Some, map, option_map};
+ghost use Rattle.std.specs.Prelude.{◌≡◌, IfOk, Some, map};
 ghost use Rattle.js_doc.specs.Seen.{value_of};
 ghost use Rattle.js_doc.specs.Value.{items, members, object};
 ghost use Rattle.js_upgrade.specs.Reference.{as_it_is, relocated};
 ghost use Rattle.js_upgrade.specs.Upgrade.{holding_by_change, upgraded};
 ghost use Rattle.js_upgrade.specs.code.Placed.{argument_at, items_placed, keywords_placed, members_placed, place_below};
-ghost use Rattle.js_upgrade.specs.code.Placed.{scope_seen, placed};
+ghost use Rattle.js_upgrade.specs.code.Placed.{placed, scope_at, scope_seen};
 ghost use Rattle.js_upgrade.specs.code.Table.{all_of};
 ghost use Rattle.js_upgrade.specs.declared.holding.SchemaHolding.TheVariants.{One};
 
@@ -62,7 +62,7 @@ fn placed(
     value: &Doc,
 ) -> Result<Doc, Memory>
     ensures { IfOk result
-        (λ d. value_of d ≡ placed holding dialect (option_map (λ s. scope_seen s.now) scope.entry) (value_of value.now)) }
+        (λ d. value_of d ≡ placed holding dialect (scope_at scope.entry) (value_of value.now)) }
 {
     match value {
         Doc::Members(members) => match holding {
@@ -97,7 +97,7 @@ fn schema_placed(
     siblings: &Members,
 ) -> Result<Members, Memory>
     ensures { IfOk result (λ m. object (members m)
-        ≡ placed One dialect (option_map (λ s. scope_seen s.now) scope.entry) (object (members siblings.now))) }
+        ≡ placed One dialect (scope_at scope.entry) (object (members siblings.now))) }
 {
     let own = own_dialect(dialect, siblings);
     match scope {
@@ -139,7 +139,7 @@ fn keywords_placed(
     siblings: &Members,
 ) -> Result<Members, Memory>
     ensures { IfOk result
-        (λ m. m ≡ keywords_placed own (option_map (λ s. scope_seen s.now) scope.entry) siblings.now) }
+        (λ m. m ≡ keywords_placed own (scope_at scope.entry) siblings.now) }
 {
     let hidden = hides(own, siblings);
     let mut keywords = Members::new(alloc);
@@ -161,8 +161,8 @@ fn argument_placed(
     argument: &Doc,
 ) -> Result<Doc, Memory>
     ensures { IfOk result (λ d. value_of d
-        ≡ argument_at (option_map (λ s. scope_seen s.now) scope.entry) change (value_of argument.now)
-        (placed (holding_by_change change) dialect (option_map (λ s. scope_seen s.now) scope.entry) (value_of argument.now))) }
+        ≡ argument_at (scope_at scope.entry) change (value_of argument.now)
+        (placed (holding_by_change change) dialect (scope_at scope.entry) (value_of argument.now))) }
 {
     match scope {
         Some(scope) => match change {
@@ -192,7 +192,7 @@ fn members_placed(
     dialect: Dialect,
     schemas: &Members,
 ) -> Result<Members, Memory>
-    ensures { IfOk result (λ m. m ≡ members_placed (λ name. One) as_it_is dialect (option_map (λ s. scope_seen s.now) scope.entry)
+    ensures { IfOk result (λ m. m ≡ members_placed (λ name. One) as_it_is dialect (scope_at scope.entry)
         (members schemas.now)) }
 {
     let mut out = Members::new(alloc);
@@ -211,7 +211,7 @@ fn items_placed(
     schemas: &Items,
 ) -> Result<Items, Memory>
     ensures { IfOk result
-        (λ vs. vs ≡ items_placed dialect (option_map (λ s. scope_seen s.now) scope.entry) (items schemas.now)) }
+        (λ vs. vs ≡ items_placed dialect (scope_at scope.entry) (items schemas.now)) }
 {
     let docs = schemas.as_slice();
     let mut out = Vec::with_capacity(alloc, docs.len())?;

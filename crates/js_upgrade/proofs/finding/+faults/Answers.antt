@@ -162,14 +162,16 @@ pub fault_below-returns : goal.fault_below-returns
 fault_below-returns t c =
     let all = all_of c.args.scope.now.resources.now in
     let siblings = c.args.siblings.now in
-    let same = schema_goes_on c.args.pass all c.args.dialect c.args.own c.args.base.now c.args.scope.now.base.now siblings
+    let same = schema_goes_on c.args.pass all c.args.dialect c.args.own c.args.base.now c.args.scope.now.base.now
+    siblings
     c.in_ok-here.here c.in_ok-here.ensures (sym c.is_some.ensures ∙ c.if-is_some.false) in
     subst (λ f. IfOk c.fault_in_keywords.result (λ g. option_map found_of g ≡ f)) same c.fault_in_keywords.ensures
 
 pub fault_in_schema-returns-in_ok-number_here-in-Some : goal.fault_in_schema-returns-in_ok-number_here-in-Some
 fault_in_schema-returns-in_ok-number_here-in-Some t c =
     let base = c.args.scope.now.base.now in
-    let same = schema_is c.args.pass (all_of c.args.scope.now.resources.now) c.args.dialect c.own_dialect-own.result base
+    let same = schema_is c.args.pass (all_of c.args.scope.now.resources.now) c.args.dialect c.own_dialect-own.result
+    base
     c.in-Some.below c.args.siblings.now c.own_dialect-own.ensures
     (ap (λ u. unwrap_or u base) (sym c.in-Some.is ∙ c.in_ok-found.ensures)) in
     subst (λ f. IfOk c.fault_below.result (λ g. option_map found_of g ≡ f)) same c.fault_below.ensures
@@ -177,7 +179,8 @@ fault_in_schema-returns-in_ok-number_here-in-Some t c =
 pub fault_in_schema-returns-in-None : goal.fault_in_schema-returns-in-None
 fault_in_schema-returns-in-None t c =
     let base = c.args.scope.now.base.now in
-    let same = schema_is c.args.pass (all_of c.args.scope.now.resources.now) c.args.dialect c.own_dialect-own.result base
+    let same = schema_is c.args.pass (all_of c.args.scope.now.resources.now) c.args.dialect c.own_dialect-own.result
+    base
     base c.args.siblings.now c.own_dialect-own.ensures
     (ap (λ u. unwrap_or u base) (sym c.in-None.is ∙ c.in_ok-found.ensures)) in
     let call = c.fault_below-in-None in
