@@ -167,6 +167,11 @@ bare_stays base query fragment =
     ap (λ q. uri_printed (uri_without_fragment (with_tail base q None))) query
     ∙ ap uri_printed (without_tail base query fragment)
 
+pub bare_itself : (base : Parts) → base.query ≡ None → base.fragment ≡ None → uri_without_fragment base ≡ base
+unfolding uri_without_fragment
+bare_itself base query fragment =
+    ap (λ q. with_tail base q None) query ∙ (λ i. record base { query = sym query i; fragment = sym fragment i })
+
 pub none_there : (o : Option (Bor Text)) (q : Option Text) (b : Bool) → option_copied o ≡ q → is_some o ≡ not b
     → b ≡ true → q ≡ None
 none_there None q b seen none is = sym seen
