@@ -30,13 +30,9 @@ use Rattle.js_upgrade.specs.declared.fault.UpgradeFaultKind.TheVariants.{Unresol
 use Rattle.js_upgrade.specs.declared.holding.SchemaHolding.TheVariants.{One}
 use Rattle.js_upgrade.proofs.LocalFragments.{is_local, local_followed, local_kind}
 use Rattle.js_upgrade.proofs.UsualReferences.{all_ascii}
-use Rattle.js_upgrade.proofs.UsualTargets.{defs_tokens, its_definitions, its_dialect, moved_from}
+use Rattle.js_upgrade.proofs.UsualTargets.{defs_tokens, its_definitions, its_dialect, moved_from, not_so}
 
 -- ---- the pointer that the fragment is
-
-not_so : (b : Bool) → not b ≡ true → b ≡ false
-not_so true is = absurd (cc)
-not_so false is = refl
 
 undecoded : (bs : Text) → list_all is_path_byte bs ≡ true → percent_decode bs ≡ bs
 undecoded [] is = percent_decode-nil
@@ -48,24 +44,19 @@ undecoded (b ∷ bs) is =
 abbrev IsRead : Text → Text → Type 0
 IsRead token bs = (tokens : Tokens) × (tokens_read false token bs ≡ Some tokens)
 
+untilded : (token : Text) (b : ℕ) (bs : Text) (slash : Bool) → (b == 47) ≡ slash → (b == 126) ≡ false
+    → tokens_read false token (b ∷ bs)
+    ≡ cond slash (option_map (λ p. token ∷ p) (tokens_read false [] bs)) (tokens_read false (token ++ b ∷ []) bs)
+untilded token b bs slash is tilde =
+    let on = λ (c : Bool). cond c (option_map (λ p. token ∷ p) (tokens_read false [] bs))
+    (tokens_read false (token ++ b ∷ []) bs) in
+    ap (λ c. cond c (tokens_read true token bs) (on (b == 47))) tilde ∙ ap on is
+
 read_by : (token : Text) (b : ℕ) (bs : Text) (slash : Bool) → (b == 47) ≡ slash → (b == 126) ≡ false → IsRead [] bs
     → IsRead (token ++ b ∷ []) bs → IsRead token (b ∷ bs)
-read_by token b bs true is tilde below on = (
-  token ∷ below.0,
-  ap (λ c. cond c (tokens_read true token bs) (cond (b == 47) (option_map (λ p. token ∷ p) (tokens_read false [] bs))
-      (tokens_read false (token ++ b ∷ []) bs))) tilde
-      ∙ ap (λ c. cond c (option_map (λ p. token ∷ p) (tokens_read false [] bs))
-      (tokens_read false (token ++ b ∷ []) bs)) is
-      ∙ ap (option_map (λ p. token ∷ p)) below.1,
-)
-read_by token b bs false is tilde below on = (
-  on.0,
-  ap (λ c. cond c (tokens_read true token bs) (cond (b == 47) (option_map (λ p. token ∷ p) (tokens_read false [] bs))
-      (tokens_read false (token ++ b ∷ []) bs))) tilde
-      ∙ ap (λ c. cond c (option_map (λ p. token ∷ p) (tokens_read false [] bs))
-      (tokens_read false (token ++ b ∷ []) bs)) is
-      ∙ on.1,
-)
+read_by token b bs true is tilde below on =
+    (token ∷ below.0, untilded token b bs true is tilde ∙ ap (option_map (λ p. token ∷ p)) below.1)
+read_by token b bs false is tilde below on = (on.0, untilded token b bs false is tilde ∙ on.1)
 
 all_read : (token bs : Text) → list_all is_path_byte bs ≡ true → IsRead token bs
 all_read token [] is = (token ∷ [], refl)
