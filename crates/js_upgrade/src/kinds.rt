@@ -18,13 +18,12 @@ use crate::dialect::Dialect;
 use crate::fault::UpgradeFaultKind;
 use crate::lookup::found;
 use crate::resource::Resource;
-use crate::resource_table::{ResourceTable, resource_named, resource_numbered};
+use crate::resource_table::{ResourceTable, resource_numbered, resource_of};
 use crate::schema::{dialect_in, hides, identifier, identifies, is_uri};
 use crate::scope::Scope;
 use crate::target::moved_in;
 use crate::uri::{
     URI_LIMIT, fragment_pointer, local_fragment, pointer_in, uri_joined, uri_printed,
-    uri_without_fragment,
 };
 use js_doc::{Doc, Members, Memory, Pointer};
 use std::alloc::Global;
@@ -304,12 +303,7 @@ fn leads_nowhere(alloc: Global, resources: &ResourceTable<'_>, uri: Url) -> Resu
     ensures { IfOk result (λ b. b ≡ is_none (target_tokens (all_of resources.now) uri)) }
 {
     let pointer = fragment_pointer(alloc, &uri)?;
-    let bare = uri_without_fragment(uri)?;
-    has_no_part(
-        alloc,
-        &pointer,
-        resource_named(resources, uri_printed(&bare)),
-    )
+    has_no_part(alloc, &pointer, resource_of(resources, &uri)?)
 }
 
 fn has_no_part(

@@ -24,12 +24,10 @@ use crate::holding::SchemaHolding;
 use crate::identifier::before_mark;
 use crate::moving::moved_tokens;
 use crate::resource::Resource;
-use crate::resource_table::{ResourceTable, resource_named, resource_numbered};
+use crate::resource_table::{ResourceTable, resource_numbered, resource_of};
 use crate::schema::own_dialect;
 use crate::scope::Scope;
-use crate::uri::{
-    fragment_pointer, local_fragment, pointer_in, uri_joined, uri_printed, uri_without_fragment,
-};
+use crate::uri::{local_fragment, pointer_in, uri_joined};
 use js_doc::{Doc, Memory, Pointer, Text};
 use percent_encoding::percent_decode;
 use std::alloc::Global;
@@ -98,19 +96,10 @@ fn followed(
     ensures { IfOk result (λ s. string_bytes s ≡ followed (all_of resources.now) reference.now uri) }
 {
     match uri {
-        Some(uri) => match fragment_pointer(alloc, &uri)? {
-            Some(pointer) => {
-                let bare = uri_without_fragment(uri)?;
-                let resource = resource_named(resources, uri_printed(&bare));
-                at_pointer(alloc, reference, &pointer, resource)
-            }
-            None => {
-                let named = respelled(alloc, reference, uri.fragment().unwrap_or(""))?;
-                let bare = uri_without_fragment(uri)?;
-                let resource = resource_named(resources, uri_printed(&bare));
-                respelled_in(alloc, reference, named, resource)
-            }
-        },
+        Some(uri) => {
+            let resource = resource_of(resources, &uri)?;
+            in_resource(alloc, reference, uri.fragment().unwrap_or(""), resource)
+        }
         None => copied(alloc, reference),
     }
 }

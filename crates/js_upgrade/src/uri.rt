@@ -1,5 +1,5 @@
 //! URIs, as `url` reads, joins and prints them.
-ghost use Rattle.std.specs.Prelude.{◌≡◌, IfOk, None, option_map, true, if◌then◌else◌};
+ghost use Rattle.std.specs.Prelude.{◌≡◌, IfOk, IfSome, None, option_map, true, if◌then◌else◌};
 ghost use Rattle.std.specs.List.{list_all};
 ghost use Rattle.std.specs.Str.{is_utf8};
 ghost use Rattle.percent_encoding.specs.Percent.{percent_decode};
@@ -10,7 +10,7 @@ ghost use Rattle.js_upgrade.specs.code.Local.{is_fragment_byte, kept_fragment, l
 use crate::dialect::after_prefix;
 use js_doc::{Memory, Pointer, PointerFault};
 use std::alloc::Global;
-use url::{ParseError, Url};
+use url::{ParseError, Position, Url};
 
 /// No URI, identifier or reference may have more bytes.
 pub(crate) const URI_LIMIT: usize = 65_536;
@@ -57,6 +57,16 @@ pub(crate) fn uri_without_fragment(mut url: Url) -> Result<Url, Memory>
         Ok(()) => Ok(url),
         Err(_) => Err(Memory),
     }
+}
+
+/// The text of the URL without its fragment. None if it has a query.
+pub(crate) fn printed_bare(url: &Url) -> Option<&str>
+    ensures { IfSome result (λ t. t.now ≡ uri_printed (uri_without_fragment url.now)) }
+{
+    if url.query().is_none() {
+        return Some(url.slice(Position::BeforeScheme, Position::AfterQuery));
+    }
+    None
 }
 
 /// The URL's text.
