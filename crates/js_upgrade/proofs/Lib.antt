@@ -8,6 +8,7 @@ pub mod AsciiNames
 pub mod ByCases
 pub mod ClearDocuments
 pub mod ClearValues
+pub mod CopiedTargets
 pub mod CopiesAscend
 pub mod CopyLoops
 pub mod DocumentExamples

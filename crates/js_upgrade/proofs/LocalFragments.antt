@@ -3,7 +3,7 @@ use Rattle.std.proofs.Common.{◌≡◌, ℕ, ◌<◌, List, [], ◌∷◌, Bool
 use Rattle.std.proofs.Common.{All, cond, Ok, length, get_or, option_and_then, codes, refl, sym, ap, ◌∙◌, arith}
 use Rattle.std.proofs.Common.{nat_lt, slice_get, take_all, unwrap_or, Bor}
 use Rattle.std.specs.List.{list_all, position_from, prefix_len}
-use Rattle.std.specs.Prelude.{reverse, is_none, is_some, if◌then◌else◌, option_copied, ◌-◌}
+use Rattle.std.specs.Prelude.{reverse, is_none, is_some, option_map, if◌then◌else◌, option_copied, ◌-◌}
 use Rattle.std.specs.Str.{is_utf8}
 use Rattle.std.proofs.lemmas.Bool.{agree_below, agree_below_at, and_parts, cond-false, eqb-true, lt-leb, ltb-true}
 use Rattle.std.proofs.lemmas.Bool.Decides.{nat_tests}
@@ -17,8 +17,9 @@ use Rattle.url.specs.declared.sets.TheConstants.{FRAGMENT}
 use Rattle.url.specs.Input.{is_c0_control_or_space, is_tab_or_new_line, split_once, strip_tabs_and_new_lines}
 use Rattle.url.specs.Input.{trim_c0_control_and_space}
 use Rattle.url.specs.Parser.{parse_by_scheme, parse_parts, parse_url, split_scheme, with_tail}
-use Rattle.url.specs.Parts.{Parts, cannot_be_a_base}
+use Rattle.url.specs.Parts.{Parts, cannot_be_a_base, kind_of, query_set, serialize, text_between}
 use Rattle.url.specs.Scheme.{scheme_len}
+use Rattle.url.specs.declared.slicing.Position.TheVariants.{AfterQuery, BeforeScheme}
 use Rattle.url.proofs.InputLemmas.{All_from_list_all, Passes, filter_all}
 use Rattle.js_doc.specs.Pointer.{Tokens}
 use Rattle.js_doc.specs.PointerReading.{pointer_of}
@@ -36,7 +37,7 @@ use Rattle.js_upgrade.specs.code.Local.{is_fragment_byte, kept_fragment, local_f
 
 -- ---- what such a reference consists of
 
-abbrev IsLocal : Text → Text → Type 0
+abbrev pub IsLocal : Text → Text → Type 0
 IsLocal t fragment = (t ≡ 35 ∷ fragment) × (nat_lt uri_limit (length t) ≡ false)
     × (list_all is_fragment_byte fragment ≡ true)
 
@@ -56,7 +57,7 @@ local_by b bs fragment true is found =
     (ap (λ c. c ∷ bs) (eqb-true b 35 is)) found
 local_by b bs fragment false is found = absurd (cc)
 
-is_local : (t fragment : Text) → local_fragment t ≡ Some fragment → IsLocal t fragment
+pub is_local : (t fragment : Text) → local_fragment t ≡ Some fragment → IsLocal t fragment
 is_local [] fragment is = absurd (cc)
 is_local (b ∷ bs) fragment is = local_by b bs fragment (b == 35) refl is
 
@@ -166,6 +167,20 @@ pub bare_stays : (base : Parts) → base.query ≡ None → base.fragment ≡ No
 bare_stays base query fragment =
     ap (λ q. uri_printed (uri_without_fragment (with_tail base q None))) query
     ∙ ap uri_printed (without_tail base query fragment)
+
+pub bare_itself : (base : Parts) → base.query ≡ None → base.fragment ≡ None → uri_without_fragment base ≡ base
+unfolding uri_without_fragment
+bare_itself base query fragment =
+    ap (λ q. with_tail base q None) query ∙ (λ i. record base { query = sym query i; fragment = sym fragment i })
+
+-- what stands before the fragment
+pub bare_text : (uri : Parts) → uri.query ≡ None
+    → text_between uri BeforeScheme AfterQuery ≡ uri_printed (uri_without_fragment uri)
+unfolding uri_without_fragment uri_printed
+bare_text uri query =
+    let kind = query_set (kind_of uri) in
+    ap (λ q. text_between (record uri { query = q }) BeforeScheme AfterQuery) query
+    ∙ sym (ap (λ q. serialize (record uri { query = option_map (percent_encode kind) q; fragment = None })) query)
 
 pub none_there : (o : Option (Bor Text)) (q : Option Text) (b : Bool) → option_copied o ≡ q → is_some o ≡ not b
     → b ≡ true → q ≡ None

@@ -133,7 +133,7 @@ fragment_ascii b is =
     let under = and_parts (nat_lt b 127) (not (b == 34 || (b == 60 || (b == 62 || b == 96)))) parts.1 in
     omega (arith, ltb-true b 127 under.0)
 
-all_ascii : (bs : Text) → list_all is_fragment_byte bs ≡ true → IsAscii bs
+pub all_ascii : (bs : Text) → list_all is_fragment_byte bs ≡ true → IsAscii bs
 all_ascii [] is i = omega arith
 all_ascii (b ∷ bs) is zero = fragment_ascii b (and_parts (is_fragment_byte b) (list_all is_fragment_byte bs) is).0
 all_ascii (b ∷ bs) is (suc i) =

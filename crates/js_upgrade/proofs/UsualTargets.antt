@@ -182,10 +182,10 @@ module _ (r : Resource) (usual : is_usual_root r.dialect r.root ≡ true) where
       and_parts (is_same_dialect (own_dialect r.dialect (members_of r.root)) r.dialect)
       (holds_members (get (definitions_name r.dialect) (members_of r.root))) usual
 
-  its_dialect : own_dialect r.dialect (members_of r.root) ≡ r.dialect
+  pub its_dialect : own_dialect r.dialect (members_of r.root) ≡ r.dialect
   its_dialect = same_dialect (own_dialect r.dialect (members_of r.root)) r.dialect usual_parts.0
 
-  its_definitions : get (definitions_name r.dialect) (members_of r.root)
+  pub its_definitions : get (definitions_name r.dialect) (members_of r.root)
       ≡ Some (object (members (definitions_of r.dialect r.root)))
   its_definitions = defined_by (get (definitions_name r.dialect) (members_of r.root)) usual_parts.1
 
@@ -230,7 +230,7 @@ below_moved d name ms (Some v) is there =
     (step ByName d (object (members ms)) name part []).dialect part [])) o)
     (member_is name ms ∙ is)
 
-abbrev defs_tokens : Text → Tokens
+abbrev pub defs_tokens : Text → Tokens
 defs_tokens name = codes "$defs" ∷ name ∷ []
 
 moved_by : (d : Dialect) (siblings : Named) (held : Value) (name : Text)
@@ -248,7 +248,7 @@ moved_by d siblings held name below =
     there : both (Some (codes "$defs" ∷ [])) (moved_tokens ByName d held (name ∷ [])) ≡ Some (defs_tokens name)
     there = ap (both (Some (codes "$defs" ∷ []))) below
 
-moved_from : (d : Dialect) (root : Value) (name : Text) (ms : Named) → own_dialect d (members_of root) ≡ d
+pub moved_from : (d : Dialect) (root : Value) (name : Text) (ms : Named) → own_dialect d (members_of root) ≡ d
     → get (definitions_name d) (members_of root) ≡ Some (object (members ms)) → is_some (get name ms) ≡ true
     → moved_tokens One d root (usual_tokens d name) ≡ Some (defs_tokens name)
 moved_from d (object siblings) name ms own there has =

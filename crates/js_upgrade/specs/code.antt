@@ -2,6 +2,7 @@
 pub mod Back
 pub mod Clear
 pub mod Copied
+pub mod CopiedTarget
 pub mod FaultBelow
 pub mod First
 pub mod HasSeen

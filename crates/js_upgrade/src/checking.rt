@@ -183,7 +183,7 @@ fn source_fault(
             fault_in(
                 alloc,
                 pass,
-                scope,
+                &scope,
                 SchemaHolding::One,
                 dialect,
                 &source.root,

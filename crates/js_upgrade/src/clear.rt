@@ -20,33 +20,31 @@ use crate::lookup::found;
 use crate::reference_free::is_reference_free;
 use crate::resource_table::ResourceTable;
 use crate::schema::{change_beside, hides, identifier};
-use crate::scope::Scope;
+use crate::scope::{Scope, Scopes};
 use js_doc::{Doc, Items, Members};
 
-/// Whether a value that holds schemas is known to be clear. `roots` are those that copies are made of.
+/// Whether a value that holds schemas is known to be clear.
 #[cycle(clear)]
 pub(crate) fn is_clear(
-    roots: Scope<'_>,
-    scope: Scope<'_>,
+    scopes: &Scopes<'_>,
     holding: SchemaHolding,
     dialect: Dialect,
     value: &Doc,
 ) -> bool
-    requires { roots.base.now ≡ scope.base.now }
-    ensures { result ≡ true → IsClearValue (all_of roots.entry.resources.now) (all_of scope.entry.resources.now)
-        holding dialect scope.entry.base.now (value_of value.now) }
+    ensures { result ≡ true → IsClearValue (all_of scopes.now.roots.resources.now)
+        (all_of scopes.now.all.resources.now) holding dialect scopes.now.all.base.now (value_of value.now) }
 {
     match value {
         Doc::Members(members) => match holding {
-            SchemaHolding::One => is_clear_schema(roots, scope, dialect, members),
-            SchemaHolding::OneOrListed => is_clear_schema(roots, scope, dialect, members),
-            SchemaHolding::Named => is_clear_object(roots, scope, dialect, members),
+            SchemaHolding::One => is_clear_schema(scopes, dialect, members),
+            SchemaHolding::OneOrListed => is_clear_schema(scopes, dialect, members),
+            SchemaHolding::Named => is_clear_object(scopes, dialect, members),
             SchemaHolding::Listed => is_reference_free(value),
             SchemaHolding::Nothing => is_reference_free(value),
         },
         Doc::List(items) => match holding {
-            SchemaHolding::Listed => are_clear_items(roots, scope, dialect, items),
-            SchemaHolding::OneOrListed => are_clear_items(roots, scope, dialect, items),
+            SchemaHolding::Listed => are_clear_items(scopes, dialect, items),
+            SchemaHolding::OneOrListed => are_clear_items(scopes, dialect, items),
             SchemaHolding::One => is_reference_free(value),
             SchemaHolding::Named => is_reference_free(value),
             SchemaHolding::Nothing => is_reference_free(value),
@@ -56,34 +54,30 @@ pub(crate) fn is_clear(
 }
 
 #[cycle(clear)]
-fn is_clear_schema(roots: Scope<'_>, scope: Scope<'_>, dialect: Dialect, siblings: &Members) -> bool
-    requires { roots.base.now ≡ scope.base.now }
-    ensures { result ≡ true → IsClearValue (all_of roots.entry.resources.now) (all_of scope.entry.resources.now)
-        One dialect scope.entry.base.now (object (members siblings.now)) }
+fn is_clear_schema(scopes: &Scopes<'_>, dialect: Dialect, siblings: &Members) -> bool
+    ensures { result ≡ true → IsClearValue (all_of scopes.now.roots.resources.now)
+        (all_of scopes.now.all.resources.now) One dialect scopes.now.all.base.now (object (members siblings.now)) }
 {
-    is_clear_alone(roots, scope, dialect, siblings)
-        && are_clear_keywords(roots, scope, dialect, siblings)
+    is_clear_alone(scopes, dialect, siblings) && are_clear_keywords(scopes, dialect, siblings)
 }
 
 // An object that holds schemas under names.
 #[cycle(clear)]
-fn is_clear_object(roots: Scope<'_>, scope: Scope<'_>, dialect: Dialect, schemas: &Members) -> bool
-    requires { roots.base.now ≡ scope.base.now }
-    ensures { result ≡ true → IsClearValue (all_of roots.entry.resources.now) (all_of scope.entry.resources.now)
-        Named dialect scope.entry.base.now (object (members schemas.now)) }
+fn is_clear_object(scopes: &Scopes<'_>, dialect: Dialect, schemas: &Members) -> bool
+    ensures { result ≡ true → IsClearValue (all_of scopes.now.roots.resources.now)
+        (all_of scopes.now.all.resources.now) Named dialect scopes.now.all.base.now (object (members schemas.now)) }
 {
-    is_bare(roots, dialect, schemas) && are_clear_members(roots, scope, dialect, schemas)
+    is_bare(&scopes.roots, dialect, schemas) && are_clear_members(scopes, dialect, schemas)
 }
 
 // The schema without those that it holds.
-fn is_clear_alone(roots: Scope<'_>, scope: Scope<'_>, dialect: Dialect, siblings: &Members) -> bool
-    requires { roots.base.now ≡ scope.base.now }
-    ensures { result ≡ true → IsClearSchema (all_of roots.entry.resources.now) (all_of scope.entry.resources.now)
-        dialect scope.entry.base.now siblings.now }
+fn is_clear_alone(scopes: &Scopes<'_>, dialect: Dialect, siblings: &Members) -> bool
+    ensures { result ≡ true → IsClearSchema (all_of scopes.now.roots.resources.now)
+        (all_of scopes.now.all.resources.now) dialect scopes.now.all.base.now siblings.now }
 {
     is_anonymous(dialect, siblings)
-        && (is_faultless_else(scope.resources, dialect, siblings)
-            && refers_usually(roots, scope, found(siblings, "$ref")))
+        && (is_faultless_else(scopes.all.resources, dialect, siblings)
+            && refers_usually(scopes, found(siblings, "$ref")))
 }
 
 // Neither `$schema` nor an identifier.
@@ -104,40 +98,38 @@ fn is_faultless_else(resources: &ResourceTable<'_>, dialect: Dialect, siblings: 
 }
 
 // Whether there is no reference, or a usual one.
-fn refers_usually(roots: Scope<'_>, scope: Scope<'_>, found: Option<&Doc>) -> bool
-    requires { roots.base.now ≡ scope.base.now }
-    ensures leads { result ≡ true → reference_kind (all_of scope.entry.resources.now) scope.entry.base.now
+fn refers_usually(scopes: &Scopes<'_>, found: Option<&Doc>) -> bool
+    ensures leads { result ≡ true → reference_kind (all_of scopes.now.all.resources.now) scopes.now.all.base.now
         (option_map (λ d. value_of d.now) found.entry) ≡ None }
-    ensures copies { result ≡ true → CopiesNothing (all_of roots.entry.resources.now) scope.entry.base.now
+    ensures copies { result ≡ true → CopiesNothing (all_of scopes.now.roots.resources.now) scopes.now.all.base.now
         (option_map (λ d. value_of d.now) found.entry) }
 {
     match found {
         None => true,
         Some(Doc::Text(text)) => {
             let reference = text.as_str();
-            leads_usually(roots, scope, reference) || leads_to_root(scope, reference)
+            leads_usually(scopes, reference) || leads_to_root(&scopes.all, reference)
         }
         Some(_) => false,
     }
 }
 
-fn leads_usually(roots: Scope<'_>, scope: Scope<'_>, reference: &str) -> bool
-    requires { roots.base.now ≡ scope.base.now }
+fn leads_usually(scopes: &Scopes<'_>, reference: &str) -> bool
     ensures short { result ≡ true → nat_lt uri_limit (length reference.now) ≡ false }
-    ensures leads { result ≡ true → target_kind (all_of scope.entry.resources.now)
-        (uri_joined scope.entry.base.now reference.now) ≡ None }
-    ensures copies { result ≡ true → (copies : Copies) → copied_for_text (all_of roots.entry.resources.now)
-        scope.entry.base.now reference.now copies ≡ copies }
+    ensures leads { result ≡ true → target_kind (all_of scopes.now.all.resources.now)
+        (uri_joined scopes.now.all.base.now reference.now) ≡ None }
+    ensures copies { result ≡ true → (copies : Copies) → copied_for_text (all_of scopes.now.roots.resources.now)
+        scopes.now.all.base.now reference.now copies ≡ copies }
 {
-    match usual_target(scope, reference) {
-        Some(target) => is_usual_too(roots, target),
+    match usual_target(&scopes.all, reference) {
+        Some(target) => is_usual_too(&scopes.roots, target),
         None => false,
     }
 }
 
 /// Whether a reference, if there is one, is known to lead to nothing that is copied.
-pub(crate) fn copies_nothing(roots: Scope<'_>, found: Option<&Doc>) -> bool
-    ensures { result ≡ true → CopiesNothing (all_of roots.entry.resources.now) roots.entry.base.now
+pub(crate) fn copies_nothing(roots: &Scope<'_>, found: Option<&Doc>) -> bool
+    ensures { result ≡ true → CopiesNothing (all_of roots.now.resources.now) roots.now.base.now
         (option_map (λ d. value_of d.now) found.entry) }
 {
     match found {
@@ -148,8 +140,8 @@ pub(crate) fn copies_nothing(roots: Scope<'_>, found: Option<&Doc>) -> bool
 }
 
 // Whether it is taken for no schema with an identifier or a reference: its values aren't texts.
-fn is_bare(roots: Scope<'_>, dialect: Dialect, schemas: &Members) -> bool
-    ensures { result ≡ true → IsBare (all_of roots.entry.resources.now) dialect roots.entry.base.now schemas.now }
+fn is_bare(roots: &Scope<'_>, dialect: Dialect, schemas: &Members) -> bool
+    ensures { result ≡ true → IsBare (all_of roots.now.resources.now) dialect roots.now.base.now schemas.now }
 {
     !is_text(found(schemas, "$schema"))
         && (!is_text(found(schemas, identifier(dialect))) && !is_text(found(schemas, "$ref")))
@@ -163,20 +155,15 @@ fn is_text(found: Option<&Doc>) -> bool
 
 /// Whether the schemas in the keywords of one are known to be clear.
 #[cycle(clear)]
-pub(crate) fn are_clear_keywords(
-    roots: Scope<'_>,
-    scope: Scope<'_>,
-    dialect: Dialect,
-    siblings: &Members,
-) -> bool
-    requires { roots.base.now ≡ scope.base.now }
-    ensures { result ≡ true → AreClearMembers (all_of roots.entry.resources.now) (all_of scope.entry.resources.now)
-        (holding_in dialect siblings.now) dialect scope.entry.base.now (members siblings.now) }
+pub(crate) fn are_clear_keywords(scopes: &Scopes<'_>, dialect: Dialect, siblings: &Members) -> bool
+    ensures { result ≡ true → AreClearMembers (all_of scopes.now.roots.resources.now)
+        (all_of scopes.now.all.resources.now) (holding_in dialect siblings.now) dialect scopes.now.all.base.now
+        (members siblings.now) }
 {
     let hidden = hides(dialect, siblings);
     for (name, argument) in siblings.pairs() {
         let holding = holding_by_change(change_beside(hidden, dialect, name.as_str()));
-        if !is_clear(roots, scope, holding, dialect, argument) {
+        if !is_clear(scopes, holding, dialect, argument) {
             return false;
         }
     }
@@ -184,18 +171,12 @@ pub(crate) fn are_clear_keywords(
 }
 
 #[cycle(clear)]
-fn are_clear_members(
-    roots: Scope<'_>,
-    scope: Scope<'_>,
-    dialect: Dialect,
-    schemas: &Members,
-) -> bool
-    requires { roots.base.now ≡ scope.base.now }
-    ensures { result ≡ true → AreClearMembers (all_of roots.entry.resources.now) (all_of scope.entry.resources.now)
-        (λ name. One) dialect scope.entry.base.now (members schemas.now) }
+fn are_clear_members(scopes: &Scopes<'_>, dialect: Dialect, schemas: &Members) -> bool
+    ensures { result ≡ true → AreClearMembers (all_of scopes.now.roots.resources.now)
+        (all_of scopes.now.all.resources.now) (λ name. One) dialect scopes.now.all.base.now (members schemas.now) }
 {
     for (_, schema) in schemas.pairs() {
-        if !is_clear(roots, scope, SchemaHolding::One, dialect, schema) {
+        if !is_clear(scopes, SchemaHolding::One, dialect, schema) {
             return false;
         }
     }
@@ -203,14 +184,13 @@ fn are_clear_members(
 }
 
 #[cycle(clear)]
-fn are_clear_items(roots: Scope<'_>, scope: Scope<'_>, dialect: Dialect, schemas: &Items) -> bool
-    requires { roots.base.now ≡ scope.base.now }
-    ensures { result ≡ true → AreClearItems (all_of roots.entry.resources.now) (all_of scope.entry.resources.now)
-        dialect scope.entry.base.now 0 (items schemas.now) }
+fn are_clear_items(scopes: &Scopes<'_>, dialect: Dialect, schemas: &Items) -> bool
+    ensures { result ≡ true → AreClearItems (all_of scopes.now.roots.resources.now)
+        (all_of scopes.now.all.resources.now) dialect scopes.now.all.base.now 0 (items schemas.now) }
 {
     let docs = schemas.as_slice();
     for i in 0..docs.len() {
-        if !is_clear(roots, scope, SchemaHolding::One, dialect, &docs[i]) {
+        if !is_clear(scopes, SchemaHolding::One, dialect, &docs[i]) {
             return false;
         }
     }

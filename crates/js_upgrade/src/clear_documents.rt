@@ -2,6 +2,7 @@
 ghost use Rattle.std.specs.Prelude.{◌≡◌, ◌++◌, IfOk, None, OnOk, false, map, true};
 ghost use Rattle.js_doc.specs.Seen.{value_of};
 ghost use Rattle.js_upgrade.specs.Fault.{schema_fault};
+ghost use Rattle.js_upgrade.specs.Resource.{own_base};
 ghost use Rattle.js_upgrade.specs.Seen.{resource_seen, source_of};
 ghost use Rattle.js_upgrade.specs.Upgrade.{own_dialect};
 ghost use Rattle.js_upgrade.specs.code.Clear.{AreClear, IsClearBelow, IsClearDocument, IsClearInside, IsClearRoot};
@@ -18,7 +19,7 @@ use crate::resource::Resource;
 use crate::resource_table::ResourceTable;
 use crate::resources::{identity, push_resource};
 use crate::schema::own_dialect;
-use crate::scope::{Scope, number_here};
+use crate::scope::{Scope, Scopes, number_here};
 use js_doc::{Doc, Members, Memory};
 use std::alloc::Global;
 use url::Url;
@@ -152,54 +153,57 @@ fn keeps_dialect(dialect: Dialect, siblings: &Members) -> bool
 }
 
 // A root whose own base is known.
-fn is_clear_below(
+fn is_clear_below<'r>(
     alloc: Global,
-    roots: &ResourceTable<'_>,
-    resources: &ResourceTable<'_>,
+    roots: &'r ResourceTable<'r>,
+    resources: &'r ResourceTable<'r>,
     dialect: Dialect,
     uri: &Url,
-    base: &Url,
+    base: &'r Url,
     siblings: &Members,
 ) -> Result<bool, Memory>
+    requires { base.now ≡ own_base dialect uri.now siblings.now }
     ensures { IfOk result (λ b. b ≡ true
         → IsClearBelow (all_of roots.now) (all_of resources.now) dialect uri.now base.now siblings.now) }
 {
-    let scope = Scope {
-        resources,
-        base,
-        here: number_here(resources, base)?,
+    let scopes = Scopes {
+        roots: Scope {
+            resources: roots,
+            base,
+            here: number_here(roots, base)?,
+        },
+        all: Scope {
+            resources,
+            base,
+            here: number_here(resources, base)?,
+        },
     };
-    let roots = Scope {
-        resources: roots,
-        base,
-        here: number_here(roots, base)?,
-    };
-    if has_fault(alloc, scope, dialect, uri, siblings)? {
+    if has_fault(alloc, &scopes.all, dialect, uri, siblings)? {
         return Ok(false);
     }
-    Ok(is_clear_inside(roots, scope, dialect, siblings))
+    Ok(is_clear_inside(&scopes, dialect, siblings))
 }
 
 // Whether the root has a fault itself.
 fn has_fault(
     alloc: Global,
-    scope: Scope<'_>,
+    scope: &Scope<'_>,
     dialect: Dialect,
     uri: &Url,
     siblings: &Members,
 ) -> Result<bool, Memory>
-    ensures { IfOk result (λ b. b ≡ false → schema_fault AnyOfThese (all_of scope.entry.resources.now)
-        dialect dialect uri.now scope.entry.base.now siblings.now ≡ None) }
+    requires { scope.now.base.now ≡ own_base dialect uri.now siblings.now }
+    ensures { IfOk result (λ b. b ≡ false → schema_fault AnyOfThese (all_of scope.now.resources.now)
+        dialect dialect uri.now scope.now.base.now siblings.now ≡ None) }
 {
     Ok(any_fault(alloc, scope, dialect, dialect, uri, siblings)?.is_some())
 }
 
 // The root's reference, and the schemas in its keywords.
-fn is_clear_inside(roots: Scope<'_>, scope: Scope<'_>, dialect: Dialect, siblings: &Members) -> bool
-    requires { roots.base.now ≡ scope.base.now }
-    ensures { result ≡ true → IsClearInside (all_of roots.entry.resources.now) (all_of scope.entry.resources.now)
-        dialect scope.entry.base.now siblings.now }
+fn is_clear_inside(scopes: &Scopes<'_>, dialect: Dialect, siblings: &Members) -> bool
+    ensures { result ≡ true → IsClearInside (all_of scopes.now.roots.resources.now)
+        (all_of scopes.now.all.resources.now) dialect scopes.now.all.base.now siblings.now }
 {
-    copies_nothing(roots, found(siblings, "$ref"))
-        && are_clear_keywords(roots, scope, dialect, siblings)
+    copies_nothing(&scopes.roots, found(siblings, "$ref"))
+        && are_clear_keywords(scopes, dialect, siblings)
 }

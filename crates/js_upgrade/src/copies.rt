@@ -21,6 +21,7 @@ use crate::dialect::Dialect;
 use crate::documents::{SourceDocument, source_dialect};
 use crate::gathering::put_one;
 use crate::lookup::found;
+use crate::reference_free::is_reference_free;
 use crate::resource::Resource;
 use crate::resource_table::ResourceTable;
 use crate::resources::{identity, push_roots};
@@ -113,6 +114,9 @@ fn copy_for_source(
     ensures { OnOk result (copies.new.items ≡ copied_by (all_of roots.now) (source_of source.now)
         (source_dialect (source_of source.now)) copies.old.items) }
 {
+    if is_reference_free(&source.root) {
+        return Ok(());
+    }
     match source_dialect(source) {
         Some(dialect) => {
             let scope = Scope {
@@ -120,7 +124,7 @@ fn copy_for_source(
                 base: &source.uri,
                 here: number_here(roots, &source.uri)?,
             };
-            copy_all(alloc, copies, scope, dialect, &source.root)
+            copy_all(alloc, copies, &scope, dialect, &source.root)
         }
         None => Ok(()),
     }
@@ -131,12 +135,12 @@ fn copy_for_source(
 fn copy_all(
     alloc: Global,
     copies: &mut Vec<Members>,
-    scope: Scope<'_>,
+    scope: &Scope<'_>,
     dialect: Dialect,
     value: &Doc,
 ) -> Result<(), Memory>
-    ensures { OnOk result (copies.new.items ≡ all_copied (all_of scope.entry.resources.now) dialect
-        scope.entry.base.now (value_of value.now) copies.old.items) }
+    ensures { OnOk result (copies.new.items ≡ all_copied (all_of scope.now.resources.now) dialect
+        scope.now.base.now (value_of value.now) copies.old.items) }
 {
     match value {
         Doc::Members(members) => copy_in_object(alloc, copies, scope, dialect, members),
@@ -149,12 +153,12 @@ fn copy_all(
 fn copy_in_object(
     alloc: Global,
     copies: &mut Vec<Members>,
-    scope: Scope<'_>,
+    scope: &Scope<'_>,
     dialect: Dialect,
     siblings: &Members,
 ) -> Result<(), Memory>
-    ensures { OnOk result (copies.new.items ≡ all_copied (all_of scope.entry.resources.now) dialect
-        scope.entry.base.now (object (members siblings.now)) copies.old.items) }
+    ensures { OnOk result (copies.new.items ≡ all_copied (all_of scope.now.resources.now) dialect
+        scope.now.base.now (object (members siblings.now)) copies.old.items) }
 {
     let own = own_dialect(dialect, siblings);
     let found = identity(own, scope.base, siblings)?;
@@ -165,7 +169,7 @@ fn copy_in_object(
                 base: &below,
                 here: number_here(scope.resources, &below)?,
             };
-            copy_below(alloc, copies, inner, own, siblings)
+            copy_below(alloc, copies, &inner, own, siblings)
         }
         None => copy_below(alloc, copies, scope, own, siblings),
     }
@@ -176,13 +180,13 @@ fn copy_in_object(
 fn copy_below(
     alloc: Global,
     copies: &mut Vec<Members>,
-    scope: Scope<'_>,
+    scope: &Scope<'_>,
     dialect: Dialect,
     siblings: &Members,
 ) -> Result<(), Memory>
-    ensures { OnOk result (copies.new.items ≡ members_copied (all_of scope.entry.resources.now) dialect
-        scope.entry.base.now (members siblings.now) (copied_for (all_of scope.entry.resources.now)
-        scope.entry.base.now (get (codes "$ref") siblings.now) copies.old.items)) }
+    ensures { OnOk result (copies.new.items ≡ members_copied (all_of scope.now.resources.now) dialect
+        scope.now.base.now (members siblings.now) (copied_for (all_of scope.now.resources.now)
+        scope.now.base.now (get (codes "$ref") siblings.now) copies.old.items)) }
 {
     copy_for(alloc, copies, scope, found(siblings, "$ref"))?;
     copy_in_members(alloc, copies, scope, dialect, siblings)
@@ -192,12 +196,12 @@ fn copy_below(
 fn copy_in_members(
     alloc: Global,
     copies: &mut Vec<Members>,
-    scope: Scope<'_>,
+    scope: &Scope<'_>,
     dialect: Dialect,
     siblings: &Members,
 ) -> Result<(), Memory>
-    ensures { OnOk result (copies.new.items ≡ members_copied (all_of scope.entry.resources.now) dialect
-        scope.entry.base.now (members siblings.now) copies.old.items) }
+    ensures { OnOk result (copies.new.items ≡ members_copied (all_of scope.now.resources.now) dialect
+        scope.now.base.now (members siblings.now) copies.old.items) }
 {
     for (_, value) in siblings.pairs() {
         copy_all(alloc, copies, scope, dialect, value)?;
@@ -209,12 +213,12 @@ fn copy_in_members(
 fn copy_in_items(
     alloc: Global,
     copies: &mut Vec<Members>,
-    scope: Scope<'_>,
+    scope: &Scope<'_>,
     dialect: Dialect,
     values: &Items,
 ) -> Result<(), Memory>
-    ensures { OnOk result (copies.new.items ≡ items_copied (all_of scope.entry.resources.now) dialect
-        scope.entry.base.now (items values.now) copies.old.items) }
+    ensures { OnOk result (copies.new.items ≡ items_copied (all_of scope.now.resources.now) dialect
+        scope.now.base.now (items values.now) copies.old.items) }
 {
     let docs = values.as_slice();
     for i in 0..docs.len() {

@@ -32,10 +32,10 @@ use url::Url;
 pub(crate) fn copy_for(
     alloc: Global,
     copies: &mut Vec<Members>,
-    scope: Scope<'_>,
+    scope: &Scope<'_>,
     found: Option<&Doc>,
 ) -> Result<(), Memory>
-    ensures { OnOk result (copies.new.items ≡ copied_for (all_of scope.entry.resources.now) scope.entry.base.now
+    ensures { OnOk result (copies.new.items ≡ copied_for (all_of scope.now.resources.now) scope.now.base.now
         (option_map (λ d. value_of d.now) found.entry) copies.old.items) }
 {
     match found {
@@ -47,11 +47,11 @@ pub(crate) fn copy_for(
 fn copy_for_text(
     alloc: Global,
     copies: &mut Vec<Members>,
-    scope: Scope<'_>,
+    scope: &Scope<'_>,
     reference: &str,
 ) -> Result<(), Memory>
-    ensures { OnOk result (copies.new.items ≡ copied_for_text (all_of scope.entry.resources.now)
-        scope.entry.base.now reference.now copies.old.items) }
+    ensures { OnOk result (copies.new.items ≡ copied_for_text (all_of scope.now.resources.now)
+        scope.now.base.now reference.now copies.old.items) }
 {
     if is_usual(scope, reference) {
         return Ok(());
@@ -66,11 +66,11 @@ fn copy_for_text(
 fn copy_for_part(
     alloc: Global,
     copies: &mut Vec<Members>,
-    scope: Scope<'_>,
+    scope: &Scope<'_>,
     reference: &str,
 ) -> Result<(), Memory>
-    ensures { OnOk result (copies.new.items ≡ copied_for_uri (all_of scope.entry.resources.now)
-        (uri_joined scope.entry.base.now reference.now) copies.old.items) }
+    ensures { OnOk result (copies.new.items ≡ copied_for_uri (all_of scope.now.resources.now)
+        (uri_joined scope.now.base.now reference.now) copies.old.items) }
 {
     match local_fragment(reference) {
         Some(fragment) => {

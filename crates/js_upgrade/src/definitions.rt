@@ -104,9 +104,9 @@ fn is_usual_byte(byte: u8) -> bool
 }
 
 /// Whether the reference is a usual one: then it leads to nothing that is copied.
-pub(crate) fn is_usual(scope: Scope<'_>, reference: &str) -> bool
-    ensures { result ≡ true → (copies : Copies) → copied_for_text (all_of scope.entry.resources.now)
-        scope.entry.base.now reference.now copies ≡ copies }
+pub(crate) fn is_usual(scope: &Scope<'_>, reference: &str) -> bool
+    ensures { result ≡ true → (copies : Copies) → copied_for_text (all_of scope.now.resources.now)
+        scope.now.base.now reference.now copies ≡ copies }
 {
     match resource_numbered(scope.resources, scope.here) {
         Some(root) => root.usual && usual_name(root.dialect, reference).is_some(),
@@ -115,9 +115,9 @@ pub(crate) fn is_usual(scope: Scope<'_>, reference: &str) -> bool
 }
 
 /// Whether a reference with this target is a usual one here too: then it leads to nothing that is copied.
-pub(crate) fn is_usual_too(scope: Scope<'_>, target: UsualTarget<'_>) -> bool
+pub(crate) fn is_usual_too(scope: &Scope<'_>, target: UsualTarget<'_>) -> bool
     ensures { (t : Bytes) → usual_name target.entry.dialect t ≡ Some target.entry.name.now → result ≡ true
-        → (copies : Copies) → copied_for_text (all_of scope.entry.resources.now) scope.entry.base.now t copies
+        → (copies : Copies) → copied_for_text (all_of scope.now.resources.now) scope.now.base.now t copies
         ≡ copies }
 {
     match resource_numbered(scope.resources, scope.here) {
@@ -127,9 +127,9 @@ pub(crate) fn is_usual_too(scope: Scope<'_>, target: UsualTarget<'_>) -> bool
 }
 
 /// Whether the reference is `#`, and leads to the root of its resource.
-pub(crate) fn leads_to_root(scope: Scope<'_>, reference: &str) -> bool
-    ensures leads { result ≡ true → target_kind (all_of scope.entry.resources.now)
-        (uri_joined scope.entry.base.now reference.now) ≡ None }
+pub(crate) fn leads_to_root(scope: &Scope<'_>, reference: &str) -> bool
+    ensures leads { result ≡ true → target_kind (all_of scope.now.resources.now)
+        (uri_joined scope.now.base.now reference.now) ≡ None }
     ensures copies { result ≡ true → IsUncopied reference.now }
 {
     match resource_numbered(scope.resources, scope.here) {
@@ -147,12 +147,12 @@ pub(crate) struct UsualTarget<'t> {
 }
 
 /// Where the reference leads, if it is a usual one. None where its target has to be looked for.
-pub(crate) fn usual_target<'t>(scope: Scope<'_>, reference: &'t str) -> Option<UsualTarget<'t>>
+pub(crate) fn usual_target<'t>(scope: &Scope<'_>, reference: &'t str) -> Option<UsualTarget<'t>>
     ensures short { IfSome result (λ t. nat_lt uri_limit (length reference.now) ≡ false) }
-    ensures follows { IfSome result (λ t. followed (all_of scope.entry.resources.now) reference.now
-        (uri_joined scope.entry.base.now reference.now) ≡ usual_text t.dialect reference.now t.name.now) }
-    ensures leads { IfSome result (λ t. target_kind (all_of scope.entry.resources.now)
-        (uri_joined scope.entry.base.now reference.now) ≡ None) }
+    ensures follows { IfSome result (λ t. followed (all_of scope.now.resources.now) reference.now
+        (uri_joined scope.now.base.now reference.now) ≡ usual_text t.dialect reference.now t.name.now) }
+    ensures leads { IfSome result (λ t. target_kind (all_of scope.now.resources.now)
+        (uri_joined scope.now.base.now reference.now) ≡ None) }
     ensures named { IfSome result (λ t. usual_name t.dialect reference.now ≡ Some t.name.now) }
 {
     match resource_numbered(scope.resources, scope.here) {
@@ -177,7 +177,8 @@ fn target_in<'t>(resource: &Resource<'_>, reference: &'t str) -> Option<UsualTar
     })
 }
 
-fn has_in(definitions: Option<&Members>, name: &str) -> bool
+/// Whether the definitions have the name.
+pub(crate) fn has_in(definitions: Option<&Members>, name: &str) -> bool
     ensures { result ≡ has_in definitions.entry name.now }
 {
     match definitions {

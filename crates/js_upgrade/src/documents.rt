@@ -211,7 +211,7 @@ fn upgraded_among(
                 base: &source.uri,
                 here: number_here(resources, &source.uri)?,
             };
-            let root = upgraded_in(alloc, scope, dialect, &source.root)?;
+            let root = upgraded_in(alloc, &scope, dialect, &source.root)?;
             let upgraded = declaring(alloc, dialect, root)?;
             anchored(alloc, has_recursion(dialect, &source.root), upgraded)
         }

@@ -4,6 +4,7 @@ ghost use Rattle.js_doc.specs.Seen.{value_of};
 ghost use Rattle.js_doc.specs.Value.{items, members, object};
 ghost use Rattle.js_upgrade.specs.Fault.{at_keyword, deeper, fault_in, item_fault, member_fault, other_fault};
 ghost use Rattle.js_upgrade.specs.Fault.{name_fault, reference_fault, schema_fault, unevaluated_fault};
+ghost use Rattle.js_upgrade.specs.Resource.{own_base};
 ghost use Rattle.js_upgrade.specs.Seen.{found_of};
 ghost use Rattle.js_upgrade.specs.Upgrade.{holding_in};
 ghost use Rattle.js_upgrade.specs.code.FaultBelow.{fault_below};
@@ -91,17 +92,18 @@ fn deeper_at(
 fn schema_fault(
     alloc: Global,
     pass: Pass,
-    scope: Scope<'_>,
+    scope: &Scope<'_>,
     dialect: Dialect,
     own: Dialect,
     base: &Url,
     siblings: &Members,
 ) -> Result<Option<FoundFault>, Memory>
-    ensures { IfOk result (λ f. option_map found_of f ≡ schema_fault pass (all_of scope.entry.resources.now)
-        dialect own base.now scope.entry.base.now siblings.now) }
+    requires { scope.now.base.now ≡ own_base own base.now siblings.now }
+    ensures { IfOk result (λ f. option_map found_of f ≡ schema_fault pass (all_of scope.now.resources.now)
+        dialect own base.now scope.now.base.now siblings.now) }
 {
     match pass {
-        Pass::Names => name_fault(alloc, dialect, own, base, siblings),
+        Pass::Names => name_fault(alloc, dialect, own, base, scope.base, siblings),
         Pass::References => reference_fault(alloc, scope, own, siblings),
         Pass::Unevaluated => unevaluated_fault(alloc, own, siblings),
         Pass::Contained => at_keyword(alloc, "contains", contained_kind(own, siblings)),
@@ -115,16 +117,17 @@ fn schema_fault(
 /// `Memory`.
 pub(crate) fn any_fault(
     alloc: Global,
-    scope: Scope<'_>,
+    scope: &Scope<'_>,
     dialect: Dialect,
     own: Dialect,
     base: &Url,
     siblings: &Members,
 ) -> Result<Option<FoundFault>, Memory>
-    ensures { IfOk result (λ f. option_map found_of f ≡ schema_fault AnyOfThese (all_of scope.entry.resources.now)
-        dialect own base.now scope.entry.base.now siblings.now) }
+    requires { scope.now.base.now ≡ own_base own base.now siblings.now }
+    ensures { IfOk result (λ f. option_map found_of f ≡ schema_fault AnyOfThese (all_of scope.now.resources.now)
+        dialect own base.now scope.now.base.now siblings.now) }
 {
-    let name = name_fault(alloc, dialect, own, base, siblings)?;
+    let name = name_fault(alloc, dialect, own, base, scope.base, siblings)?;
     if name.is_some() {
         return Ok(name);
     }
@@ -135,30 +138,34 @@ pub(crate) fn any_fault(
     unevaluated_fault(alloc, own, siblings)
 }
 
+// `below` is the schema's own base.
 fn name_fault(
     alloc: Global,
     dialect: Dialect,
     own: Dialect,
     base: &Url,
+    below: &Url,
     siblings: &Members,
 ) -> Result<Option<FoundFault>, Memory>
+    requires { below.now ≡ own_base own base.now siblings.now }
     ensures { IfOk result (λ f. option_map found_of f ≡ name_fault dialect own base.now siblings.now) }
 {
     let declared = declared_kind(dialect, siblings);
     if declared.is_some() {
         return at_keyword(alloc, "$schema", declared);
     }
-    at_keyword(alloc, identifier(own), own_kind(own, base, siblings)?)
+    let named = own_kind(own, base, below, siblings)?;
+    at_keyword(alloc, identifier(own), named)
 }
 
 fn reference_fault(
     alloc: Global,
-    scope: Scope<'_>,
+    scope: &Scope<'_>,
     own: Dialect,
     siblings: &Members,
 ) -> Result<Option<FoundFault>, Memory>
     ensures { IfOk result (λ f. option_map found_of f
-        ≡ reference_fault (all_of scope.entry.resources.now) own scope.entry.base.now siblings.now) }
+        ≡ reference_fault (all_of scope.now.resources.now) own scope.now.base.now siblings.now) }
 {
     let kind = reference_kind(alloc, scope, found(siblings, "$ref"))?;
     if kind.is_some() {
@@ -209,13 +216,13 @@ fn other_fault(
 pub(crate) fn fault_in(
     alloc: Global,
     pass: Pass,
-    scope: Scope<'_>,
+    scope: &Scope<'_>,
     holding: SchemaHolding,
     dialect: Dialect,
     value: &Doc,
 ) -> Result<Option<FoundFault>, Memory>
     ensures { IfOk result (λ f. option_map found_of f
-        ≡ fault_in pass (all_of scope.entry.resources.now) holding dialect scope.entry.base.now (value_of value.now)) }
+        ≡ fault_in pass (all_of scope.now.resources.now) holding dialect scope.now.base.now (value_of value.now)) }
 {
     match value {
         Doc::Members(members) => match holding {
@@ -240,12 +247,12 @@ pub(crate) fn fault_in(
 fn fault_in_schema(
     alloc: Global,
     pass: Pass,
-    scope: Scope<'_>,
+    scope: &Scope<'_>,
     dialect: Dialect,
     siblings: &Members,
 ) -> Result<Option<FoundFault>, Memory>
     ensures { IfOk result (λ f. option_map found_of f
-        ≡ fault_in pass (all_of scope.entry.resources.now) One dialect scope.entry.base.now
+        ≡ fault_in pass (all_of scope.now.resources.now) One dialect scope.now.base.now
         (object (members siblings.now))) }
 {
     let own = own_dialect(dialect, siblings);
@@ -257,7 +264,7 @@ fn fault_in_schema(
                 base: &below,
                 here: number_here(scope.resources, &below)?,
             };
-            fault_below(alloc, pass, inner, dialect, own, scope.base, siblings)
+            fault_below(alloc, pass, &inner, dialect, own, scope.base, siblings)
         }
         None => fault_below(alloc, pass, scope, dialect, own, scope.base, siblings),
     }
@@ -268,14 +275,15 @@ fn fault_in_schema(
 fn fault_below(
     alloc: Global,
     pass: Pass,
-    scope: Scope<'_>,
+    scope: &Scope<'_>,
     dialect: Dialect,
     own: Dialect,
     base: &Url,
     siblings: &Members,
 ) -> Result<Option<FoundFault>, Memory>
-    ensures { IfOk result (λ f. option_map found_of f ≡ fault_below pass (all_of scope.entry.resources.now)
-        dialect own base.now scope.entry.base.now siblings.now) }
+    requires { scope.now.base.now ≡ own_base own base.now siblings.now }
+    ensures { IfOk result (λ f. option_map found_of f ≡ fault_below pass (all_of scope.now.resources.now)
+        dialect own base.now scope.now.base.now siblings.now) }
 {
     let here = schema_fault(alloc, pass, scope, dialect, own, base, siblings)?;
     if here.is_some() {
@@ -288,12 +296,12 @@ fn fault_below(
 fn fault_in_keywords(
     alloc: Global,
     pass: Pass,
-    scope: Scope<'_>,
+    scope: &Scope<'_>,
     dialect: Dialect,
     siblings: &Members,
 ) -> Result<Option<FoundFault>, Memory>
-    ensures { IfOk result (λ f. option_map found_of f ≡ member_fault pass (all_of scope.entry.resources.now)
-        (holding_in dialect siblings.now) dialect scope.entry.base.now (members siblings.now)) }
+    ensures { IfOk result (λ f. option_map found_of f ≡ member_fault pass (all_of scope.now.resources.now)
+        (holding_in dialect siblings.now) dialect scope.now.base.now (members siblings.now)) }
 {
     let hidden = hides(dialect, siblings);
     for (name, argument) in siblings.pairs() {
@@ -311,12 +319,12 @@ fn fault_in_keywords(
 fn fault_in_members(
     alloc: Global,
     pass: Pass,
-    scope: Scope<'_>,
+    scope: &Scope<'_>,
     dialect: Dialect,
     schemas: &Members,
 ) -> Result<Option<FoundFault>, Memory>
     ensures { IfOk result (λ f. option_map found_of f
-        ≡ member_fault pass (all_of scope.entry.resources.now) (λ name. One) dialect scope.entry.base.now
+        ≡ member_fault pass (all_of scope.now.resources.now) (λ name. One) dialect scope.now.base.now
         (members schemas.now)) }
 {
     for (name, schema) in schemas.pairs() {
@@ -332,12 +340,12 @@ fn fault_in_members(
 fn fault_in_items(
     alloc: Global,
     pass: Pass,
-    scope: Scope<'_>,
+    scope: &Scope<'_>,
     dialect: Dialect,
     schemas: &Items,
 ) -> Result<Option<FoundFault>, Memory>
     ensures { IfOk result (λ f. option_map found_of f
-        ≡ item_fault pass (all_of scope.entry.resources.now) dialect scope.entry.base.now 0 (items schemas.now)) }
+        ≡ item_fault pass (all_of scope.now.resources.now) dialect scope.now.base.now 0 (items schemas.now)) }
 {
     let docs = schemas.as_slice();
     for i in 0..docs.len() {

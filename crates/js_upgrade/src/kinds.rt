@@ -5,24 +5,25 @@ ghost use Rattle.js_upgrade.specs.Fault.{anchor_kind, contained_kind, contains_k
 ghost use Rattle.js_upgrade.specs.Fault.{dialect_kind, has_recursive_name, unevaluated_kind};
 ghost use Rattle.js_upgrade.specs.Fault.{identifier_kind, joined_kind, no_dialect, own_kind, part_at, recursion_kind};
 ghost use Rattle.js_upgrade.specs.Fault.{recursive_kind, reference_kind, target_tokens, target_kind, unnamed};
+ghost use Rattle.js_upgrade.specs.Resource.{own_base};
 ghost use Rattle.js_upgrade.specs.Seen.{resource_seen};
 ghost use Rattle.js_upgrade.specs.Url.{uri_joined};
 ghost use Rattle.js_upgrade.specs.code.Table.{all_of};
 ghost use Rattle.js_upgrade.specs.declared.fault.UpgradeFaultKind.TheVariants.{Unresolved};
 
 use crate::containing::holder;
+use crate::copied_target::copied_target;
 use crate::definitions::usual_target;
 use crate::dialect::Dialect;
 use crate::fault::UpgradeFaultKind;
 use crate::lookup::found;
 use crate::resource::Resource;
-use crate::resource_table::{ResourceTable, resource_named, resource_numbered};
+use crate::resource_table::{ResourceTable, resource_numbered, resource_of};
 use crate::schema::{dialect_in, hides, identifier, identifies, is_uri};
 use crate::scope::Scope;
 use crate::target::moved_in;
 use crate::uri::{
     URI_LIMIT, fragment_pointer, local_fragment, pointer_in, uri_joined, uri_printed,
-    uri_without_fragment,
 };
 use js_doc::{Doc, Members, Memory, Pointer};
 use std::alloc::Global;
@@ -163,22 +164,25 @@ fn has_recursive_name(found: Option<&Doc>) -> bool
     }
 }
 
-/// Of the schema's identifier, unless a reference hides it.
+/// Of the schema's identifier, unless a reference hides it. `below` is the schema's own base: where it isn't the one
+/// around the schema, the identifier could be joined.
 ///
 /// # Errors
 /// `Memory`.
 pub(crate) fn own_kind(
     own: Dialect,
     base: &Url,
+    below: &Url,
     siblings: &Members,
 ) -> Result<Option<UpgradeFaultKind>, Memory>
+    requires { below.now ≡ own_base own base.now siblings.now }
     ensures { IfOk result (λ k. k ≡ own_kind own base.now siblings.now) }
 {
     let uri = found(siblings, identifier(own));
     if uri.is_none() {
         return Ok(None);
     }
-    if hides(own, siblings) {
+    if hides(own, siblings) || uri_printed(below) != uri_printed(base) {
         Ok(None)
     } else {
         identifier_kind(base, uri)
@@ -221,10 +225,10 @@ fn joined_kind(base: &Url, text: &str) -> Result<Option<UpgradeFaultKind>, Memor
 /// `Memory`.
 pub(crate) fn reference_kind(
     alloc: Global,
-    scope: Scope<'_>,
+    scope: &Scope<'_>,
     found: Option<&Doc>,
 ) -> Result<Option<UpgradeFaultKind>, Memory>
-    ensures { IfOk result (λ k. k ≡ reference_kind (all_of scope.entry.resources.now) scope.entry.base.now
+    ensures { IfOk result (λ k. k ≡ reference_kind (all_of scope.now.resources.now) scope.now.base.now
         (option_map (λ d. value_of d.now) found.entry)) }
 {
     match found {
@@ -242,13 +246,13 @@ pub(crate) fn reference_kind(
 
 fn text_kind(
     alloc: Global,
-    scope: Scope<'_>,
+    scope: &Scope<'_>,
     reference: &str,
 ) -> Result<Option<UpgradeFaultKind>, Memory>
     ensures { IfOk result (λ k. k
-        ≡ target_kind (all_of scope.entry.resources.now) (uri_joined scope.entry.base.now reference.now)) }
+        ≡ target_kind (all_of scope.now.resources.now) (uri_joined scope.now.base.now reference.now)) }
 {
-    if usual_target(scope, reference).is_some() {
+    if usual_target(scope, reference).is_some() || copied_target(scope, reference).is_some() {
         return Ok(None);
     }
     unusual_kind(alloc, scope, reference)
@@ -256,11 +260,11 @@ fn text_kind(
 
 fn unusual_kind(
     alloc: Global,
-    scope: Scope<'_>,
+    scope: &Scope<'_>,
     reference: &str,
 ) -> Result<Option<UpgradeFaultKind>, Memory>
     ensures { IfOk result (λ k. k
-        ≡ target_kind (all_of scope.entry.resources.now) (uri_joined scope.entry.base.now reference.now)) }
+        ≡ target_kind (all_of scope.now.resources.now) (uri_joined scope.now.base.now reference.now)) }
 {
     match local_fragment(reference) {
         Some(fragment) => {
@@ -299,12 +303,7 @@ fn leads_nowhere(alloc: Global, resources: &ResourceTable<'_>, uri: Url) -> Resu
     ensures { IfOk result (λ b. b ≡ is_none (target_tokens (all_of resources.now) uri)) }
 {
     let pointer = fragment_pointer(alloc, &uri)?;
-    let bare = uri_without_fragment(uri)?;
-    has_no_part(
-        alloc,
-        &pointer,
-        resource_named(resources, uri_printed(&bare)),
-    )
+    has_no_part(alloc, &pointer, resource_of(resources, &uri)?)
 }
 
 fn has_no_part(

@@ -9,6 +9,7 @@ mod clear;
 mod clear_documents;
 mod containing;
 mod copied_original;
+mod copied_target;
 mod copies;
 mod copy_name;
 mod copying;

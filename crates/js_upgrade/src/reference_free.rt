@@ -1,13 +1,16 @@
-//! Values in which no object has a `$ref`: they lead to nothing that is copied.
-ghost use Rattle.std.specs.Prelude.{◌≡◌, true};
+//! Values whose references lead to nothing that is copied, wherever they stand: no object in them has a `$ref` whose
+//! fragment is a pointer below a root.
+ghost use Rattle.std.specs.Prelude.{◌≡◌, option_map, true};
 ghost use Rattle.js_doc.specs.Seen.{value_of};
 ghost use Rattle.js_doc.specs.Value.{items, list, members, object};
-ghost use Rattle.js_upgrade.specs.code.ReferenceFree.{AreFreeItems, AreFreeMembers, IsFree};
+ghost use Rattle.js_upgrade.specs.code.ReferenceFree.{AreFreeItems, AreFreeMembers, IsFree, LeadsToNoPart};
 
+use crate::copy_name::is_rooted;
+use crate::identifier::after_mark;
 use crate::lookup::found;
 use js_doc::{Doc, Items, Members};
 
-/// Whether no object in the value has a `$ref`.
+/// Whether no object in the value has a `$ref` whose fragment is a pointer below a root.
 #[cycle(free)]
 pub(crate) fn is_reference_free(value: &Doc) -> bool
     ensures { result ≡ true → IsFree (value_of value.now) }
@@ -23,9 +26,15 @@ pub(crate) fn is_reference_free(value: &Doc) -> bool
 fn is_free_object(siblings: &Members) -> bool
     ensures { result ≡ true → IsFree (object (members siblings.now)) }
 {
-    match found(siblings, "$ref") {
-        Some(_) => false,
-        None => are_free_members(siblings),
+    leads_to_no_part(found(siblings, "$ref")) && are_free_members(siblings)
+}
+
+fn leads_to_no_part(found: Option<&Doc>) -> bool
+    ensures { result ≡ true → LeadsToNoPart (option_map (λ d. value_of d.now) found.entry) }
+{
+    match found {
+        Some(Doc::Text(reference)) => !is_rooted(after_mark(reference.as_str())),
+        _ => true,
     }
 }
 

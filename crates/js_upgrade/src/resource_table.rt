@@ -3,13 +3,16 @@ ghost use Rattle.std.specs.Prelude.{◌≡◌, IfOk, map, option_and_then, optio
 ghost use Rattle.std.specs.List.{list_any, position_from};
 ghost use Rattle.js_upgrade.specs.Resource.{recurses, resource_named};
 ghost use Rattle.js_upgrade.specs.Seen.{resource_seen};
+ghost use Rattle.js_upgrade.specs.Url.{uri_printed, uri_without_fragment};
 ghost use Rattle.js_upgrade.specs.code.First.{FindsFirstResource, has_uri};
 
 use crate::recursion::recurses;
 use crate::resource::Resource;
+use crate::uri::{printed_bare, uri_printed, uri_without_fragment};
 use js_doc::Memory;
 use std::alloc::Global;
 use std::collections::BTreeMap;
+use url::Url;
 
 /// Resources, and the number of the first under each URI.
 ///
@@ -106,4 +109,25 @@ pub(crate) fn resource_named<'r>(
         ≡ resource_named (map resource_seen table.now.resources.items) uri.now }
 {
     resource_numbered(table, number_by_uri(table, uri))
+}
+
+/// The first of the resources that has the URI without its fragment.
+///
+/// # Errors
+/// `Memory`.
+pub(crate) fn resource_of<'r>(
+    table: &'r ResourceTable<'_>,
+    uri: &Url,
+) -> Result<Option<&'r Resource<'r>>, Memory>
+    ensures { IfOk result (λ r. option_map (λ r. resource_seen r.now) r
+        ≡ resource_named (map resource_seen table.now.resources.items)
+        (uri_printed (uri_without_fragment uri.now))) }
+{
+    match printed_bare(uri) {
+        Some(bare) => Ok(resource_named(table, bare)),
+        None => {
+            let bare = uri_without_fragment(uri.clone()?)?;
+            Ok(resource_named(table, uri_printed(&bare)))
+        }
+    }
 }

@@ -1,13 +1,12 @@
 //! Where a schema stands: among which resources, and below which base.
-ghost use Rattle.std.specs.Prelude.{◌≡◌, IfOk, true};
+ghost use Rattle.std.specs.Prelude.{◌≡◌, IfOk};
 ghost use Rattle.std.specs.List.{position_from};
-ghost use Rattle.js_upgrade.specs.Url.{uri_printed};
 ghost use Rattle.js_upgrade.specs.code.First.{has_uri};
 ghost use Rattle.js_upgrade.specs.code.Local.{local_uri};
 ghost use Rattle.js_upgrade.specs.code.Table.{all_of};
 
 use crate::resource_table::{ResourceTable, number_by_uri};
-use crate::uri::{uri_joined, uri_printed, uri_without_fragment};
+use crate::uri::{is_bare, uri_joined, uri_printed, uri_without_fragment};
 use js_doc::Memory;
 use url::Url;
 
@@ -19,6 +18,14 @@ pub(crate) struct Scope<'r> {
     /// The number of the resource that a reference leads to which is a fragment alone.
     pub here: Option<usize>,
     ghost local: { here ≡ position_from (has_uri (local_uri base.now)) 0 (all_of resources.now) },
+}
+
+/// Where a schema stands among the roots that copies are made of, and among all resources.
+#[derive(Clone, Copy)]
+pub(crate) struct Scopes<'r> {
+    pub roots: Scope<'r>,
+    pub all: Scope<'r>,
+    ghost based: { roots.base.now ≡ all.base.now },
 }
 
 /// The number of the resource that a reference leads to which is a fragment alone.
@@ -41,11 +48,4 @@ pub(crate) fn number_here(
         }
         None => Ok(None), // never: each base takes a fragment
     }
-}
-
-// Whether the URL has no query and no fragment: then it stays as it is when a fragment is added and taken away.
-fn is_bare(base: &Url) -> bool
-    ensures { result ≡ true → local_uri base.now ≡ uri_printed base.now }
-{
-    base.query().is_none() && base.fragment().is_none()
 }

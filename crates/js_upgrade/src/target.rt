@@ -16,6 +16,7 @@ ghost use Rattle.js_upgrade.specs.code.Table.{all_of};
 ghost use Rattle.js_upgrade.specs.declared.holding.SchemaHolding.TheVariants.{One};
 
 use crate::anchor_name::{is_settled, spelled_text};
+use crate::copied_target::{copied_target, copied_text};
 use crate::copy_name::redirected;
 use crate::definitions::{usual_target, usual_text};
 use crate::dialect::Dialect;
@@ -23,12 +24,10 @@ use crate::holding::SchemaHolding;
 use crate::identifier::before_mark;
 use crate::moving::moved_tokens;
 use crate::resource::Resource;
-use crate::resource_table::{ResourceTable, resource_named, resource_numbered};
+use crate::resource_table::{ResourceTable, resource_numbered, resource_of};
 use crate::schema::own_dialect;
 use crate::scope::Scope;
-use crate::uri::{
-    fragment_pointer, local_fragment, pointer_in, uri_joined, uri_printed, uri_without_fragment,
-};
+use crate::uri::{local_fragment, pointer_in, uri_joined};
 use js_doc::{Doc, Memory, Pointer, Text};
 use percent_encoding::percent_decode;
 use std::alloc::Global;
@@ -38,9 +37,9 @@ use url::Url;
 ///
 /// # Errors
 /// `Memory`.
-pub(crate) fn rewritten(alloc: Global, scope: Scope<'_>, value: &Doc) -> Result<Doc, Memory>
+pub(crate) fn rewritten(alloc: Global, scope: &Scope<'_>, value: &Doc) -> Result<Doc, Memory>
     ensures { IfOk result (λ d. value_of d
-        ≡ rewritten (all_of scope.entry.resources.now) scope.entry.base.now (value_of value.now)) }
+        ≡ rewritten (all_of scope.now.resources.now) scope.now.base.now (value_of value.now)) }
 {
     match value {
         Doc::Text(text) => Ok(Doc::Text(text_rewritten(alloc, scope, text.as_str())?)),
@@ -48,19 +47,30 @@ pub(crate) fn rewritten(alloc: Global, scope: Scope<'_>, value: &Doc) -> Result<
     }
 }
 
-fn text_rewritten(alloc: Global, scope: Scope<'_>, reference: &str) -> Result<Text, Memory>
+fn text_rewritten(alloc: Global, scope: &Scope<'_>, reference: &str) -> Result<Text, Memory>
     ensures { IfOk result (λ t. t
-        ≡ followed (all_of scope.entry.resources.now) reference.now (uri_joined scope.entry.base.now reference.now)) }
+        ≡ followed (all_of scope.now.resources.now) reference.now (uri_joined scope.now.base.now reference.now)) }
 {
     match usual_target(scope, reference) {
         Some(target) => usual_text(alloc, target, reference),
+        None => text_unusual(alloc, scope, reference),
+    }
+}
+
+// Of a reference that isn't usual.
+fn text_unusual(alloc: Global, scope: &Scope<'_>, reference: &str) -> Result<Text, Memory>
+    ensures { IfOk result (λ t. t
+        ≡ followed (all_of scope.now.resources.now) reference.now (uri_joined scope.now.base.now reference.now)) }
+{
+    match copied_target(scope, reference) {
+        Some(name) => copied_text(alloc, name),
         None => Ok(Text::new(unusual_rewritten(alloc, scope, reference)?)),
     }
 }
 
-fn unusual_rewritten(alloc: Global, scope: Scope<'_>, reference: &str) -> Result<String, Memory>
+fn unusual_rewritten(alloc: Global, scope: &Scope<'_>, reference: &str) -> Result<String, Memory>
     ensures { IfOk result (λ s. string_bytes s
-        ≡ followed (all_of scope.entry.resources.now) reference.now (uri_joined scope.entry.base.now reference.now)) }
+        ≡ followed (all_of scope.now.resources.now) reference.now (uri_joined scope.now.base.now reference.now)) }
 {
     match local_fragment(reference) {
         Some(fragment) => {
@@ -86,19 +96,10 @@ fn followed(
     ensures { IfOk result (λ s. string_bytes s ≡ followed (all_of resources.now) reference.now uri) }
 {
     match uri {
-        Some(uri) => match fragment_pointer(alloc, &uri)? {
-            Some(pointer) => {
-                let bare = uri_without_fragment(uri)?;
-                let resource = resource_named(resources, uri_printed(&bare));
-                at_pointer(alloc, reference, &pointer, resource)
-            }
-            None => {
-                let named = respelled(alloc, reference, uri.fragment().unwrap_or(""))?;
-                let bare = uri_without_fragment(uri)?;
-                let resource = resource_named(resources, uri_printed(&bare));
-                respelled_in(alloc, reference, named, resource)
-            }
-        },
+        Some(uri) => {
+            let resource = resource_of(resources, &uri)?;
+            in_resource(alloc, reference, uri.fragment().unwrap_or(""), resource)
+        }
         None => copied(alloc, reference),
     }
 }

@@ -1,16 +1,16 @@
 //! URIs, as `url` reads, joins and prints them.
-ghost use Rattle.std.specs.Prelude.{◌≡◌, IfOk, None, option_map, if◌then◌else◌};
+ghost use Rattle.std.specs.Prelude.{◌≡◌, IfOk, IfSome, None, option_map, true, if◌then◌else◌};
 ghost use Rattle.std.specs.List.{list_all};
 ghost use Rattle.std.specs.Str.{is_utf8};
 ghost use Rattle.percent_encoding.specs.Percent.{percent_decode};
 ghost use Rattle.js_doc.specs.PointerReading.{pointer_of};
 ghost use Rattle.js_upgrade.specs.Url.{fragment_pointer, uri_joined, uri_printed, uri_without_fragment};
-ghost use Rattle.js_upgrade.specs.code.Local.{is_fragment_byte, kept_fragment, local_fragment};
+ghost use Rattle.js_upgrade.specs.code.Local.{is_fragment_byte, kept_fragment, local_fragment, local_uri};
 
 use crate::dialect::after_prefix;
 use js_doc::{Memory, Pointer, PointerFault};
 use std::alloc::Global;
-use url::{ParseError, Url};
+use url::{ParseError, Position, Url};
 
 /// No URI, identifier or reference may have more bytes.
 pub(crate) const URI_LIMIT: usize = 65_536;
@@ -33,6 +33,15 @@ pub(crate) fn uri_joined(base: &Url, text: &str) -> Result<Option<Url>, Memory>
     }
 }
 
+/// Whether the URL has no query and no fragment: then it stays as it is without a fragment, also when one was added and
+/// is taken away.
+pub(crate) fn is_bare(url: &Url) -> bool
+    ensures local { result ≡ true → local_uri url.now ≡ uri_printed url.now }
+    ensures stays { result ≡ true → uri_without_fragment url.now ≡ url.now }
+{
+    url.query().is_none() && url.fragment().is_none()
+}
+
 /// The URL without its fragment.
 ///
 /// # Errors
@@ -41,10 +50,23 @@ pub(crate) fn uri_joined(base: &Url, text: &str) -> Result<Option<Url>, Memory>
 pub(crate) fn uri_without_fragment(mut url: Url) -> Result<Url, Memory>
     ensures { IfOk result (λ u. u ≡ uri_without_fragment url) }
 {
+    if is_bare(&url) {
+        return Ok(url);
+    }
     match url.set_fragment(None) {
         Ok(()) => Ok(url),
         Err(_) => Err(Memory),
     }
+}
+
+/// The text of the URL without its fragment. None if it has a query.
+pub(crate) fn printed_bare(url: &Url) -> Option<&str>
+    ensures { IfSome result (λ t. t.now ≡ uri_printed (uri_without_fragment url.now)) }
+{
+    if url.query().is_none() {
+        return Some(url.slice(Position::BeforeScheme, Position::AfterQuery));
+    }
+    None
 }
 
 /// The URL's text.

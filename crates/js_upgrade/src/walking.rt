@@ -1,11 +1,11 @@
 //! A value in which schemas are upgraded, and their references rewritten where it is known where they may lead.
-ghost use Rattle.std.specs.Prelude.{◌≡◌, IfOk, Some, map, option_map};
+ghost use Rattle.std.specs.Prelude.{◌≡◌, IfOk, Some, map};
 ghost use Rattle.js_doc.specs.Seen.{value_of};
 ghost use Rattle.js_doc.specs.Value.{items, members, object};
 ghost use Rattle.js_upgrade.specs.Reference.{as_it_is, relocated};
 ghost use Rattle.js_upgrade.specs.Upgrade.{holding_by_change, upgraded};
 ghost use Rattle.js_upgrade.specs.code.Placed.{argument_at, items_placed, keywords_placed, members_placed, place_below};
-ghost use Rattle.js_upgrade.specs.code.Placed.{scope_seen, placed};
+ghost use Rattle.js_upgrade.specs.code.Placed.{placed, scope_at, scope_seen};
 ghost use Rattle.js_upgrade.specs.code.Table.{all_of};
 ghost use Rattle.js_upgrade.specs.declared.holding.SchemaHolding.TheVariants.{One};
 
@@ -43,12 +43,12 @@ pub fn upgraded(
 /// `Memory`.
 pub(crate) fn upgraded_in(
     alloc: Global,
-    scope: Scope<'_>,
+    scope: &Scope<'_>,
     dialect: Dialect,
     schema: &Doc,
 ) -> Result<Doc, Memory>
     ensures { IfOk result (λ d. value_of d ≡ upgraded One dialect
-        (relocated (all_of scope.entry.resources.now) One dialect scope.entry.base.now (value_of schema.now))) }
+        (relocated (all_of scope.now.resources.now) One dialect scope.now.base.now (value_of schema.now))) }
 {
     placed(alloc, Some(scope), SchemaHolding::One, dialect, schema)
 }
@@ -56,13 +56,13 @@ pub(crate) fn upgraded_in(
 #[cycle(upgrade)]
 fn placed(
     alloc: Global,
-    scope: Option<Scope<'_>>,
+    scope: Option<&Scope<'_>>,
     holding: SchemaHolding,
     dialect: Dialect,
     value: &Doc,
 ) -> Result<Doc, Memory>
     ensures { IfOk result
-        (λ d. value_of d ≡ placed holding dialect (option_map scope_seen scope.entry) (value_of value.now)) }
+        (λ d. value_of d ≡ placed holding dialect (scope_at scope.entry) (value_of value.now)) }
 {
     match value {
         Doc::Members(members) => match holding {
@@ -92,12 +92,12 @@ fn placed(
 #[cycle(upgrade)]
 fn schema_placed(
     alloc: Global,
-    scope: Option<Scope<'_>>,
+    scope: Option<&Scope<'_>>,
     dialect: Dialect,
     siblings: &Members,
 ) -> Result<Members, Memory>
     ensures { IfOk result (λ m. object (members m)
-        ≡ placed One dialect (option_map scope_seen scope.entry) (object (members siblings.now))) }
+        ≡ placed One dialect (scope_at scope.entry) (object (members siblings.now))) }
 {
     let own = own_dialect(dialect, siblings);
     match scope {
@@ -110,12 +110,12 @@ fn schema_placed(
 #[cycle(upgrade)]
 fn schema_among(
     alloc: Global,
-    scope: Scope<'_>,
+    scope: &Scope<'_>,
     own: Dialect,
     siblings: &Members,
 ) -> Result<Members, Memory>
     ensures { IfOk result
-        (λ m. m ≡ keywords_placed own (place_below (Some (scope_seen scope.entry)) own siblings.now) siblings.now) }
+        (λ m. m ≡ keywords_placed own (place_below (Some (scope_seen scope.now)) own siblings.now) siblings.now) }
 {
     let found = identity(own, scope.base, siblings)?;
     match found {
@@ -125,7 +125,7 @@ fn schema_among(
                 base: &below,
                 here: number_here(scope.resources, &below)?,
             };
-            keywords_placed(alloc, Some(inner), own, siblings)
+            keywords_placed(alloc, Some(&inner), own, siblings)
         }
         None => keywords_placed(alloc, Some(scope), own, siblings),
     }
@@ -134,12 +134,12 @@ fn schema_among(
 #[cycle(upgrade)]
 fn keywords_placed(
     alloc: Global,
-    scope: Option<Scope<'_>>,
+    scope: Option<&Scope<'_>>,
     own: Dialect,
     siblings: &Members,
 ) -> Result<Members, Memory>
     ensures { IfOk result
-        (λ m. m ≡ keywords_placed own (option_map scope_seen scope.entry) siblings.now) }
+        (λ m. m ≡ keywords_placed own (scope_at scope.entry) siblings.now) }
 {
     let hidden = hides(own, siblings);
     let mut keywords = Members::new(alloc);
@@ -155,14 +155,14 @@ fn keywords_placed(
 #[cycle(upgrade)]
 fn argument_placed(
     alloc: Global,
-    scope: Option<Scope<'_>>,
+    scope: Option<&Scope<'_>>,
     dialect: Dialect,
     change: Change,
     argument: &Doc,
 ) -> Result<Doc, Memory>
     ensures { IfOk result (λ d. value_of d
-        ≡ argument_at (option_map scope_seen scope.entry) change (value_of argument.now)
-        (placed (holding_by_change change) dialect (option_map scope_seen scope.entry) (value_of argument.now))) }
+        ≡ argument_at (scope_at scope.entry) change (value_of argument.now)
+        (placed (holding_by_change change) dialect (scope_at scope.entry) (value_of argument.now))) }
 {
     match scope {
         Some(scope) => match change {
@@ -188,11 +188,11 @@ fn argument_placed(
 #[cycle(upgrade)]
 fn members_placed(
     alloc: Global,
-    scope: Option<Scope<'_>>,
+    scope: Option<&Scope<'_>>,
     dialect: Dialect,
     schemas: &Members,
 ) -> Result<Members, Memory>
-    ensures { IfOk result (λ m. m ≡ members_placed (λ name. One) as_it_is dialect (option_map scope_seen scope.entry)
+    ensures { IfOk result (λ m. m ≡ members_placed (λ name. One) as_it_is dialect (scope_at scope.entry)
         (members schemas.now)) }
 {
     let mut out = Members::new(alloc);
@@ -206,12 +206,12 @@ fn members_placed(
 #[cycle(upgrade)]
 fn items_placed(
     alloc: Global,
-    scope: Option<Scope<'_>>,
+    scope: Option<&Scope<'_>>,
     dialect: Dialect,
     schemas: &Items,
 ) -> Result<Items, Memory>
     ensures { IfOk result
-        (λ vs. vs ≡ items_placed dialect (option_map scope_seen scope.entry) (items schemas.now)) }
+        (λ vs. vs ≡ items_placed dialect (scope_at scope.entry) (items schemas.now)) }
 {
     let docs = schemas.as_slice();
     let mut out = Vec::with_capacity(alloc, docs.len())?;

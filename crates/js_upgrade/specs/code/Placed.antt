@@ -1,5 +1,6 @@
 -- A value whose schemas are upgraded, with their references rewritten where it is known to what they may lead.
-use Rattle.std.specs.Prelude.{List, [], ◌∷◌, Option, Some, None}
+use Rattle.std.specs.Prelude.{List, [], ◌∷◌, Option, Some, None, option_map}
+use denote.Ref.{Bor}
 use Rattle.url.specs.Parts.{Parts}
 use Rattle.js_doc.specs.Parts.{member_list}
 use Rattle.js_doc.specs.Value.{Value, list, object, Items, no_items, item, Members, no_members, member}
@@ -21,6 +22,9 @@ ScopeSeen = Option (List Resource × Parts)
 
 abbrev pub scope_seen : Scope → List Resource × Parts
 scope_seen scope = (all_of scope.resources.now, scope.base.now)
+
+abbrev pub scope_at : Option (Bor Scope) → ScopeSeen
+scope_at scope = option_map (λ s. scope_seen s.now) scope
 
 abbrev pub argument_at : ScopeSeen → Change → Value → Value → Value
 argument_at None change v w = w

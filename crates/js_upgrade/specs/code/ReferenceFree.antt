@@ -1,10 +1,14 @@
--- What has no references: it leads to nothing that is copied, whatever its dialect and its base.
-use Rattle.std.specs.Prelude.{◌≡◌, List}
+-- What has no references to parts: it leads to nothing that is copied, whatever its dialect and its base.
+use Rattle.std.specs.Prelude.{◌≡◌, List, Option}
 use Rattle.url.specs.Parts.{Parts}
 use Rattle.js_doc.specs.Value.{Value, Items, Members}
-use Rattle.js_upgrade.specs.Copies.{Copies, all_copied, items_copied, members_copied}
+use Rattle.js_upgrade.specs.Copies.{Copies, all_copied, copied_for, items_copied, members_copied}
 use Rattle.js_upgrade.specs.Resource.{Resource}
 use Rattle.js_upgrade.specs.declared.dialect.Dialect.{Dialect}
+
+abbrev pub LeadsToNoPart : Option Value → Type 0
+LeadsToNoPart found = (roots : List Resource) (base : Parts) (copies : Copies)
+    → copied_for roots base found copies ≡ copies
 
 abbrev pub IsFree : Value → Type 0
 IsFree v = (roots : List Resource) (d : Dialect) (base : Parts) (copies : Copies)

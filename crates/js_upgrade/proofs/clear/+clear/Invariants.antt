@@ -31,25 +31,25 @@ decreases-are_clear_items l = 5 * depth (list (items l.schemas.now))
 abbrev pub invariant-are_clear_keywords-loop-name : goal.invariant-are_clear_keywords-loop-name
 invariant-are_clear_keywords-loop-name l =
     let entries = l.initial.name-iterator in
-    let roots = all_of l.roots.resources.now in
-    let all = all_of l.scope.resources.now in
+    let roots = all_of l.scopes.roots.resources.now in
+    let all = all_of l.scopes.all.resources.now in
     let held = holding_in l.dialect l.siblings in
     IsSplit entries l.name-iterator
-    × (AreClearMembers roots all held l.dialect l.scope.base.now (members (map pair_of l.name-iterator))
-    → AreClearMembers roots all held l.dialect l.scope.base.now (members (map pair_of entries)))
+    × (AreClearMembers roots all held l.dialect l.scopes.all.base.now (members (map pair_of l.name-iterator))
+    → AreClearMembers roots all held l.dialect l.scopes.all.base.now (members (map pair_of entries)))
 
 abbrev pub invariant-are_clear_members-loop-schema : goal.invariant-are_clear_members-loop-schema
 invariant-are_clear_members-loop-schema l =
     let entries = l.initial.schema-iterator in
-    let roots = all_of l.roots.resources.now in
-    let all = all_of l.scope.resources.now in
+    let roots = all_of l.scopes.roots.resources.now in
+    let all = all_of l.scopes.all.resources.now in
     IsSplit entries l.schema-iterator
-    × (AreClearMembers roots all (λ name. One) l.dialect l.scope.base.now (members (map pair_of l.schema-iterator))
-    → AreClearMembers roots all (λ name. One) l.dialect l.scope.base.now (members (map pair_of entries)))
+    × (AreClearMembers roots all (λ name. One) l.dialect l.scopes.all.base.now (members (map pair_of l.schema-iterator))
+    → AreClearMembers roots all (λ name. One) l.dialect l.scopes.all.base.now (members (map pair_of entries)))
 
 abbrev pub invariant-are_clear_items-loop-i : goal.invariant-are_clear_items-loop-i
 invariant-are_clear_items-loop-i l =
-    let roots = all_of l.roots.resources.now in
-    let all = all_of l.scope.resources.now in
-    AreClearItems roots all l.dialect l.scope.base.now l.i (items (map value_of (drop l.i l.docs)))
-    → AreClearItems roots all l.dialect l.scope.base.now 0 (items (map value_of l.docs))
+    let roots = all_of l.scopes.roots.resources.now in
+    let all = all_of l.scopes.all.resources.now in
+    AreClearItems roots all l.dialect l.scopes.all.base.now l.i (items (map value_of (drop l.i l.docs)))
+    → AreClearItems roots all l.dialect l.scopes.all.base.now 0 (items (map value_of l.docs))

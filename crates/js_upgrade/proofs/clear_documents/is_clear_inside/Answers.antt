@@ -6,9 +6,11 @@ use Rattle.js_upgrade.proofs.clear_documents.is_clear_inside.Goals as goal
 
 pub returns-then-copies_nothing : goal.returns-then-copies_nothing
 returns-then-copies_nothing c = λ is. (
-  subst (λ base. CopiesNothing (all_of c.args.roots.resources.now) base (get (codes "$ref") c.args.siblings.now))
-      c.requires
-      (subst (CopiesNothing (all_of c.args.roots.resources.now) c.args.roots.base.now) c.found.ensures
+  subst (λ base. CopiesNothing (all_of c.args.scopes.now.roots.resources.now) base
+      (get (codes "$ref") c.args.siblings.now))
+      c.args.scopes.now.based
+      (subst (CopiesNothing (all_of c.args.scopes.now.roots.resources.now) c.args.scopes.now.roots.base.now)
+      c.found.ensures
       (c.copies_nothing.ensures c.if-copies_nothing.true)),
   c.are_clear_keywords.ensures is,
 )

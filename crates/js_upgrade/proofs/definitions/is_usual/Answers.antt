@@ -7,7 +7,7 @@ use Rattle.js_upgrade.proofs.definitions.is_usual.Goals as goal
 
 pub returns-then-root : goal.returns-then-root
 returns-then-root c = λ is copies.
-    let scope = c.args.scope in
+    let scope = c.args.scope.now in
     let t = c.args.reference.now in
     let root = c.in-Some.root.now in
     let r = resource_seen root in

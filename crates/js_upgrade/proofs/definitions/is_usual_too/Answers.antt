@@ -7,7 +7,7 @@ use Rattle.js_upgrade.proofs.definitions.is_usual_too.Goals as goal
 
 pub returns-then-root : goal.returns-then-root
 returns-then-root c = λ t named is copies.
-    let scope = c.args.scope in
+    let scope = c.args.scope.now in
     let root = c.in-Some.root.now in
     let target = c.args.target in
     usual_copied (all_of scope.resources.now) (resource_seen root) (sym root.usual_by ∙ c.if-root.true)

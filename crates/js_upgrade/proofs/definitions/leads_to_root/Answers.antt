@@ -7,7 +7,7 @@ use Rattle.js_upgrade.proofs.definitions.leads_to_root.Goals as goal
 
 pub returns-then-eq-clause-leads : goal.returns-then-eq-clause-leads
 returns-then-eq-clause-leads c = λ none.
-    let scope = c.args.scope in
+    let scope = c.args.scope.now in
     root_leads c.args.reference.now (resource_seen c.in-Some.resource.now) (all_of scope.resources.now) scope.base.now
     scope.here (is_text-sound c.args.reference.now (codes "#") (sym c.eq.ensures ∙ c.if-eq.true))
     (c.has_copies.ensures (not_so c.has_copies.result none)) scope.local c.in-Some.ensures

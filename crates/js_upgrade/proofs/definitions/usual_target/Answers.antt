@@ -10,7 +10,7 @@ use Rattle.js_upgrade.proofs.definitions.usual_target.Goals as goal
 
 pub returns-in-Some-clause-follows : goal.returns-in-Some-clause-follows
 returns-in-Some-clause-follows c =
-    let scope = c.args.scope in
+    let scope = c.args.scope.now in
     let all = all_of scope.resources.now in
     let base = scope.base.now in
     let t = c.args.reference.now in
@@ -22,7 +22,7 @@ returns-in-Some-clause-follows c =
 
 pub returns-in-Some-clause-leads : goal.returns-in-Some-clause-leads
 returns-in-Some-clause-leads c =
-    let scope = c.args.scope in
+    let scope = c.args.scope.now in
     let all = all_of scope.resources.now in
     let base = scope.base.now in
     let t = c.args.reference.now in

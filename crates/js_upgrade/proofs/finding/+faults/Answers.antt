@@ -31,9 +31,9 @@ fault_in_items-fault_in-requires t c =
 pub fault_in_keywords-loop-name-preserved : goal.fault_in_keywords-loop-name-preserved
 fault_in_keywords-loop-name-preserved t c =
     let l = c.loop-name in
-    let all = all_of c.args.scope.resources.now in
+    let all = all_of c.args.scope.now.resources.now in
     let d = c.args.dialect in
-    let base = c.args.scope.base.now in
+    let base = c.args.scope.now.base.now in
     let siblings = c.args.siblings.now in
     let held = holding_in d siblings in
     let m : List ℕ × Doc = (c.in-Some.name.now, c.in-Some.argument.now) in (
@@ -51,9 +51,9 @@ fault_in_keywords-loop-name-preserved t c =
 pub fault_in_keywords-returns-then-is_some : goal.fault_in_keywords-returns-then-is_some
 fault_in_keywords-returns-then-is_some t c =
     let l = c.loop-name in
-    let all = all_of c.args.scope.resources.now in
+    let all = all_of c.args.scope.now.resources.now in
     let d = c.args.dialect in
-    let base = c.args.scope.base.now in
+    let base = c.args.scope.now.base.now in
     let siblings = c.args.siblings.now in
     let held = holding_in d siblings in
     let m : List ℕ × Doc = (c.in-Some.name.now, c.in-Some.argument.now) in
@@ -76,18 +76,18 @@ fault_in_keywords-returns-then-is_some t c =
 pub fault_in_keywords-returns : goal.fault_in_keywords-returns
 fault_in_keywords-returns t c =
     let l = c.loop-name in
-    let all = all_of c.args.scope.resources.now in
+    let all = all_of c.args.scope.now.resources.now in
     let siblings = c.args.siblings.now in
     let seen = all_seen c.pairs-name-items.ensures.pairs c.into_iter-name-iterator.ensures.into_iter_gives in
     members_end (λ ms. member_fault c.args.pass all (holding_in c.args.dialect siblings) c.args.dialect
-    c.args.scope.base.now (members ms)) l.name-iterator _ siblings refl c.in-None.ensures.steps.0 seen l.invariant.1
+    c.args.scope.now.base.now (members ms)) l.name-iterator _ siblings refl c.in-None.ensures.steps.0 seen l.invariant.1
 
 pub fault_in_members-loop-name-preserved : goal.fault_in_members-loop-name-preserved
 fault_in_members-loop-name-preserved t c =
     let l = c.loop-name in
-    let all = all_of c.args.scope.resources.now in
+    let all = all_of c.args.scope.now.resources.now in
     let d = c.args.dialect in
-    let base = c.args.scope.base.now in
+    let base = c.args.scope.now.base.now in
     let m : List ℕ × Doc = (c.in-Some.name.now, c.in-Some.schema.now) in (
       split_next _ l.name-iterator c.next.new.self m l.invariant.0 c.in-Some.ensures.steps,
       member_next (λ ms. member_fault c.args.pass all (λ name. One) d base (members ms)) c.in_ok-found.found
@@ -98,9 +98,9 @@ fault_in_members-loop-name-preserved t c =
 pub fault_in_members-returns-then-is_some : goal.fault_in_members-returns-then-is_some
 fault_in_members-returns-then-is_some t c =
     let l = c.loop-name in
-    let all = all_of c.args.scope.resources.now in
+    let all = all_of c.args.scope.now.resources.now in
     let d = c.args.dialect in
-    let base = c.args.scope.base.now in
+    let base = c.args.scope.now.base.now in
     let m : List ℕ × Doc = (c.in-Some.name.now, c.in-Some.schema.now) in
     let seen = all_seen c.pairs-name-items.ensures.pairs c.into_iter-name-iterator.ensures.into_iter_gives in
     let g = λ (ms : Named). member_fault c.args.pass all (λ name. One) d base (members ms) in
@@ -117,17 +117,17 @@ fault_in_members-returns-then-is_some t c =
 pub fault_in_members-returns : goal.fault_in_members-returns
 fault_in_members-returns t c =
     let l = c.loop-name in
-    let all = all_of c.args.scope.resources.now in
+    let all = all_of c.args.scope.now.resources.now in
     let seen = all_seen c.pairs-name-items.ensures.pairs c.into_iter-name-iterator.ensures.into_iter_gives in
-    members_end (λ ms. member_fault c.args.pass all (λ name. One) c.args.dialect c.args.scope.base.now (members ms))
+    members_end (λ ms. member_fault c.args.pass all (λ name. One) c.args.dialect c.args.scope.now.base.now (members ms))
     l.name-iterator _ c.args.schemas.now refl c.in-None.ensures.steps.0 seen l.invariant.1
 
 pub fault_in_items-loop-i-preserved : goal.fault_in_items-loop-i-preserved
 fault_in_items-loop-i-preserved t c =
     let l = c.loop-i in
-    let all = all_of c.args.scope.resources.now in
+    let all = all_of c.args.scope.now.resources.now in
     let d = c.args.dialect in
-    let base = c.args.scope.base.now in
+    let base = c.args.scope.now.base.now in
     let x = c.index-docs-i.result in
     item_next (λ n vs. item_fault c.args.pass all d base n (items vs)) c.in_ok-found.found
     (fault_in c.args.pass all One d base (value_of x)) c.as_slice-docs.result.now l.i x _ (λ vs. refl) (omega arith)
@@ -136,9 +136,9 @@ fault_in_items-loop-i-preserved t c =
 pub fault_in_items-returns-then-is_some : goal.fault_in_items-returns-then-is_some
 fault_in_items-returns-then-is_some t c =
     let l = c.loop-i in
-    let all = all_of c.args.scope.resources.now in
+    let all = all_of c.args.scope.now.resources.now in
     let d = c.args.dialect in
-    let base = c.args.scope.base.now in
+    let base = c.args.scope.now.base.now in
     let x = c.index-docs-i.result in
     let found = c.in_ok-found.found in
     let g = λ (n : ℕ) (vs : Values). item_fault c.args.pass all d base n (items vs) in
@@ -154,31 +154,40 @@ fault_in_items-returns-then-is_some t c =
 
 pub fault_below-returns-then-is_some : goal.fault_below-returns-then-is_some
 fault_below-returns-then-is_some t c =
-    schema_stops c.args.pass (all_of c.args.scope.resources.now) c.args.dialect c.args.own c.args.base.now
-    c.args.scope.base.now c.args.siblings.now c.in_ok-here.here c.in_ok-here.ensures
+    schema_stops c.args.pass (all_of c.args.scope.now.resources.now) c.args.dialect c.args.own c.args.base.now
+    c.args.scope.now.base.now c.args.siblings.now c.in_ok-here.here c.in_ok-here.ensures
     (sym c.is_some.ensures ∙ c.if-is_some.true)
 
 pub fault_below-returns : goal.fault_below-returns
 fault_below-returns t c =
-    let all = all_of c.args.scope.resources.now in
+    let all = all_of c.args.scope.now.resources.now in
     let siblings = c.args.siblings.now in
-    let same = schema_goes_on c.args.pass all c.args.dialect c.args.own c.args.base.now c.args.scope.base.now siblings
+    let same = schema_goes_on c.args.pass all c.args.dialect c.args.own c.args.base.now c.args.scope.now.base.now
+    siblings
     c.in_ok-here.here c.in_ok-here.ensures (sym c.is_some.ensures ∙ c.if-is_some.false) in
     subst (λ f. IfOk c.fault_in_keywords.result (λ g. option_map found_of g ≡ f)) same c.fault_in_keywords.ensures
 
 pub fault_in_schema-returns-in_ok-number_here-in-Some : goal.fault_in_schema-returns-in_ok-number_here-in-Some
 fault_in_schema-returns-in_ok-number_here-in-Some t c =
-    let base = c.args.scope.base.now in
-    let same = schema_is c.args.pass (all_of c.args.scope.resources.now) c.args.dialect c.own_dialect-own.result base
+    let base = c.args.scope.now.base.now in
+    let same = schema_is c.args.pass (all_of c.args.scope.now.resources.now) c.args.dialect c.own_dialect-own.result
+    base
     c.in-Some.below c.args.siblings.now c.own_dialect-own.ensures
     (ap (λ u. unwrap_or u base) (sym c.in-Some.is ∙ c.in_ok-found.ensures)) in
     subst (λ f. IfOk c.fault_below.result (λ g. option_map found_of g ≡ f)) same c.fault_below.ensures
 
 pub fault_in_schema-returns-in-None : goal.fault_in_schema-returns-in-None
 fault_in_schema-returns-in-None t c =
-    let base = c.args.scope.base.now in
-    let same = schema_is c.args.pass (all_of c.args.scope.resources.now) c.args.dialect c.own_dialect-own.result base
+    let base = c.args.scope.now.base.now in
+    let same = schema_is c.args.pass (all_of c.args.scope.now.resources.now) c.args.dialect c.own_dialect-own.result
+    base
     base c.args.siblings.now c.own_dialect-own.ensures
     (ap (λ u. unwrap_or u base) (sym c.in-None.is ∙ c.in_ok-found.ensures)) in
     let call = c.fault_below-in-None in
     subst (λ f. IfOk call.result (λ g. option_map found_of g ≡ f)) same call.ensures
+
+pub fault_in_schema-fault_below-requires : goal.fault_in_schema-fault_below-requires
+fault_in_schema-fault_below-requires t c = (
+  omega (arith, c.decreases),
+  ap (λ u. unwrap_or u c.args.scope.now.base.now) (sym c.in-Some.is ∙ c.in_ok-found.ensures),
+)

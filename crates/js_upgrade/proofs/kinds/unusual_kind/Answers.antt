@@ -7,7 +7,7 @@ use Rattle.js_upgrade.proofs.kinds.unusual_kind.Goals as goal
 
 pub returns-in_ok-has_no_part-in-Some : goal.returns-in_ok-has_no_part-in-Some
 returns-in_ok-has_no_part-in-Some c =
-    let scope = c.args.scope in
+    let scope = c.args.scope.now in
     c.unresolved.ensures
     ∙ ap (λ nowhere. if nowhere then Some Unresolved else None) c.in_ok-has_no_part-in-Some.ensures
     ∙ local_kind (all_of scope.resources.now) scope.base.now c.args.reference.now c.in-Some.fragment.now

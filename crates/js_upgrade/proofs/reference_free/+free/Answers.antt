@@ -1,10 +1,9 @@
-use Rattle.std.proofs.Common.{ℕ, List, ap, ◌∙◌, arith, map, refl, subst, sym}
-use Rattle.std.specs.Prelude.{option_map}
+use Rattle.std.proofs.Common.{ℕ, List, ap, arith, map, refl, subst, sym}
 use Rattle.std.proofs.lemmas.List.{drop_all}
 use Rattle.js_doc.specs.Seen.{value_of, pair_of}
 use Rattle.js_doc.specs.Value.{items, members}
 use Rattle.js_doc.specs.declared.doc.Doc.{Doc}
-use Rattle.js_upgrade.specs.code.ReferenceFree.{AreFreeItems, AreFreeMembers, IsFree}
+use Rattle.js_upgrade.specs.code.ReferenceFree.{AreFreeItems, AreFreeMembers, IsFree, LeadsToNoPart}
 use Rattle.js_upgrade.proofs.FreeValues.{free_object, next_free_item, next_free_member}
 use Rattle.js_upgrade.proofs.Loops.{all_seen, next_item_smaller, next_smaller, split_next}
 use Rattle.js_upgrade.proofs.reference_free.+free.Goals as goal
@@ -46,10 +45,10 @@ are_free_members-returns t c = λ is.
     (c.loop-value.invariant.1 (subst (λ es. AreFreeMembers (members (map pair_of es)))
     (sym c.in-None.ensures.steps.0) (λ roots d base copies. refl)))
 
-pub is_free_object-returns-in-None : goal.is_free_object-returns-in-None
-is_free_object-returns-in-None t c = λ is.
-    free_object c.args.siblings.now (sym c.found.ensures ∙ ap (option_map (λ d. value_of d.now)) c.in-None.is)
-    (c.are_free_members.ensures is)
+pub is_free_object-returns-then-leads_to_no_part : goal.is_free_object-returns-then-leads_to_no_part
+is_free_object-returns-then-leads_to_no_part t c = λ is.
+    free_object c.args.siblings.now (subst LeadsToNoPart c.found.ensures
+    (c.leads_to_no_part.ensures c.if-leads_to_no_part.true)) (c.are_free_members.ensures is)
 
 pub is_reference_free-returns-in-List : goal.is_reference_free-returns-in-List
 is_reference_free-returns-in-List t c = λ is.

@@ -10,7 +10,7 @@ pub returns-then-is_bare : goal.returns-then-is_bare
 returns-then-is_bare c =
     c.number_by_uri.ensures
     ∙ ap (λ u. position_from (has_uri u) 0 (all_of c.args.resources.now))
-    (c.uri_printed.ensures ∙ sym (c.is_bare.ensures c.if-is_bare.true))
+    (c.uri_printed.ensures ∙ sym (c.is_bare.ensures.local c.if-is_bare.true))
 
 pub returns-in_ok-bare-in-Some : goal.returns-in_ok-bare-in-Some
 returns-in_ok-bare-in-Some c =

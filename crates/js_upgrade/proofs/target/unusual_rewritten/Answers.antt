@@ -14,7 +14,7 @@ use Rattle.js_upgrade.proofs.target.unusual_rewritten.Goals as goal
 
 pub returns-in-Some : goal.returns-in-Some
 returns-in-Some c =
-    let scope = c.args.scope in
+    let scope = c.args.scope.now in
     let all = all_of scope.resources.now in
     let base = scope.base.now in
     let t = c.args.reference.now in

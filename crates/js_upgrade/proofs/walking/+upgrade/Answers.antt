@@ -1,4 +1,4 @@
-use Rattle.std.proofs.Common.{ℕ, List, [], ◌≡◌, Some, None, IfOk, option_map, unwrap_or, refl, sym, ap, ◌∙◌, arith}
+use Rattle.std.proofs.Common.{ℕ, List, [], ◌≡◌, Some, None, IfOk, unwrap_or, refl, sym, ap, ◌∙◌, arith}
 use Rattle.std.proofs.Common.{subst}
 use Rattle.std.proofs.lemmas.Result.{IfOk-weaker}
 use Rattle.js_doc.specs.Value.{Named, members, object}
@@ -7,7 +7,8 @@ use Rattle.js_doc.specs.declared.doc.Doc.{Doc}
 use Rattle.js_upgrade.specs.Reference.{as_it_is}
 use Rattle.js_upgrade.specs.Schema.{change_of, gathered_members, one, put_all, upgraded_by}
 use Rattle.js_upgrade.specs.Upgrade.{becomes, holding_by_change}
-use Rattle.js_upgrade.specs.code.Placed.{argument_at, keywords_placed, members_placed, place_below, scope_seen, placed}
+use Rattle.js_upgrade.specs.code.Placed.{argument_at, keywords_placed, members_placed, place_below, placed, scope_at}
+use Rattle.js_upgrade.specs.code.Placed.{scope_seen}
 use Rattle.js_upgrade.specs.code.Table.{all_of}
 use Rattle.js_upgrade.specs.declared.keyword.Change.{Change}
 use Rattle.js_upgrade.specs.declared.holding.SchemaHolding.TheVariants.{One}
@@ -36,7 +37,7 @@ pub keywords_placed-loop-name-preserved : goal.keywords_placed-loop-name-preserv
 keywords_placed-loop-name-preserved t c =
     let l = c.loop-name in
     let own = c.args.own in
-    let q = option_map scope_seen c.args.scope in
+    let q = scope_at c.args.scope in
     let siblings = c.args.siblings.now in
     let m : List ℕ × Doc = (c.in-Some.name.now, c.in-Some.argument.now) in
     let v = value_of m.1 in
@@ -61,7 +62,7 @@ pub keywords_placed-returns : goal.keywords_placed-returns
 keywords_placed-returns t c =
     let l = c.loop-name in
     let own = c.args.own in
-    let q = option_map scope_seen c.args.scope in
+    let q = scope_at c.args.scope in
     let siblings = c.args.siblings.now in
     let seen = all_seen c.pairs-name-items.ensures.pairs c.into_iter-name-iterator.ensures.into_iter_gives in
     let g = λ (ms : Named). keywords_among own q siblings (members ms) in
@@ -72,7 +73,7 @@ pub members_placed-loop-name-preserved : goal.members_placed-loop-name-preserved
 members_placed-loop-name-preserved t c =
     let l = c.loop-name in
     let d = c.args.dialect in
-    let q = option_map scope_seen c.args.scope in
+    let q = scope_at c.args.scope in
     let m : List ℕ × Doc = (c.in-Some.name.now, c.in-Some.schema.now) in (
       split_next _ l.name-iterator c.next.new.self m l.invariant.0 c.in-Some.ensures.steps,
       gathered_next one (λ ms. members_placed (λ name. One) as_it_is d q (members ms)) l.name-iterator l.out _
@@ -87,7 +88,7 @@ pub members_placed-returns : goal.members_placed-returns
 members_placed-returns t c =
     let l = c.loop-name in
     let d = c.args.dialect in
-    let q = option_map scope_seen c.args.scope in
+    let q = scope_at c.args.scope in
     let seen = all_seen c.pairs-name-items.ensures.pairs c.into_iter-name-iterator.ensures.into_iter_gives in
     let g = λ (ms : Named). members_placed (λ name. One) as_it_is d q (members ms) in
     gathered_end one g l.name-iterator l.out _ refl c.in-None.ensures.steps.0 l.invariant.1
@@ -100,11 +101,11 @@ schema_placed-returns-in-Some t c =
     let d = c.args.dialect in
     let own = c.own_dialect-own.result in
     let siblings = c.args.siblings.now in
-    let p = Some (scope_seen c.in-Some.scope) in
+    let p = Some (scope_seen c.in-Some.scope.now) in
     IfOk-weaker c.schema_among.result (λ m. m ≡ keywords_placed own (place_below p own siblings) siblings)
-    (λ m. object (members m) ≡ placed One d (option_map scope_seen c.args.scope) (object (members siblings)))
+    (λ m. object (members m) ≡ placed One d (scope_at c.args.scope) (object (members siblings)))
     (λ m is. schema_placed_is d own p siblings m c.own_dialect-own.ensures is
-    ∙ ap (λ s. placed One d (option_map scope_seen s) (object (members siblings))) (sym c.in-Some.is))
+    ∙ ap (λ s. placed One d (scope_at s) (object (members siblings))) (sym c.in-Some.is))
     c.schema_among.ensures
 
 pub schema_placed-returns-in-None : goal.schema_placed-returns-in-None
@@ -113,25 +114,25 @@ schema_placed-returns-in-None t c =
     let own = c.own_dialect-own.result in
     let siblings = c.args.siblings.now in
     IfOk-weaker c.keywords_placed.result (λ m. m ≡ keywords_placed own None siblings)
-    (λ m. object (members m) ≡ placed One d (option_map scope_seen c.args.scope) (object (members siblings)))
+    (λ m. object (members m) ≡ placed One d (scope_at c.args.scope) (object (members siblings)))
     (λ m is. schema_placed_is d own None siblings m c.own_dialect-own.ensures is
-    ∙ ap (λ s. placed One d (option_map scope_seen s) (object (members siblings))) (sym c.in-None.is))
+    ∙ ap (λ s. placed One d (scope_at s) (object (members siblings))) (sym c.in-None.is))
     c.keywords_placed.ensures
 
 pub schema_among-returns-in_ok-number_here-in-Some : goal.schema_among-returns-in_ok-number_here-in-Some
 schema_among-returns-in_ok-number_here-in-Some t c =
-    let base = c.args.scope.base.now in
+    let base = c.args.scope.now.base.now in
     let siblings = c.args.siblings.now in
     let own = c.args.own in
-    let same = ap (λ u. keywords_placed own (Some (all_of c.args.scope.resources.now, unwrap_or u base)) siblings)
+    let same = ap (λ u. keywords_placed own (Some (all_of c.args.scope.now.resources.now, unwrap_or u base)) siblings)
     (sym c.in-Some.is ∙ c.in_ok-found.ensures) in
     subst (λ ns. IfOk c.keywords_placed.result (λ m. m ≡ ns)) same c.keywords_placed.ensures
 
 pub schema_among-returns-in-None : goal.schema_among-returns-in-None
 schema_among-returns-in-None t c =
-    let base = c.args.scope.base.now in
+    let base = c.args.scope.now.base.now in
     let siblings = c.args.siblings.now in
     let own = c.args.own in
-    let same = ap (λ u. keywords_placed own (Some (all_of c.args.scope.resources.now, unwrap_or u base)) siblings)
+    let same = ap (λ u. keywords_placed own (Some (all_of c.args.scope.now.resources.now, unwrap_or u base)) siblings)
     (sym c.in-None.is ∙ c.in_ok-found.ensures) in
     subst (λ ns. IfOk c.keywords_placed-in-None.result (λ m. m ≡ ns)) same c.keywords_placed-in-None.ensures

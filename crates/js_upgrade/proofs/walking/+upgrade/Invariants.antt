@@ -1,11 +1,11 @@
-use Rattle.std.proofs.Common.{◌≡◌, ◌+◌, ◌*◌, ◌++◌, [], map, drop, option_map}
+use Rattle.std.proofs.Common.{◌≡◌, ◌+◌, ◌*◌, ◌++◌, [], map, drop}
 use Rattle.js_doc.specs.Nesting.{depth}
 use Rattle.js_doc.specs.Value.{list, object, items, members}
 use Rattle.js_doc.specs.Seen.{value_of, pair_of}
 use Rattle.js_upgrade.specs.Reference.{as_it_is}
 use Rattle.js_upgrade.specs.Schema.{gathered_members, one}
 use Rattle.js_upgrade.specs.Upgrade.{becomes}
-use Rattle.js_upgrade.specs.code.Placed.{items_placed, members_placed, scope_seen}
+use Rattle.js_upgrade.specs.code.Placed.{items_placed, members_placed, scope_at}
 use Rattle.js_upgrade.specs.declared.holding.SchemaHolding.TheVariants.{One}
 use Rattle.js_upgrade.proofs.Loops.{IsSplit}
 use Rattle.js_upgrade.proofs.Placing.{keywords_among}
@@ -36,7 +36,7 @@ decreases-items_placed l = 5 * depth (list (items l.schemas.now))
 abbrev pub invariant-keywords_placed-loop-name : goal.invariant-keywords_placed-loop-name
 invariant-keywords_placed-loop-name l =
     let entries = l.initial.name-iterator in
-    let q = option_map scope_seen l.scope in
+    let q = scope_at l.scope in
     IsSplit entries l.name-iterator
     × (gathered_members (becomes l.own l.siblings) (keywords_among l.own q l.siblings (members
     (map pair_of l.name-iterator))) l.keywords
@@ -46,7 +46,7 @@ invariant-keywords_placed-loop-name l =
 abbrev pub invariant-members_placed-loop-name : goal.invariant-members_placed-loop-name
 invariant-members_placed-loop-name l =
     let entries = l.initial.name-iterator in
-    let q = option_map scope_seen l.scope in
+    let q = scope_at l.scope in
     IsSplit entries l.name-iterator
     × (gathered_members one (members_placed (λ name. One) as_it_is l.dialect q (members (map pair_of l.name-iterator)))
     l.out
@@ -54,6 +54,6 @@ invariant-members_placed-loop-name l =
 
 abbrev pub invariant-items_placed-loop-i : goal.invariant-items_placed-loop-i
 invariant-items_placed-loop-i l =
-    let q = option_map scope_seen l.scope in
+    let q = scope_at l.scope in
     map value_of l.out.items ++ items_placed l.dialect q (items (map value_of (drop l.i l.docs)))
     ≡ items_placed l.dialect q (items (map value_of l.docs))

@@ -8,5 +8,5 @@ use Rattle.js_upgrade.proofs.walking.upgraded_in.Goals as goal
 pub returns : goal.returns
 returns c =
     subst (λ v. IfOk c.placed.result (λ d. value_of d ≡ v))
-    (placed_among (all_of c.args.scope.resources.now) One c.args.dialect c.args.scope.base.now
+    (placed_among (all_of c.args.scope.now.resources.now) One c.args.dialect c.args.scope.now.base.now
     (value_of c.args.schema.now)) c.placed.ensures
