@@ -1,4 +1,4 @@
-use Rattle.std.proofs.Common.{◌≡◌, Some, codes, filter, map, subst, sym, ◌∙◌}
+use Rattle.std.proofs.Common.{refl, ◌≡◌, Some, codes, filter, map, subst, sym, ◌∙◌}
 use Rattle.std.specs.Prelude.{IfOk}
 use Rattle.std.specs.List.{flat_map}
 use Rattle.js_assert.specs.Pattern.{matches}
