@@ -26,7 +26,7 @@ def crates():
 def with_below(used):
     """The repository's crates among these and below them, each once and after those that it uses."""
     ours, listed = crates(), {}
-    for crate in filter(ours.get, used):
+    for crate in filter(ours.__contains__, used):
         listed.update(dict.fromkeys([*with_below(ours[crate]), crate]))
     return list(listed)
 
