@@ -25,8 +25,8 @@ some_is : {A : Type 0} (a b : A) → Some a ≡ Some b → a ≡ b
 some_is a b e = cc
 
 module _ (documents : DocumentTexts) (uri : List ℕ) (number : ℕ) (s : Session) (ready : IsReady documents uri number s)
-    (instance : List ℕ) (format : Format) (format_number : ℕ) (numbered : slice_get formats format_number ≡ Some format)
-    where
+    (instance : List ℕ) (format : Format) (format_number : ℕ)
+    (numbered : slice_get formats format_number ≡ Some format) where
   abbrev Expected : Result Output Fault → Type 0
   Expected = OutcomeWithin s.limits documents uri format instance
 

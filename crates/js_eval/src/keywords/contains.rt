@@ -47,7 +47,10 @@ pub(crate) fn contains_passes(schema: &Doc, value: Instance<'_>, tally: Tally) -
 fn may_hold_none(schema: &Doc) -> bool
     ensures { result ≡ may_contain_none (entries (value_of schema.now)) }
 {
-    match argument_in(schema, AssertionKeyword::Array(ArrayKeyword::MinContains).name()) {
+    match argument_in(
+        schema,
+        AssertionKeyword::Array(ArrayKeyword::MinContains).name(),
+    ) {
         Some(least) => *least == Doc::Whole(Whole::from_u64(0)),
         None => false,
     }
