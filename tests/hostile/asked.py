@@ -7,6 +7,7 @@ from questions import Question, Table, in_turn, quiet
 from tests.reference.assertions import SHAPES, compiled, error
 from tests.reference.bundle import ALONE, LISTS, OBJECTS, TEXTS, Bundle
 from tests.reference.json_text import pointer_text, text
+from tests.support.keywords import ABOUT
 
 URI = cases.U
 STANDARD = ALONE | LISTS | OBJECTS | TEXTS | {"$comment", "$vocabulary"}
@@ -83,7 +84,7 @@ def of_keywords():
         {URI: '{"properties":{"a":true},"patternProperties":{"^x":true,"a+b":{}},"additionalProperties":false}'})
     standing = ('{"$comment":"","$dynamicAnchor":"a","contains":true,"minContains":2,"not":{},"title":"t",'
                 '"unevaluatedItems":true}')
-    names = "[Other(Comment), Other(DynamicAnchor), Contains, Assertion, Not, Other(Unknown), UnevaluatedItems]"
+    names = "[Other(Comment), Other(DynamicAnchor), Contains, Assertion(Array(MinContains)), Not, Other(Unknown), UnevaluatedItems]"
     answer = f"true {URI}#, document 0 at , resource 0 of 1, {URI}: {standing} {names}"
     yield Table("names of keywords", [quiet("place", URI, "standing", answer=answer)], {URI: standing})
 
@@ -233,7 +234,9 @@ def word(keyword):
     name = keyword.removeprefix("$")
     variant = name[0].upper() + name[1:]
     if keyword in SHAPES:
-        return f"Assertion({variant})"
+        # (The families of assertions are those of Validation, sections 6.1 to 6.5: what they are about.)
+        family = ABOUT[keyword][-1].capitalize() if ABOUT[keyword] else "AnyType"
+        return f"Assertion({family}({variant}))"
     if keyword in OTHERS:
         return f"Other({variant})"
     return variant if keyword in STANDARD else "Other(Unknown)"
