@@ -84,7 +84,8 @@ def of_keywords():
         {URI: '{"properties":{"a":true},"patternProperties":{"^x":true,"a+b":{}},"additionalProperties":false}'})
     standing = ('{"$comment":"","$dynamicAnchor":"a","contains":true,"minContains":2,"not":{},"title":"t",'
                 '"unevaluatedItems":true}')
-    names = "[Other(Comment), Other(DynamicAnchor), Contains, Assertion(Array(MinContains)), Not, Other(Unknown), UnevaluatedItems]"
+    names = ("[Other(Comment), Other(DynamicAnchor), Contains, Assertion(Array(MinContains)), Not, Other(Unknown), "
+             "UnevaluatedItems]")
     answer = f"true {URI}#, document 0 at , resource 0 of 1, {URI}: {standing} {names}"
     yield Table("names of keywords", [quiet("place", URI, "standing", answer=answer)], {URI: standing})
 
